@@ -6,6 +6,7 @@ mod FactExamples
 mod KeptLines
 mod KeptPieces
 mod Lists
+mod OtherThreads
 mod PlainEffects
 mod PlainKinds
 mod PlainTraces

@@ -49,11 +49,30 @@ two_pieces start one two a b p q = q ∙ ap (λ l. l ++ b) p ∙ append_assoc st
 pub three_pieces : {A : Type 0} (start one two three a b c : List A) → one ≡ start ++ a → two ≡ one ++ b → three ≡ two ++ c → three ≡ start ++ (a ++ b ++ c)
 three_pieces start one two three a b c p q r = r ∙ ap (λ l. l ++ c) (two_pieces start one two a b p q) ∙ append_assoc start (a ++ b) c
 
+-- and four
+pub four_pieces : {A : Type 0} (start one two three four a b c d : List A) → one ≡ start ++ a → two ≡ one ++ b → three ≡ two ++ c → four ≡ three ++ d
+    → four ≡ start ++ (a ++ b ++ c ++ d)
+four_pieces start one two three four a b c d p q r s =
+    s ∙ ap (λ l. l ++ d) (three_pieces start one two three a b c p q r) ∙ append_assoc start (a ++ b ++ c) d
+
 -- and six
 pub six_pieces : {A : Type 0} (start one two three four five six a b c d e f : List A) → one ≡ start ++ a → two ≡ one ++ b → three ≡ two ++ c → four ≡ three ++ d
     → five ≡ four ++ e → six ≡ five ++ f → six ≡ start ++ (a ++ b ++ c ++ d ++ e ++ f)
 six_pieces start one two three four five six a b c d e f p q r s t u =
     u ∙ ap (λ l. l ++ f) (five_pieces start one two three four five a b c d e p q r s t) ∙ append_assoc start (a ++ b ++ c ++ d ++ e) f
+
+-- and seven
+pub seven_pieces : {A : Type 0} (start one two three four five six seven a b c d e f g : List A) → one ≡ start ++ a → two ≡ one ++ b → three ≡ two ++ c
+    → four ≡ three ++ d → five ≡ four ++ e → six ≡ five ++ f → seven ≡ six ++ g → seven ≡ start ++ (a ++ b ++ c ++ d ++ e ++ f ++ g)
+seven_pieces start one two three four five six seven a b c d e f g p q r s t u v =
+    v ∙ ap (λ l. l ++ g) (six_pieces start one two three four five six a b c d e f p q r s t u) ∙ append_assoc start (a ++ b ++ c ++ d ++ e ++ f) g
+
+-- and eight
+pub eight_pieces : {A : Type 0} (start one two three four five six seven eight a b c d e f g h : List A) → one ≡ start ++ a → two ≡ one ++ b → three ≡ two ++ c
+    → four ≡ three ++ d → five ≡ four ++ e → six ≡ five ++ f → seven ≡ six ++ g → eight ≡ seven ++ h → eight ≡ start ++ (a ++ b ++ c ++ d ++ e ++ f ++ g ++ h)
+eight_pieces start one two three four five six seven eight a b c d e f g h p q r s t u v w =
+    w ∙ ap (λ l. l ++ h) (seven_pieces start one two three four five six seven a b c d e f g p q r s t u v)
+    ∙ append_assoc start (a ++ b ++ c ++ d ++ e ++ f ++ g) h
 
 -- a map over one number more, behind others
 pub map_step : {A : Type 0} (f : ℕ → A) (start had new : List A) (n : ℕ) → had ≡ start ++ map f (range_with_len 0 n) → new ≡ had ++ f n ∷ []

@@ -9,10 +9,12 @@ use Rattle.block_model.specs.Events.{done_of}
 use Rattle.block_model.specs.Here.{Done, Here}
 use Rattle.block_model.specs.Sights.{effect_on, fault_on}
 use Rattle.process.specs.Harts.{file_on}
+use Rattle.event_facts.specs.Areas.{area_facts}
 use Rattle.event_facts.specs.Faults.{fault_facts, fault_of, fault_told}
 use Rattle.event_facts.specs.Pending.{delivered_by}
 use Rattle.event_facts.specs.Requests.{request_facts}
 use Rattle.event_facts.specs.Telling.{plain_event_of}
+use Rattle.event_facts.specs.declared.areas.AreaBefore.{AreaBefore}
 use Rattle.event_facts.specs.declared.telling.PlainEvent.{PlainEvent}
 use Rattle.event_facts.specs.declared.telling.PlainEvent.TheVariants.{Instruction, Drain}
 use Rattle.event_facts.proofs.PlainKinds.{drain_done, drains, executes, instruction_done}
@@ -41,6 +43,12 @@ same_kernel c here (Drain w) is = ap (λ (d : Done). d.kernel) (drain_done c her
 pub none_interrupted : (c : Choice) (here : Here) (p : PlainEvent) → plain_event_of c here ≡ Some p → (done_of c here).interrupted ≡ None
 none_interrupted c here (Instruction e) is = ap (λ (d : Done). d.interrupted) (instruction_done c here e (executes c here e is))
 none_interrupted c here (Drain w) is = ap (λ (d : Done). d.interrupted) (drain_done c here w (drains c here w is))
+
+-- the kernel writes nothing in it
+pub none_of_kernel : (c : Choice) (here : Here) (p : PlainEvent) → plain_event_of c here ≡ Some p → (before : Option AreaBefore) (after : Here) (t : ℕ)
+    → area_facts c None before after t ≡ []
+none_of_kernel c here (Instruction e) is before after t = ap (λ k. area_facts k None before after t) (executes c here e is).choice
+none_of_kernel c here (Drain w) is before after t = ap (λ k. area_facts k None before after t) (drains c here w is).choice
 
 -- it delivers no signal
 pub none_delivered : (c : Choice) (here : Here) (p : PlainEvent) (t : ℕ) (g : Signalling) → plain_event_of c here ≡ Some p → delivered_by c t g ≡ None

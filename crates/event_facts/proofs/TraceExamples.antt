@@ -13,12 +13,13 @@ use Rattle.block_model.specs.History.{History}
 use Rattle.block_model.specs.Setting.{Setting}
 use Rattle.block_model.specs.Sights.{thread}
 use Rattle.event_facts.specs.Facts.{facts_of, read_facts}
+use Rattle.event_facts.specs.OtherRegisters.{other_registers}
 use Rattle.event_facts.specs.Pending.{signal_facts}
 use Rattle.event_facts.specs.Threads.{thread_facts}
 use Rattle.event_facts.specs.Trace.{trace_of}
 use Rattle.event_facts.specs.declared.calls.SystemCall.{SystemCall}
 use Rattle.event_facts.specs.declared.facts.Fact.{Fact}
-use Rattle.event_facts.specs.declared.facts.Fact.TheVariants.{Register, Faulted, Called, Answered, Refused, NoAnswer, Interrupted, DeliveryKills, SignalPosted, ThreadChanged}
+use Rattle.event_facts.specs.declared.facts.Fact.TheVariants.{Register, Faulted, Called, Answered, Refused, NoAnswer, Interrupted, DeliveryKills, SignalPosted, ThreadChanged, ThreadRegister}
 use Rattle.event_facts.specs.declared.faults.FaultWhy.TheVariants.{NotReadable}
 use Rattle.event_facts.specs.declared.interruptions.Interruption.TheVariants.{Nothing}
 use Rattle.event_facts.specs.declared.threads.ThreadChange.{ThreadChange}
@@ -80,13 +81,13 @@ calls_told : told (program calls) [] log ≡
     ∷ (Register 17 93 ∷ [])
     ∷ (Called (call_with 93 (2 ^ 64 - 38)) ∷ NoAnswer ∷ [])
     ∷ []
-unfolding trace_of signal_facts thread_facts facts_of read_facts done end_of meaning row_of rows lui_rows auipc_rows jal_rows jalr_rows branch_rows load_rows store_rows op_imm_rows op_imm_32_rows op_rows op_32_rows misc_mem_rows amo_rows system_rows are_readable number_at
+unfolding trace_of signal_facts thread_facts other_registers facts_of read_facts done end_of meaning row_of rows lui_rows auipc_rows jal_rows jalr_rows branch_rows load_rows store_rows op_imm_rows op_imm_32_rows op_rows op_32_rows misc_mem_rows amo_rows system_rows are_readable number_at
 calls_told = refl
 
 -- it loads 8 bytes at 8, where nothing can be read: SIGSEGV, which is 11
 fault_told : told (program (0x03 ∷ 0x33 ∷ 0x80 ∷ 0x00 ∷ [])) [] (by kind.Run 0x100B0 ∷ by kind.Exec 0x100B0 ∷ [])
     ≡ (Interrupted Nothing ∷ became 1 Runs ∷ []) ∷ (Faulted 11 NotReadable 8 ∷ []) ∷ []
-unfolding trace_of signal_facts thread_facts facts_of read_facts done end_of meaning row_of rows lui_rows auipc_rows jal_rows jalr_rows branch_rows load_rows store_rows op_imm_rows op_imm_32_rows op_rows op_32_rows misc_mem_rows amo_rows system_rows are_readable number_at
+unfolding trace_of signal_facts thread_facts other_registers facts_of read_facts done end_of meaning row_of rows lui_rows auipc_rows jal_rows jalr_rows branch_rows load_rows store_rows op_imm_rows op_imm_32_rows op_rows op_32_rows misc_mem_rows amo_rows system_rows are_readable number_at
 fault_told = refl
 
 -- it makes a thread by clone with the flags that must be given. It leaves its hart, where the child runs then and exits
@@ -108,13 +109,13 @@ threads_told : told (program child) [] child_log ≡
     ∷ (Register 17 220 ∷ [])
     ∷ (Register 10 0x11000 ∷ [])
     ∷ (Register 10 0x10F00 ∷ [])
-    ∷ (Called (call_of 220 0x10F00) ∷ Answered 2 ∷ became 2 Created ∷ Register 10 2 ∷ [])
+    ∷ (Called (call_of 220 0x10F00) ∷ Answered 2 ∷ became 2 Created ∷ ThreadRegister (thread 2) 10 0 ∷ Register 10 2 ∷ [])
     ∷ (became 1 MadeReady ∷ [])
     ∷ (Interrupted Nothing ∷ became 2 Runs ∷ [])
     ∷ (Register 17 93 ∷ [])
     ∷ (Called (call_of 93 0) ∷ NoAnswer ∷ became 2 Ended ∷ [])
     ∷ []
-unfolding trace_of signal_facts thread_facts facts_of read_facts done end_of meaning row_of rows lui_rows auipc_rows jal_rows jalr_rows branch_rows load_rows store_rows op_imm_rows op_imm_32_rows op_rows op_32_rows misc_mem_rows amo_rows system_rows are_readable number_at
+unfolding trace_of signal_facts thread_facts other_registers facts_of read_facts done end_of meaning row_of rows lui_rows auipc_rows jal_rows jalr_rows branch_rows load_rows store_rows op_imm_rows op_imm_32_rows op_rows op_32_rows misc_mem_rows amo_rows system_rows are_readable number_at
 threads_told = refl
 
 -- it sends itself SIGUSR1, which is 10, by tkill; that has no handler
@@ -134,5 +135,5 @@ signals_told : told (program sends) [] signal_log ≡
     ∷ (Called (record { number = 130; arguments = 1 ∷ 10 ∷ 0 ∷ 0 ∷ 0 ∷ 0 ∷ [] }) ∷ Answered 0 ∷ SignalPosted 10 (thread 1) ∷ Register 10 0 ∷ [])
     ∷ (Interrupted Nothing ∷ DeliveryKills 10 ∷ [])
     ∷ []
-unfolding all_signals trace_of signal_facts thread_facts facts_of read_facts done end_of meaning row_of rows lui_rows auipc_rows jal_rows jalr_rows branch_rows load_rows store_rows op_imm_rows op_imm_32_rows op_rows op_32_rows misc_mem_rows amo_rows system_rows are_readable number_at
+unfolding all_signals trace_of signal_facts thread_facts other_registers facts_of read_facts done end_of meaning row_of rows lui_rows auipc_rows jal_rows jalr_rows branch_rows load_rows store_rows op_imm_rows op_imm_32_rows op_rows op_32_rows misc_mem_rows amo_rows system_rows are_readable number_at
 signals_told = refl

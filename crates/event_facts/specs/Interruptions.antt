@@ -1,9 +1,10 @@
 -- The facts of interruptions (rseq(2); uapi linux/rseq.h): what that of an event's thread came to, and which word was wrong where it killed
 -- the process. They are read at the place after the event: an interruption that kills writes nothing.
-use Rattle.std.specs.Prelude.{ℕ, ◌-◌, ◌==◌, List, [], ◌∷◌, if◌then◌else◌, Option, Some, None, nat_le}
+use Rattle.std.specs.Prelude.{ℕ, ◌-◌, ◌==◌, List, if◌then◌else◌, Option, Some, None, nat_le}
 use Rattle.std.specs.Option.{option_map, option_to_list}
 use Rattle.mach_types.specs.Bytes.{word_at}
 use Rattle.mach_types.specs.declared.address_space.TheConstants.{USER_END}
+use Rattle.mach_types.specs.declared.events.Choice.{Choice}
 use Rattle.mach_types.specs.declared.events.Entry.{Entry}
 use Rattle.mach_types.specs.declared.sequences.Area.{Area}
 use Rattle.mach_types.specs.declared.sequences.BadWhy.{BadWhy}
@@ -13,8 +14,8 @@ use Rattle.mach_types.specs.declared.sequences.Outcome.TheVariants as comes_to
 use Rattle.mach_types.specs.declared.sequences.TheConstants.{FLAGS, RSEQ_CS}
 use Rattle.rv_inst.specs.Execution.{word_seen}
 use Rattle.rv_inst.specs.Words.{sum_64}
+use Rattle.block_model.specs.Events.{done_of}
 use Rattle.block_model.specs.Here.{Here, view}
-use Rattle.block_model.specs.History.{History}
 use Rattle.block_model.specs.Sequences.{area_here}
 use Rattle.event_facts.specs.declared.deeds.Range.{Range}
 use Rattle.event_facts.specs.declared.facts.Fact.{Fact}
@@ -101,10 +102,9 @@ abbrev pub interruption_of : (ℕ → Option ℕ) → Option Area → ℕ → Ou
 interruption_of byte None pc o = told.Nothing
 interruption_of byte (Some area) pc o = told_of byte area pc o
 
--- what the interruption by the newest event of a history came to, where that interrupted a thread
-abbrev pub came_last : History → Option Outcome
-came_last [] = None
-came_last (e ∷ before) = e.done.interrupted
+-- what the interruption of its thread comes to by an event, where that interrupts it
+abbrev pub came_by : Choice → Here → Option Outcome
+came_by c here = (done_of c here).interrupted
 
 -- the fact of an entry, at the place after it, whose interruption came to this
 abbrev pub interrupted_fact : Here → Entry → Outcome → Fact

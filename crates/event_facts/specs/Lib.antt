@@ -1,9 +1,11 @@
+pub mod Areas
 pub mod Calls
 pub mod Deeds
 pub mod Facts
 pub mod Faults
 pub mod Interruptions
 pub mod Lines
+pub mod OtherRegisters
 pub mod Pending
 pub mod Requests
 pub mod Reservations

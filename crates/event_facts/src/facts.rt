@@ -4,6 +4,7 @@ ghost use Rattle.std.specs.Prelude.{◌≡◌, ◌&&◌};
 ghost use Rattle.event_facts.specs.Lines as spec;
 ghost use Rattle.event_facts.specs.Sources.{same_source};
 
+use crate::areas::AreaField;
 use crate::calls::SystemCall;
 use crate::faults::FaultWhy;
 use crate::interruptions::Interruption;
@@ -127,6 +128,18 @@ pub enum Fact {
     ThreadChanged {
         tid: Tid,
         change: ThreadChange,
+    },
+    /// Register `number` of another thread has this value: of one that was woken another one than before, of one that was
+    /// created another one than its parent's.
+    ThreadRegister {
+        tid: Tid,
+        number: u8,
+        value: u64,
+    },
+    /// The field of the thread's area has this number (rseq(2)), which is another one than before the event.
+    AreaWord {
+        field: AreaField,
+        value: u64,
     },
     /// The call has no answer: its thread or the process ended, or the thread goes on with what stands in a
     /// signal frame.

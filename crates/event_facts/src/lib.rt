@@ -8,12 +8,14 @@
 //! before it and after it: faults, calls, barriers, interruptions, signals and threads.
 #![tactic(auto)]
 
+mod areas;
 mod calls;
 mod deeds;
 mod facts;
 mod faults;
 mod interruptions;
 mod lines;
+mod other_registers;
 mod pending;
 mod places;
 mod reads;
@@ -25,6 +27,7 @@ mod theorems;
 mod threads;
 mod written;
 
+pub use areas::AreaField;
 pub use calls::SystemCall;
 pub use facts::{Fact, Source};
 pub use faults::FaultWhy;

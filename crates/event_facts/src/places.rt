@@ -4,14 +4,15 @@ ghost use Rattle.std.specs.Prelude.{◌≡◌, ◌<◌, ◌++◌, IfOk, OnOk};
 ghost use Rattle.mach_types.specs.Events.{choice_of};
 ghost use Rattle.block_model.specs.Here.{Here};
 ghost use Rattle.event_facts.specs.Faults.{fault_facts};
-ghost use Rattle.event_facts.specs.Interruptions.{came_last};
-ghost use Rattle.event_facts.specs.Telling.{here_on, past_of};
+ghost use Rattle.event_facts.specs.Telling.{IsDecided, here_on, past_of};
 ghost use Rattle.event_facts.specs.Trace.{IsBefore, facts_after, facts_before};
 
+use crate::areas::{AreaBefore, area_kept, push_area};
 use crate::calls::{SystemCall, next_call, push_answer, push_called};
 use crate::facts::Fact;
 use crate::faults::push_fault;
 use crate::interruptions::push_interrupted;
+use crate::other_registers::{RegistersBefore, push_other_registers};
 use crate::pending::{all_pending, next_delivered, push_delivered, push_signals};
 use crate::requests::{push_begun, push_requests};
 use crate::threads::{ThreadsBefore, push_threads};
@@ -26,8 +27,14 @@ pub struct Before {
     pub(crate) call: Option<SystemCall>,
     /// The threads.
     pub(crate) threads: ThreadsBefore,
+    /// The registers of those that wait, and of the event's hart.
+    pub(crate) registers: RegistersBefore,
     /// What is pending for each of these, in the same order; None where no signals are kept of one.
     pub(crate) pending: Vec<Option<u64>>,
+    /// The area of the event's thread, if it has one, and what stands there.
+    pub(crate) area: Option<AreaBefore>,
+    /// What the interruption of the event's thread comes to, if it interrupts it.
+    pub(crate) came: Option<Outcome>,
     /// The signal that the event delivers, if it delivers one.
     pub(crate) delivered: Option<u8>,
 }
@@ -55,7 +62,8 @@ pub fn push_before(
     machine: &Machine,
     entry: Entry,
 ) -> Result<Before, AllocError>
-    requires { entry.hart.0 < machine.now.setting.limits.harts }
+    requires hart { entry.hart.0 < machine.now.setting.limits.harts }
+    requires decided { IsDecided machine.now entry }
     ensures before { IfOk result
         (λ before. IsBefore entry (here_on machine.now entry.hart.0) before) }
     ensures facts { OnOk result (facts.new.items ≡ facts.old.items
@@ -67,38 +75,42 @@ pub fn push_before(
     push_called(facts, call)?;
     let kernel = machine.kernel();
     let threads = ThreadsBefore::of(alloc, &kernel.threads)?;
+    let own = &machine.hart(entry.hart).file;
+    let registers = RegistersBefore::of(alloc, &kernel.threads, own)?;
     let pending = all_pending(alloc, &kernel.signals, threads.given)?;
+    let area = area_kept(machine, entry.tid);
+    let came = machine.foreseen(entry.hart, entry.choice());
     let delivered = next_delivered(&kernel.signals, entry);
     Ok(Before {
         call,
         threads,
+        registers,
         pending,
+        area,
+        came,
         delivered,
     })
 }
 
 /// Appends what is told of an entry that is read at the place after it: how the call was answered that it is,
 /// the barrier that this began, what the interruption of its thread came to, the delivery of a signal, and what
-/// became of pending signals and of threads.
+/// became of pending signals, of threads, of the registers of other threads and of the words of its thread's area.
 ///
-/// The machine has made the entry, `before` is what [`push_before`] answered, and `came` what the interruption of
-/// the entry's thread came to, if there was one. It errs only for want of memory.
+/// The machine has made the entry, and `before` is what [`push_before`] answered. It errs only for want of memory.
 pub fn push_after(
     facts: &mut Vec<Fact>,
     machine: &Machine,
     entry: Entry,
     before: &Before,
-    came: Option<Outcome>,
 ) -> Result<(), AllocError>
-    requires hart { entry.hart.0 < machine.now.setting.limits.harts }
-    requires came { came ≡ came_last (past_of machine.now) }
+    requires { entry.hart.0 < machine.now.setting.limits.harts }
     ensures { OnOk result ((here : Here) → IsBefore entry here before.now
         → facts.new.items ≡ facts.old.items
         ++ facts_after machine.now.setting (past_of machine.now) entry here) }
 {
     push_answer(facts, machine, entry, before.call)?;
     push_begun(facts, before.call, machine.hart(entry.hart).waits)?;
-    push_interrupted(facts, machine, entry, came)?;
+    push_interrupted(facts, machine, entry, before.came)?;
     push_delivered(facts, machine, entry, before.delivered)?;
     let kernel = machine.kernel();
     push_signals(
@@ -110,5 +122,12 @@ pub fn push_after(
         &kernel.signals,
     )?;
     push_threads(facts, &before.threads, &kernel.threads)?;
+    push_other_registers(
+        facts,
+        &before.registers,
+        before.threads.given,
+        &kernel.threads,
+    )?;
+    push_area(facts, machine, entry, before.call, before.area)?;
     Ok(())
 }

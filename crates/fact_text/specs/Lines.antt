@@ -4,9 +4,11 @@ use Rattle.std.specs.Prelude.{ℕ, ◌==◌, List, [], ◌∷◌, ◌++◌, leng
 use Rattle.std.specs.Fmt.{decimal}
 use Rattle.std.specs.List.{flat_map}
 use Rattle.mach_types.specs.declared.user_memory.Store.{Store}
+use Rattle.event_facts.specs.declared.areas.AreaField.{AreaField}
+use Rattle.event_facts.specs.declared.areas.AreaField.TheVariants as field
 use Rattle.event_facts.specs.declared.calls.SystemCall.{SystemCall}
 use Rattle.event_facts.specs.declared.facts.Fact.{Fact}
-use Rattle.event_facts.specs.declared.facts.Fact.TheVariants.{Read, Waits, Entered, Zeroed, Reserved, Used, Failed, Ended, Lost, Register, Faulted, RequestsTaken, BarrierReturns, Called, Answered, Refused, AnsweredLater, BarrierBegins, Interrupted, HandlerEntered, DeliveryKills, SignalPosted, SignalDropped, ThreadChanged, NoAnswer}
+use Rattle.event_facts.specs.declared.facts.Fact.TheVariants.{Read, Waits, Entered, Zeroed, Reserved, Used, Failed, Ended, Lost, Register, Faulted, RequestsTaken, BarrierReturns, Called, Answered, Refused, AnsweredLater, BarrierBegins, Interrupted, HandlerEntered, DeliveryKills, SignalPosted, SignalDropped, ThreadChanged, ThreadRegister, AreaWord, NoAnswer}
 use Rattle.event_facts.specs.declared.faults.FaultWhy.{FaultWhy}
 use Rattle.event_facts.specs.declared.faults.FaultWhy.TheVariants.{NotAligned, NotExecutable, NoInstruction, Breakpoint, MisalignedJump, MisalignedAccess, NotReadable, NotWritable}
 use Rattle.event_facts.specs.declared.facts.Source.{Source}
@@ -16,7 +18,7 @@ use Rattle.event_facts.specs.declared.interruptions.Interruption.TheVariants as 
 use Rattle.event_facts.specs.declared.threads.ThreadChange.{ThreadChange}
 use Rattle.event_facts.specs.declared.threads.ThreadChange.TheVariants as becomes
 use Rattle.fact_text.specs.CallNames.{argument_count, call_name, errno_name}
-use Rattle.place_text.specs.Fields.{behind, harts_fields, line, value_or_none, value_text, yes_or_no}
+use Rattle.place_text.specs.Fields.{harts_fields, line, value_or_none, value_text, yes_or_no}
 use Rattle.place_text.specs.Registers.{register_name}
 use Rattle.place_text.specs.Sequences.{bad_word}
 use Rattle.step_log.specs.Text.{newline, space}
@@ -143,6 +145,24 @@ change_fields becomes.Woken = codes "woken" ∷ []
 abbrev pub thread_line : ℕ → ThreadChange → List ℕ
 thread_line t change = line (codes "  thread") (decimal t ∷ change_fields change)
 
+-- `thread T xN NAME VALUE`
+abbrev pub thread_register_line : ℕ → ℕ → ℕ → List ℕ
+thread_register_line t n value =
+    line (codes "  thread") (decimal t ∷ (codes "x" ++ decimal n) ∷ register_name n ∷ value_text value ∷ [])
+
+-- the fields of an area, as uapi linux/rseq.h names them
+abbrev pub field_word : AreaField → List ℕ
+field_word field.CpuIdStart = codes "cpu_id_start"
+field_word field.CpuId = codes "cpu_id"
+field_word field.RseqCs = codes "rseq_cs"
+field_word field.Flags = codes "flags"
+field_word field.NodeId = codes "node_id"
+field_word field.MmCid = codes "mm_cid"
+
+-- `area FIELD VALUE`
+abbrev pub area_line : AreaField → ℕ → List ℕ
+area_line f value = line (codes "  area") (field_word f ∷ value_text value ∷ [])
+
 -- the line of a fact
 abbrev pub fact_line : Fact → List ℕ
 fact_line (Read at size value source) = read_line at size value source
@@ -169,6 +189,8 @@ fact_line (DeliveryKills signal) = kills_line signal
 fact_line (SignalPosted signal tid) = signal_line signal (codes "posted") tid.0
 fact_line (SignalDropped signal tid) = signal_line signal (codes "dropped") tid.0
 fact_line (ThreadChanged tid change) = thread_line tid.0 change
+fact_line (ThreadRegister tid n value) = thread_register_line tid.0 n value
+fact_line (AreaWord f value) = area_line f value
 fact_line NoAnswer = codes "  no answer\n"
 
 -- the lines of facts, in order

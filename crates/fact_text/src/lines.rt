@@ -6,7 +6,9 @@ ghost use Rattle.fact_text.specs.Lines as spec;
 ghost use Rattle.place_text.specs.Fields.{behind};
 
 use crate::call_names::{argument_count, call_name, errno_name};
-use event_facts::{Fact, FaultWhy, Interruption, Source, SystemCall, ThreadChange, WrongWord};
+use event_facts::{
+    AreaField, Fact, FaultWhy, Interruption, Source, SystemCall, ThreadChange, WrongWord,
+};
 use mach_types::{BadWhy, Hart, Store, Tid};
 use place_text::fields::{
     push_decimal, push_harts, push_named_number, push_named_value, push_number, push_value,
@@ -321,6 +323,50 @@ fn push_thread(text: &mut Vec<u8>, tid: Tid, change: ThreadChange) -> Result<(),
     Ok(())
 }
 
+/// Appends the line of a register of another thread.
+fn push_thread_register(
+    text: &mut Vec<u8>,
+    tid: Tid,
+    number: u8,
+    value: u64,
+) -> Result<(), AllocError>
+    ensures { OnOk result (text.new.items
+        ≡ text.old.items ++ spec.thread_register_line tid.0 number value) }
+{
+    text.extend_from_slice(b"  thread")?;
+    push_number(text, u64::from(tid.0))?;
+    text.extend_from_slice(b" x")?;
+    push_decimal(text, u64::from(number))?;
+    push_word(text, register_name(number))?;
+    push_value(text, value)?;
+    text.push(b'\n')?;
+    Ok(())
+}
+
+/// The name of a field of an area (uapi linux/rseq.h).
+fn field_word(field: AreaField) -> &'static [u8]
+    ensures { result.now ≡ spec.field_word field }
+{
+    match field {
+        AreaField::CpuIdStart => b"cpu_id_start",
+        AreaField::CpuId => b"cpu_id",
+        AreaField::RseqCs => b"rseq_cs",
+        AreaField::Flags => b"flags",
+        AreaField::NodeId => b"node_id",
+        AreaField::MmCid => b"mm_cid",
+    }
+}
+
+/// Appends the line of a word of an area.
+fn push_area(text: &mut Vec<u8>, field: AreaField, value: u64) -> Result<(), AllocError>
+    ensures { OnOk result (text.new.items ≡ text.old.items ++ spec.area_line field value) }
+{
+    text.extend_from_slice(b"  area")?;
+    push_named_value(text, field_word(field), value)?;
+    text.push(b'\n')?;
+    Ok(())
+}
+
 /// Appends the line of a fact.
 pub fn push_fact(text: &mut Vec<u8>, fact: &Fact) -> Result<(), AllocError>
     ensures { OnOk result (text.new.items ≡ text.old.items ++ spec.fact_line fact.now) }
@@ -355,6 +401,10 @@ pub fn push_fact(text: &mut Vec<u8>, fact: &Fact) -> Result<(), AllocError>
         Fact::SignalPosted { signal, tid } => push_signal(text, signal, b"posted", tid),
         Fact::SignalDropped { signal, tid } => push_signal(text, signal, b"dropped", tid),
         Fact::ThreadChanged { tid, change } => push_thread(text, tid, change),
+        Fact::ThreadRegister { tid, number, value } => {
+            push_thread_register(text, tid, number, value)
+        }
+        Fact::AreaWord { field, value } => push_area(text, field, value),
         Fact::NoAnswer => text.extend_from_slice(b"  no answer\n"),
     }
 }

@@ -1,12 +1,14 @@
 -- How a pass grows: by no turn, by one, by several in a row, and by those of two halves of it.
-use Rattle.std.proofs.Common.{◌≡◌, ⊎_elim, length, append_assoc, append-nil, ℕ, ◌+◌, ◌-◌, ◌<◌, ◌≤◌, Bool, true, false, List, [], ◌++◌, sym, ap, ◌∙◌, subst, arith}
-use Rattle.std.specs.Prelude.{Option}
+use Rattle.std.proofs.Common.{◌≡◌, ⊎_elim, length, append_assoc, append-nil, length-append, ℕ, ◌+◌, ◌-◌, ◌<◌, ◌≤◌, Bool, true, false, List, [], ◌∷◌, ◌++◌, refl, sym, ap, ◌∙◌, subst, arith}
+use Rattle.std.proofs.lemmas.List.{append_cancel_left}
+use Rattle.std.proofs.lemmas.List.Elements.{All-push}
+use Rattle.std.specs.Prelude.{All, Option, Some}
 use Rattle.mach_types.specs.declared.events.Advance.{Advance}
-use Rattle.mach_types.specs.declared.events.Advance.TheVariants.{Ended}
+use Rattle.mach_types.specs.declared.events.Advance.TheVariants.{Ended, Made}
 use Rattle.mach_types.specs.declared.events.Entry.{Entry}
 use Rattle.mach_types.specs.declared.events.Hart.{Hart}
 use Rattle.machine_lock.specs.declared.history.Origin.{Origin}
-use Rattle.machine_lock.specs.Logs.{Follows}
+use Rattle.machine_lock.specs.Logs.{Adds, Advances, Follows}
 use Rattle.machine_lock.specs.Numbers.{In, RisesFrom, Owns, merge, numbers_below}
 use Rattle.machine_lock.specs.Passes.{PassView, IsSound}
 use Rattle.machine_lock.specs.Rule.{Runs}
@@ -21,6 +23,21 @@ module _ (next : List Entry → Hart → Option Entry) (ended : List Entry → B
 
   pub goes_on_ended : GoesOn next ended hart old new advance → advance ≡ Ended → ended new ≡ true
   goes_on_ended g is = ended_of_advance next ended hart g.middle new advance g.advanced is
+
+-- one entry more of a hart that added some
+pub adds_made : (next : List Entry → Hart → Option Entry) (ended : List Entry → Bool) (hart : Hart) (n : ℕ) (old middle new : List Entry) (e : Entry) → Adds next hart n old middle → Advances next ended hart middle new (Made e) → Adds next hart (n + 1) old new
+adds_made next ended hart n old middle new e adds made =
+    let goes : next middle e.hart ≡ Some e = subst (λ (h : Hart). next middle h ≡ Some e) (sym made.1) made.2 in
+    let more : List Entry = adds.follows.rest ++ e ∷ [] in
+    let long = length-append middle (e ∷ []) in
+    let counted = adds.counted in
+    let follows : Follows next old (middle ++ e ∷ []) = follows_on next old middle (middle ++ e ∷ []) adds.follows (record { rest = e ∷ []; whole = refl; legal = (goes, tt) }) in
+    let rest : follows.rest ≡ more = append_cancel_left old follows.rest more (follows.whole ∙ (sym (ap (λ l. l ++ e ∷ []) adds.follows.whole) ∙ append_assoc old adds.follows.rest (e ∷ []))) in
+    subst (Adds next hart (n + 1) old) (sym made.3) (record {
+      follows = follows;
+      counted = omega (arith, long, counted);
+      own = subst (All (λ (x : Entry). x.hart ≡ hart)) (sym rest) (All-push (λ (x : Entry). x.hart ≡ hart) adds.follows.rest e adds.own made.1);
+    })
 
 module _ {M Setting : Type 0} (setting : M → Setting) (log : M → List Entry) (next : Setting → List Entry → Hart → Option Entry) (k : Origin M) where
   abbrev nx : List Entry → Hart → Option Entry

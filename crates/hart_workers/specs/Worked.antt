@@ -5,7 +5,7 @@ use Rattle.mach_types.specs.declared.events.Entry.{Entry}
 use Rattle.mach_types.specs.declared.events.Hart.{Hart}
 use Rattle.machine_lock.specs.Logs.{Adds, Advances, Follows}
 
--- what was worked on comes first: so many of its entries were appended, and then the hart tried once to go on
+-- the hart added so many entries, those of what was worked on first, and then it tried once more to go on
 pub record GoesOn (next : List Entry → Hart → Option Entry) (ended : List Entry → Bool) (hart : Hart) (old new : List Entry) (advance : Advance) : Type 0 where
   pub middle : List Entry
   pub count : ℕ

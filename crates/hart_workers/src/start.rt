@@ -29,6 +29,11 @@ impl Start {
         }
     }
 
+    /// Whether the run has one worker.
+    pub(crate) fn is_of_one(&self) -> bool {
+        self.workers == 1
+    }
+
     /// A worker has come. It waits until all have, and then until all run: one that gave its processor away
     /// meanwhile may get it back late. It waits no longer than its looks last: a thread that can't be started
     /// makes its worker come only when others are done.

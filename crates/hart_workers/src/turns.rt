@@ -1,5 +1,5 @@
 //! What one worker does: turns of one hart, and between them the work of what it was lent.
-ghost use Rattle.std.specs.Prelude.{◌≡◌, true, false, List, IfOk};
+ghost use Rattle.std.specs.Prelude.{◌≡◌, ◌<◌, true, false, List, IfOk};
 ghost use Rattle.std.specs.Option.{ForSome};
 ghost use Rattle.mach_types.specs.declared.events.Advance.TheVariants.{Ended};
 ghost use Rattle.mach_types.specs.declared.events.Entry.{Entry};
@@ -13,6 +13,9 @@ use crate::start::Start;
 use mach_types::{Advance, Hart};
 use machine_lock::{Chronicle, Pass, Turnstile};
 use outside::Gate;
+use rand_core::SeedableRng;
+use rand_core::utils::NextWord;
+use rand_xoshiro::Xoshiro256PlusPlus;
 use std::alloc::{AllocError, Global};
 use std::sync::Wait;
 use std::thread;
@@ -48,23 +51,47 @@ fn append_worked<M: Chronicle>(machine: &mut M, hart: Hart, worked: Option<M::St
     }
 }
 
-/// What a hart does in one turn: what was worked on is appended before any other event.
-fn go_on<M: Chronicle>(machine: &mut M, hart: Hart, worked: Option<M::Stretch>) -> Advance
+/// How many events a hart tries to make in a turn beyond one, by a word of a generator: none by every other
+/// word, and else 1 to 15. (own)
+fn more_events(word: u64) -> u32
+    ensures { result < 16 }
+{
+    let drawn = word % 30;
+    if drawn < 15 { drawn as u32 + 1 } else { 0 }
+}
+
+/// What a hart does in one turn: what was worked on is appended before any other event. Then it makes one
+/// event, and so many more, as long as it has one to make. Answers what came of its last try.
+fn go_on<M: Chronicle>(
+    machine: &mut M,
+    hart: Hart,
+    worked: Option<M::Stretch>,
+    more: u32,
+) -> Advance
     requires fits { ForSome worked (λ x. M.fits x machine.old hart (M.log machine.old)) }
     ensures setting { M.setting machine.new ≡ M.setting machine.old }
     ensures went_on { GoesOn (M.next (M.setting machine.old)) (M.ended (M.setting machine.old)) hart
         (M.log machine.old) (M.log machine.new) result }
 {
     append_worked(machine, hart, worked);
+    for _ in 0..more {
+        match machine.advance(hart) {
+            Advance::Made(_) => {}
+            Advance::NoneNow => return Advance::NoneNow,
+            Advance::Ended => return Advance::Ended,
+        }
+    }
     machine.advance(hart)
 }
 
-/// One turn of a hart, and the stretch that it is lent at the end of it.
+/// One turn of a hart, in which it makes so many events more than one, and the stretch that it is lent at the
+/// end of it.
 fn turn<R: Wait, M: Chronicle>(
     rt: &R,
     lock: &Turnstile<M>,
     pass: &mut Pass<M>,
     hart: Hart,
+    more: u32,
     stretch: &mut Option<M::Stretch>,
 ) -> Advance
     requires own { IsOf lock.now pass.old }
@@ -78,7 +105,7 @@ fn turn<R: Wait, M: Chronicle>(
     ensures lent { ForSome stretch.new (λ x. M.fits x (start_of lock.now) hart pass.new.seen) }
 {
     let mut turn = lock.take_turn(rt, pass);
-    let advance = go_on(&mut turn.machine, hart, stretch.take());
+    let advance = go_on(&mut turn.machine, hart, stretch.take(), more);
     *stretch = turn.machine.lend(hart);
     lock.give_turn(pass, turn);
     advance
@@ -95,12 +122,12 @@ fn work_on<M: Chronicle>(code: &M::Code, stretch: &mut Option<M::Stretch>)
     }
 }
 
-/// How many turns in a row in which its hart makes no event a worker takes before it gives its processor away
-/// between turns. (own)
+/// How many turns in a row at whose end its hart has nothing to do a worker takes before it gives its
+/// processor away between turns. (own)
 const IDLE_TURNS: u32 = 1_000;
 
-/// What a worker does behind so many turns in a row in which its hart made no event, and how many they are with
-/// this one: behind many of them it gives its processor away.
+/// What a worker does behind so many turns in a row at whose end its hart had nothing to do, and how many they
+/// are with this one: behind many of them it gives its processor away.
 fn rest(idle_turns: u32) -> u32 {
     if idle_turns < IDLE_TURNS {
         idle_turns + 1
@@ -127,11 +154,17 @@ pub(crate) fn drive_one<R: Wait, M: Chronicle, G: Gate>(
     ensures ended { M.ended (M.setting (start_of lock.now)) pass.new.seen ≡ true }
 {
     start.meet();
+    let mut draws = Xoshiro256PlusPlus::seed_from_u64(u64::from(hart.0));
     let mut stretch = None;
     let mut idle_turns = 0;
     for _ in rt.forever() {
         gate.pass(hart);
-        let advance = turn(rt, lock, pass, hart, &mut stretch);
+        let more = if start.is_of_one() {
+            0
+        } else {
+            more_events(draws.next_word())
+        };
+        let advance = turn(rt, lock, pass, hart, more, &mut stretch);
         if advance == Advance::Ended {
             return;
         }

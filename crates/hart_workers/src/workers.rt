@@ -106,17 +106,19 @@ where
 
 /// Drives a machine that lies in a turnstile until its run has ended, by one worker for each hart.
 ///
-/// `harts` is from 1 to 8, and the pass has at least so many parts. A worker makes one entry a turn,
-/// where its hart makes one then. What it was lent in a turn it works on outside the turn, and appends
-/// in its next turn before any other event. The gate is passed once before each turn of a worker.
+/// `harts` is from 1 to 8, and the pass has at least so many parts. In a turn a worker makes one entry,
+/// where its hart makes one then. Of several workers it then makes up to 15 more, as long as its hart makes
+/// one: how many is drawn anew for each turn, by a generator of the worker's own, and is none in half of the
+/// turns. (own) What it was lent in a turn it works on outside the turn, and appends in its next turn before
+/// any other event. The gate is passed once before each turn of a worker.
 ///
 /// All memory is taken before a worker works, in one turn of the pass. Where it is refused, no worker
 /// works and no entry is made. A thread that can't be started is no error: its harts then wait for the
 /// others. (own)
 ///
 /// No worker takes a turn before all have come and run, unless one looked for the others in vain for some tenths of
-/// a second. A worker whose hart made no event in 1,000 turns in a row gives its processor away before the next
-/// one. (own)
+/// a second. A worker whose hart had nothing to do at the end of 1,000 turns in a row gives its processor away
+/// before the next one. (own)
 pub fn drive<R: Threads + Wait + Sync, M: Chronicle + Send + Drop, G: Gate + Sync>(
     alloc: Global,
     rt: &R,

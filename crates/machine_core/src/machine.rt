@@ -1,6 +1,6 @@
 //! The machine: boot, one event, and what is read of it.
 
-ghost use Rattle.std.specs.Prelude.{◌≡◌, ◌<◌, ◌≤◌, ◌++◌, [], ◌∷◌, false, Err, IfOk, IfNone, IfSome, OnErr, OnOk, vec_len, vec_capacity};
+ghost use Rattle.std.specs.Prelude.{◌≡◌, ◌<◌, ◌≤◌, ◌++◌, [], ◌∷◌, false, None, Some, Ok, Err, IfOk, IfNone, IfSome, OnErr, OnOk, vec_len, vec_capacity};
 ghost use Rattle.mach_types.specs.Events.{choice_of};
 ghost use Rattle.mach_types.specs.Limits.{InRange};
 ghost use Rattle.mach_types.specs.declared.events.Choice.{Choice};
@@ -8,9 +8,13 @@ ghost use Rattle.elf_load.specs.Images.{IsBootable};
 ghost use Rattle.elf_load.specs.Start.{program_of};
 ghost use Rattle.block_model.specs.Setting.{setting_of as setting_by};
 ghost use Rattle.block_model.specs.Choosing.{has_ended};
-ghost use Rattle.block_model.specs.History.{console as console_bytes};
+ghost use Rattle.block_model.specs.Events.{done_of};
+ghost use Rattle.block_model.specs.History.{console as console_bytes, here_in_history};
+ghost use Rattle.block_model.specs.Sights.{effect_here, fault_here};
 ghost use Rattle.block_model.specs.Deciding.{history, decide, end_of};
 ghost use Rattle.block_model.specs.Run.{IsBlockRun};
+ghost use Rattle.mach_types.specs.declared.events.Entry.{Entry};
+ghost use Rattle.rv_inst.specs.declared.effects.Effect.{Effect};
 
 mod choosing;
 mod lending;
@@ -20,7 +24,7 @@ use block_model::Refused;
 use chooser::Chooser;
 use elf_load::Image;
 use mach_types::{Choice, End, Entry, Hart, Limits, Why};
-use process::{Code, Parts};
+use process::{Code, Parts, Written};
 use std::alloc::{AllocError, Global};
 use std::marker::Model;
 
@@ -188,5 +192,30 @@ impl Machine {
             }
             Err(why) => Err(Refused::NotEnabled(why)),
         }
+    }
+
+    /// [`Machine::step`] of a hart whose `exec` is allowed ([`Machine::answer`]) and is a call that makes no fault
+    /// ([`Machine::next_effect`], [`Machine::next_fault`]): its entry, and what the kernel wrote to memory in it, in order.
+    pub fn step_call(&mut self, hart: Hart) -> (Entry, Written)
+        requires allowed { (e : Entry)
+            × (decide self.old.setting (history self.old.setting self.old.log) hart.0 Choice.Exec ≡ Ok e) }
+        requires call { effect_here
+            (here_in_history self.old.setting (history self.old.setting self.old.log) hart.0)
+            ≡ Some Effect.Call }
+        requires no_fault { fault_here
+            (here_in_history self.old.setting (history self.old.setting self.old.log) hart.0) ≡ None }
+        ensures answer { decide self.old.setting (history self.old.setting self.old.log) hart.0 Choice.Exec
+            ≡ Ok result.0 }
+        ensures log { self.new ≡ record self.old { log = self.old.log ++ result.0 ∷ [] } }
+        ensures block_run { IsBlockRun self.new.setting self.new.log }
+        ensures written { result.1.items ≡ (done_of Choice.Exec
+            (here_in_history self.old.setting (history self.old.setting self.old.log) hart.0)).entered }
+    {
+        if self.is_chosen() {
+            return self.step_call_chosen(hart);
+        }
+        let made = self.parts.make_call(hart);
+        append(&mut self.log, made.0);
+        made
     }
 }

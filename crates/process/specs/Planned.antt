@@ -1,6 +1,7 @@
 -- The next instruction of a thread that may be executed.
-use Rattle.std.specs.Prelude.{ℕ, ◌≡◌, ◌⊎◌, Bool, true, Some, None, IfSome}
+use Rattle.std.specs.Prelude.{ℕ, ◌≡◌, ◌⊎◌, Bool, true, List, Some, None, IfSome}
 use Rattle.mach_types.specs.declared.events.Choice.TheVariants as asked
+use Rattle.mach_types.specs.declared.user_memory.Write.{Write}
 use Rattle.rv_inst.specs.Class.{is_call}
 use Rattle.rv_inst.specs.Sizes.{HasAccessSizes}
 use Rattle.rv_inst.specs.declared.effects.Effect.{Effect}
@@ -46,3 +47,7 @@ IsInside inside m h =
 -- at each place where this is planned the parts are those after its event, which is yet to be counted
 abbrev pub IsExecuted : Parts → ℕ → Next → Parts → Type 0
 IsExecuted m h next m' = (v : Stand) → IsPlace v m h → IsPlanned v h next → IsUncounted v h (done_of asked.Exec (here_at v h)) m m'
+
+-- at each place where this is planned these writes enter memory by its event
+abbrev pub HasEntered : Parts → ℕ → Next → List Write → Type 0
+HasEntered m h next ws = (v : Stand) → IsPlace v m h → IsPlanned v h next → ws ≡ (done_of asked.Exec (here_at v h)).entered

@@ -2,24 +2,29 @@
 
 ghost use Rattle.std.specs.Prelude.{◌≡◌, Option, Some, None, true, false, IfOk, IfErr, OnErr};
 ghost use Rattle.rv_inst.specs.Class.{is_call};
+ghost use Rattle.block_model.specs.Deciding.{entry_in};
 ghost use Rattle.block_model.specs.Stands.{Stand, here_at};
 ghost use Rattle.block_model.specs.Events.{done_of, refusal_of};
 ghost use Rattle.sys_calls.specs.Made.{process_end};
 ghost use Rattle.block_model.specs.Calls.Answers.{CallDone};
 ghost use Rattle.process.specs.Called.{HasCalled, IsCalled};
 ghost use Rattle.process.specs.EventOutcomes.{hart_after_call, over_after};
-ghost use Rattle.process.specs.Planned.{IsPlanned, IsInside, HasPlan, IsExecuted};
-ghost use Rattle.process.specs.Refinement.{IsAlone, IsPlace, HasCode, IsUncounted, answer_to};
+ghost use Rattle.process.specs.Planned.{IsPlanned, IsInside, HasEntered, HasPlan, IsExecuted};
+ghost use Rattle.process.specs.Refinement.{IsAfter, IsAlone, IsPlace, HasCode, IsUncounted, answer_to};
 
 use crate::code::Code;
 use crate::handlers::has_handler;
 use crate::next::{Next, effect_at, fault_of_next, is_free, next_of};
 use crate::parts::{Parts, entry_of};
+use arrayvec::ArrayVec;
 use hart_state::HartState;
 use mach_types::signals::SIGSEGV;
 use mach_types::{Choice, End, Entry, Hart, Kind, Saved, Why, Write};
 use rv_inst::Effect;
 use sys_calls::{CallEnd, make_call};
+
+/// The kernel's writes to memory in a call, in order.
+pub type Written = ArrayVec<Write, 4>;
 
 impl Parts {
     /// The next instruction of the thread on a hart, where it may be executed, or the condition that fails.
@@ -111,11 +116,13 @@ impl Parts {
         self.ended = Some(End::Killed(SIGSEGV));
     }
 
-    /// A call outside.
-    fn call_outside(&mut self, hart: Hart)
+    /// A call outside. Answers what the kernel wrote to memory.
+    fn call_outside(&mut self, hart: Hart) -> Written
         requires plan { HasPlan self.old hart.0 (record { effect = Some Effect.Call; fault = None }) }
         requires outside { IsInside false self.old hart.0 }
-        ensures { IsExecuted self.old hart.0 (record { effect = Some Effect.Call; fault = None }) self.new }
+        ensures made { IsExecuted self.old hart.0 (record { effect = Some Effect.Call; fault = None }) self.new }
+        ensures written { HasEntered self.old hart.0 (record { effect = Some Effect.Call; fault = None })
+            result.items }
     {
         let harts = self.harts.len() as u8;
         let running = self.busy_harts();
@@ -136,6 +143,7 @@ impl Parts {
             state.cid,
         );
         self.finish_call(hart, done.end, saved, done.written.as_slice());
+        done.written
     }
 
     /// What is left of a call of the thread on a hart, once the tables and the pages are as the call leaves them: the hart goes on
@@ -157,16 +165,44 @@ impl Parts {
 
     /// A call of the thread on a hart, which reads nothing of another process: there is none, or the call is neither membarrier(2)
     /// nor rseq(2), or it is made inside a sequence, which kills the process. The event is yet to be counted.
-    #[inline(never)]
     pub fn call(&mut self, hart: Hart)
         requires { HasPlan self.old hart.0 (record { effect = Some Effect.Call; fault = None }) }
         ensures { IsExecuted self.old hart.0 (record { effect = Some Effect.Call; fault = None }) self.new }
     {
+        self.call_with_writes(hart);
+    }
+
+    /// [`Parts::call`], which answers what the kernel wrote to memory in the call, in order.
+    #[inline(never)]
+    fn call_with_writes(&mut self, hart: Hart) -> Written
+        requires { HasPlan self.old hart.0 (record { effect = Some Effect.Call; fault = None }) }
+        ensures made { IsExecuted self.old hart.0 (record { effect = Some Effect.Call; fault = None }) self.new }
+        ensures written { HasEntered self.old hart.0 (record { effect = Some Effect.Call; fault = None })
+            result.items }
+    {
         if self.is_inside(hart) {
-            self.call_inside(hart)
+            self.call_inside(hart);
+            Written::new()
         } else {
             self.call_outside(hart)
         }
+    }
+
+    /// [`Parts::make`] of an `exec` that is allowed and is a call, as [`Parts::call`] makes it: its entry, and what the kernel wrote to
+    /// memory in it, in order.
+    pub fn make_call(&mut self, hart: Hart) -> (Entry, Written)
+        requires { HasPlan self.old hart.0 (record { effect = Some Effect.Call; fault = None }) }
+        ensures entry { (v : Stand) → IsPlace v self.old hart.0 → result.0 ≡ entry_in Choice.Exec (here_at v hart.0) }
+        ensures after { (v : Stand) → IsPlace v self.old hart.0
+            → IsPlanned v hart.0 (record { effect = Some Effect.Call; fault = None })
+            → IsAfter v hart.0 (done_of Choice.Exec (here_at v hart.0)) self.old self.new }
+        ensures written { HasEntered self.old hart.0 (record { effect = Some Effect.Call; fault = None })
+            result.1.items }
+    {
+        let entry = self.entry(hart, Choice::Exec);
+        let written = self.call_with_writes(hart);
+        self.count(hart);
+        (entry, written)
     }
 
     /// The next instruction of the thread on a hart.

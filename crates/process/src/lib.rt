@@ -25,6 +25,7 @@ mod signal_delivery;
 mod starting;
 
 pub use code::Code;
+pub use exec::Written;
 pub use next::{Next, effect_at, effect_of_next, is_free, is_local, next_of};
 pub use parts::Parts;
 pub use requests::{is_all_taken, running_harts};

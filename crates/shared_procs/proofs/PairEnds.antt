@@ -48,7 +48,7 @@ never_stuck s (e ∷ before) run p =
     after_event e.entry.hart.0 e.process e.done (pair_after s before) fine (never_stuck s before run.0) p
 
 -- what is kept of it
-ended_tells : (o : Option End) (stuck : Bool) → NotStuck o → has_ended (option_or o (cond stuck (Some over.Stuck) None)) ≡ is_some o
+pub ended_tells : (o : Option End) (stuck : Bool) → NotStuck o → has_ended (option_or o (cond stuck (Some over.Stuck) None)) ≡ is_some o
 ended_tells None true fine = refl
 ended_tells None false fine = refl
 ended_tells (Some (over.Exit status)) stuck fine = refl
@@ -83,6 +83,13 @@ goes_read m one two one_is two_is =
     ap (λ o. is_none o || is_none two) one_is
     ∙ ap (λ o. is_none (plain_over m.first) || is_none o) two_is
     ∙ over_tells (is_none (plain_over m.first)) (is_none (plain_over m.second))
+
+twice : (b : Bool) → not (not b) ≡ b
+twice true = refl
+twice false = refl
+
+pub over_read : (m : Pair) (one two : Option End) → one ≡ plain_over m.first → two ≡ plain_over m.second → not (is_none one || is_none two) ≡ is_over m
+over_read m one two one_is two_is = ap not (goes_read m one two one_is two_is) ∙ twice (is_over m)
 
 abbrev both_ended : Pair → Bool
 both_ended m = is_some m.first.ended && is_some m.second.ended

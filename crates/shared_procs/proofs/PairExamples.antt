@@ -85,25 +85,25 @@ outcome_of s (Err why) = Err why
 abbrev execs : ℕ → ℕ → List (ℕ × Choice)
 execs h n = replicate n (h, asked.Exec)
 
-abbrev entry : ℕ → Kind → ℕ → ℕ → Entry
+abbrev pub entry : ℕ → Kind → ℕ → ℕ → Entry
 entry h k t pc = record { hart = record { 0 = h }; kind = k; tid = record { 0 = t }; pc = pc }
 
 abbrev begun : List (ℕ × Choice)
 begun = (0, asked.Run (record { 0 = 1 })) ∷ (1, asked.Run (record { 0 = 2147483649 })) ∷ []
 
 -- so many instructions of a thread, one after another
-abbrev execs_from : ℕ → ℕ → ℕ → ℕ → List Entry
+abbrev pub execs_from : ℕ → ℕ → ℕ → ℕ → List Entry
 execs_from h t pc zero = []
 execs_from h t pc (suc n) = entry h kind.Exec t pc ∷ execs_from h t (pc + 4) n
 
 -- where the second process registers, and where it asks with command 0 in its place
-abbrev registers : PairSetting
+abbrev pub registers : PairSetting
 registers = both 0x00400513
 
-abbrev asks_nothing : PairSetting
+abbrev pub asks_nothing : PairSetting
 asks_nothing = both 0x00000513
 
-abbrev second : ℕ
+abbrev pub second : ℕ
 second = 2147483649
 
 -- a thread of the second process has its number plus 2,147,483,648 in logs, and there alone
@@ -144,7 +144,7 @@ unfolding asked_for meaning row_of rows lui_rows auipc_rows jal_rows jalr_rows b
 not_returned = refl
 
 -- the hart of a process that isn't registered isn't reached: the barrier is over at once, and both exit with 0
-abbrev unregistered_log : List Entry
+abbrev pub unregistered_log : List Entry
 unregistered_log =
     entry 0 kind.Run 1 0x10078
     ∷ entry 1 kind.Run second 0x10078

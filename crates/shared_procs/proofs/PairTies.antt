@@ -1,12 +1,17 @@
--- A pair at its start.
-use Rattle.std.proofs.Common.{◌≡◌, ℕ, false, true, List, [], sym, subst}
+-- A pair at its start, and what the parts of a process tell of it.
+use Rattle.std.proofs.Common.{◌≡◌, ℕ, ◌<◌, Bool, true, false, not, ◌&&◌, cond, List, [], Option, Some, None, is_none, is_some, get_or, refl, sym, ap, ◌∙◌, subst}
+use Rattle.std.specs.Option.{option_map}
+use Rattle.mach_types.specs.Kernel.Threads.{running_on}
 use Rattle.mach_types.specs.declared.limits.Limits.{Limits}
 use Rattle.elf_load.specs.Start.{Program, program_of}
 use Rattle.elf_load.specs.declared.image.Image.{Image}
-use Rattle.block_model.specs.Plain.{plain_start}
+use Rattle.hart_state.specs.declared.hart.HartState.{HartState}
+use Rattle.block_model.specs.Plain.{Plain, plain_over, plain_start}
 use Rattle.block_model.specs.Setting.{Setting, setting_of}
+use Rattle.block_model.specs.Sights.{thread}
 use Rattle.process.specs.Refinement.{IsTied}
 use Rattle.process.specs.declared.parts.Parts.{Parts}
+use Rattle.process.proofs.Laws.{hart_tied}
 use Rattle.shared_procs.specs.PairMachines.{AreTied}
 use Rattle.shared_procs.specs.PairRuns.{IsPairRun, pair_after, pair_history}
 use Rattle.shared_procs.specs.Pairs.{PairSetting, setting}
@@ -33,3 +38,24 @@ pub tied_start : (s : PairSetting) (one two : Parts) (segment : List ℕ) → Is
     → AreTied s (pair_after s (pair_history s [])) one two segment
 unfolding pair_history
 tied_start s one two segment first second zeros = record { first = first; second = second; shared = λ a is. zeros a }
+
+-- a thread of a process that goes on runs on a hart
+not_idle : (o : Option ℕ) → not (not (is_some (option_map thread o))) ≡ is_some o
+not_idle None = refl
+not_idle (Some t) = refl
+
+pub runs_tell : (s : Setting) (p : Plain) (m : Parts) (h : ℕ) (x : HartState) (goes idle : Bool) → IsTied s p m → h < s.limits.harts
+    → x ≡ get_or m.harts.items h x → goes ≡ is_none (plain_over p) → idle ≡ not (is_some x.running)
+    → (goes && not idle) ≡ is_some (cond (is_none (plain_over p)) (running_on h p.kernel.threads) None)
+runs_tell s p m h x goes idle tied lt value goes_is idle_is =
+    ap (λ b. b && not idle) goes_is ∙ go (is_none (plain_over p))
+  where
+    busy : not idle ≡ is_some (running_on h p.kernel.threads)
+    busy =
+        ap not idle_is
+        ∙ ap (λ (y : HartState). not (not (is_some y.running))) (hart_tied s p m h x tied lt value)
+        ∙ not_idle (running_on h p.kernel.threads)
+
+    go : (b : Bool) → (b && not idle) ≡ is_some (cond b (running_on h p.kernel.threads) None)
+    go true = busy
+    go false = refl

@@ -51,7 +51,7 @@ on_hart_goes m h live_on = by (is_some (runs_in m true h)) (is_some (runs_in m f
     by false false false false x y z is live_on = cc
 
 -- of a thread that begins to run the process goes on, and nothing else is refused
-begins : (m : Pair) (p : Bool) (h : ℕ) (why : Option Why) → refusal_begins m p h why ≡ None → (goes_on m p ≡ true) × (why ≡ None)
+pub begins : (m : Pair) (p : Bool) (h : ℕ) (why : Option Why) → refusal_begins m p h why ≡ None → (goes_on m p ≡ true) × (why ≡ None)
 begins m p h why free = by (is_some (runs_in m (not p) h)) (goes_on m p) refl free
   where
     by : (busy goes : Bool) → goes_on m p ≡ goes → cond busy (Some Busy) (cond goes why (Some NotReady)) ≡ None → (goes_on m p ≡ true) × (why ≡ None)

@@ -98,7 +98,7 @@ module _ (m : Map) (gap : (n : ℕ) → IsGap n → permission_in m n ≡ None) 
       each_byte-fails (can_write_in m) at n k one.1 no ∙ sym (each_byte-fails (storable_in m) at n k one.1 not)
 
   -- a store that was made on pages has no byte of the segment
-  not_inside : (at n a : ℕ) → IsOutside at n → each_byte (can_write_in m) at n ≡ true → is_in_segment a ≡ true → at ≤ a → a < at + n → ⊥
+  pub not_inside : (at n a : ℕ) → IsOutside at n → each_byte (can_write_in m) at n ≡ true → is_in_segment a ≡ true → at ≤ a → a < at + n → ⊥
   not_inside at n a (inl none) made is from to =
       let there : at + (a - at) ≡ a = omega arith in
       true_is_false (sym (ap is_in_segment there ∙ is) ∙ none (a - at) (omega arith))

@@ -1,7 +1,10 @@
+pub mod Entering
 pub mod Halves
 pub mod PairMachines
+pub mod PairPlaces
 pub mod PairRuns
 pub mod Pairs
+pub mod ReturningBarriers
 pub mod Segments
 pub mod StoresEntered
 pub mod WindowLaws

@@ -1,9 +1,13 @@
 //! Two processes on one machine, with one segment of memory that the instructions of both reach.
 #![tactic(auto)]
 
+mod ending;
+mod entering;
+mod events;
 mod half;
 mod outcomes;
 mod pair;
+mod pair_calls;
 mod segment;
 mod theorems;
 mod window;
@@ -11,5 +15,8 @@ mod window;
 pub use outcomes::{PairEnd, PairRefused, ProcState};
 pub use pair::Pair;
 pub use segment::Segment;
-pub use theorems::{both_see_the_same_requests, idle_harts_hold_no_store, stores_enter_or_wait};
+pub use theorems::{
+    barriers_return_over_both, both_see_the_same_requests, idle_harts_hold_no_store,
+    stores_enter_or_wait, waiting_stores_are_of_one_process,
+};
 pub use window::Window;

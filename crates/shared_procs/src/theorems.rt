@@ -1,9 +1,12 @@
 //! Laws of runs of two processes, each as the contract of a function that does nothing.
 
-ghost use Rattle.std.specs.Prelude.{◌≡◌, ◌<◌, ◌+◌, ℕ, Bool, List, [], None, false, true, length};
+ghost use Rattle.std.specs.Prelude.{◌≡◌, ◌≢◌, ◌⊎◌, ◌<◌, ◌≤◌, ◌+◌, ◌++◌, ℕ, Bool, List, [], ◌∷◌, None, Some, false, true, length};
+ghost use Rattle.mach_types.specs.Kernel.Scheduling.{has_hart};
 ghost use Rattle.mach_types.specs.Kernel.Threads.{running_on};
 ghost use Rattle.mach_types.specs.declared.events.Entry.{Entry};
-ghost use Rattle.shared_procs.specs.PairRuns.{IsPairRun, pair_after, pair_history};
+ghost use Rattle.mach_types.specs.declared.events.Kind.TheVariants as kind;
+ghost use Rattle.shared_procs.specs.ReturningBarriers.{IsBusy, PairBegun, begun_by, returning};
+ghost use Rattle.shared_procs.specs.PairRuns.{IsPairRun, PairEvent, PairHistory, pair_after, pair_history};
 ghost use Rattle.shared_procs.specs.Pairs.{PairSetting, goes_on, half};
 ghost use Rattle.shared_procs.specs.StoresEntered.{entered, executed};
 
@@ -13,6 +16,13 @@ pub fn idle_harts_hold_no_store()
         → goes_on (pair_after s (pair_history s log)) p ≡ true
         → running_on h (half p (pair_after s (pair_history s log))).kernel.threads ≡ None
         → (half p (pair_after s (pair_history s log))).waiting h ≡ [] }
+{}
+
+/// The stores that wait on a hart are of one process.
+pub fn waiting_stores_are_of_one_process()
+    ensures { (s : PairSetting) (log : List Entry) (h : ℕ) → IsPairRun s log
+        → ((half false (pair_after s (pair_history s log))).waiting h ≡ [])
+        ⊎ ((half true (pair_after s (pair_history s log))).waiting h ≡ []) }
 {}
 
 /// What a hart executed of plain stores has entered memory, or waits there, over both processes.
@@ -35,4 +45,28 @@ pub fn both_see_the_same_requests()
         → (half false (pair_after s (pair_history s log))).made ≡ (pair_after s (pair_history s log)).made }
     ensures second { (s : PairSetting) (log : List Entry)
         → (half true (pair_after s (pair_history s log))).made ≡ (pair_after s (pair_history s log)).made }
+{}
+
+/// Where `done` comes in a pair run, the barrier returns that the thread of the hart began (membarrier(2)). What each hart that it is
+/// about had stored before the call is then in memory, whichever process stored it.
+pub fn barriers_return_over_both()
+    // There is that barrier.
+    ensures begun { (s : PairSetting) (earlier later : List Entry) (entry : Entry)
+        → IsPairRun s (earlier ++ entry ∷ later) → entry.kind ≡ kind.Done
+        → (b : PairBegun) × (returning s earlier entry.hart.0 ≡ Some b) }
+    // A barrier that a thread of process p began on hart h was begun by an event of these: its call, which stands
+    // right after `b.call`.
+    ensures call { (s : PairSetting) (log : List Entry) (p : Bool) (h : ℕ) (b : PairBegun)
+        → begun_by p h (pair_history s log) ≡ Some b
+        → (since : PairHistory) × (call : PairEvent) × (pair_history s log ≡ since ++ call ∷ b.call)
+        × (call.process ≡ p) × (call.entry.hart.0 ≡ h) × (call.done.barrier ≡ Some b.barrier) }
+    // The harts that it is about are others than its own, and ran a thread of either process where it was called.
+    ensures about { (s : PairSetting) (log : List Entry) (p : Bool) (h k : ℕ) (b : PairBegun) → IsPairRun s log
+        → begun_by p h (pair_history s log) ≡ Some b → has_hart b.barrier.targets k ≡ true
+        → (k ≢ h) × IsBusy (pair_after s b.call) k }
+    // Each plain store that a hart which it is about executed before the call has entered memory.
+    ensures stores { (s : PairSetting) (earlier later : List Entry) (entry : Entry) (b : PairBegun) (k : ℕ)
+        → IsPairRun s (earlier ++ entry ∷ later) → entry.kind ≡ kind.Done
+        → returning s earlier entry.hart.0 ≡ Some b → has_hart b.barrier.targets k ≡ true
+        → executed k b.call ≤ entered s k (pair_history s earlier) }
 {}

@@ -1,7 +1,8 @@
 //! Memory as the instructions of a process reach it that shares a segment.
 
-ghost use Rattle.std.specs.Prelude.{◌≡◌};
+ghost use Rattle.std.specs.Prelude.{◌≡◌, ℕ};
 ghost use Rattle.std.proofs.Common.{refl, ◌∙◌};
+ghost use Rattle.mach_types.specs.Bytes.{IsAccessSize, after_write, each_byte};
 ghost use Rattle.page_map.specs.Map.{IsAlike};
 ghost use Rattle.page_map.specs.MapLaws.{alike_itself, alike_next};
 ghost use Rattle.shared_procs.specs.Segments.{reached_in, storable_in};
@@ -19,6 +20,31 @@ pub struct Window<'a> {
     pub pages: &'a mut PageMap,
     /// The segment.
     pub segment: &'a mut Segment,
+}
+
+/// Writes the low `size` bytes of `value` from an address on; false exactly where one of them can't be written, and then nothing
+/// changes.
+pub(crate) fn set_in(
+    pages: &mut PageMap,
+    segment: &mut Segment,
+    at: u64,
+    size: u8,
+    value: u64,
+) -> bool
+    requires { IsAccessSize size }
+    ensures answer { result ≡ each_byte (storable_in pages.old) at size }
+    ensures bytes { (a : ℕ) → reached_in segment.new pages.new a
+        ≡ after_write result (record { at = at; size = size; value = value }) (reached_in segment.old pages.old) a }
+    ensures permissions { (a : ℕ) → storable_in pages.new a ≡ storable_in pages.old a }
+    ensures alike { IsAlike pages.old pages.new }
+{
+    if is_within(at, size) {
+        segment.put(at, size, value);
+        true
+    } else {
+        pages.keeps();
+        pages.set(at, size, value)
+    }
 }
 
 impl UserMem for Window<'_> {
@@ -39,13 +65,7 @@ impl UserMem for Window<'_> {
     }
 
     fn set(&mut self, at: u64, size: u8, value: u64) -> bool {
-        if is_within(at, size) {
-            self.segment.put(at, size, value);
-            true
-        } else {
-            self.pages.keeps();
-            self.pages.set(at, size, value)
-        }
+        set_in(self.pages, self.segment, at, size, value)
     }
 
     fn writable(&self, at: u64, size: u8) -> bool {

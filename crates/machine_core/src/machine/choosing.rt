@@ -1,18 +1,22 @@
 //! A machine that makes the choices of `run`.
 
-ghost use Rattle.std.specs.Prelude.{◌≡◌, ◌<◌, ◌++◌, [], ◌∷◌, false, IfOk, OnErr};
+ghost use Rattle.std.specs.Prelude.{◌≡◌, ◌<◌, ◌++◌, [], ◌∷◌, false, None, Some, Ok, IfOk, OnErr};
 ghost use Rattle.mach_types.specs.Events.{choice_of};
 ghost use Rattle.block_model.specs.Choosing.{IsChosen, advance_at, all_chosen, credit_at, has_ended};
 ghost use Rattle.block_model.specs.Deciding.{decide, history};
+ghost use Rattle.block_model.specs.Events.{done_of};
 ghost use Rattle.block_model.specs.History.{here_in_history, ran};
 ghost use Rattle.block_model.specs.Run.{IsBlockRun};
-ghost use Rattle.block_model.specs.Sights.{sight_in};
+ghost use Rattle.block_model.specs.Sights.{effect_here, fault_here, sight_in};
+ghost use Rattle.mach_types.specs.declared.events.Entry.{Entry};
+ghost use Rattle.rv_inst.specs.declared.effects.Effect.{Effect};
 ghost use Rattle.machine_core.specs.Advancing.{made_in};
 
 use crate::following::follow;
 use crate::machine::{Machine, append};
 use block_model::Refused;
 use mach_types::{Advance, Choice, Entry, Hart, Sight};
+use process::Written;
 
 impl Machine {
     /// Makes the next event of a hart by the choice of `run`, and answers it.
@@ -97,5 +101,36 @@ impl Machine {
             }
             Err(why) => Err(Refused::NotEnabled(why)),
         }
+    }
+
+    /// [`Machine::step_call`] where every entry so far was the choice of its hart.
+    #[inline(never)]
+    pub(crate) fn step_call_chosen(&mut self, hart: Hart) -> (Entry, Written)
+        requires chosen { IsChosen self.old.setting self.old.seed self.old.log }
+        requires allowed { (e : Entry)
+            × (decide self.old.setting (history self.old.setting self.old.log) hart.0 Choice.Exec ≡ Ok e) }
+        requires call { effect_here
+            (here_in_history self.old.setting (history self.old.setting self.old.log) hart.0)
+            ≡ Some Effect.Call }
+        requires no_fault { fault_here
+            (here_in_history self.old.setting (history self.old.setting self.old.log) hart.0) ≡ None }
+        ensures answer { decide self.old.setting (history self.old.setting self.old.log) hart.0 Choice.Exec
+            ≡ Ok result.0 }
+        ensures log { self.new ≡ record self.old { log = self.old.log ++ result.0 ∷ [] } }
+        ensures block_run { IsBlockRun self.new.setting self.new.log }
+        ensures written { result.1.items ≡ (done_of Choice.Exec
+            (here_in_history self.old.setting (history self.old.setting self.old.log) hart.0)).entered }
+    {
+        let seen = self.sight(hart);
+        let made = self.parts.make_call(hart);
+        append(&mut self.log, made.0);
+        self.chosen = follow(
+            &mut self.parts.harts,
+            &mut self.chooser,
+            hart,
+            Choice::Exec,
+            &seen,
+        );
+        made
     }
 }

@@ -1,25 +1,30 @@
 use Rattle.std.proofs.Common.{◌∙◌, ◌++◌, ℕ, Option, ap}
 use Rattle.mach_types.specs.Kernel.Threads.{Threads}
 use Rattle.mach_types.specs.declared.sequences.Outcome.{Outcome}
+use Rattle.mach_types.specs.Events.{choice_of}
+use Rattle.event_facts.specs.Areas.{area_facts}
 use Rattle.event_facts.specs.Calls.{answer_facts}
 use Rattle.event_facts.specs.Interruptions.{interrupted_facts}
+use Rattle.block_model.specs.Here.{runs}
+use Rattle.process.specs.Harts.{file_on}
+use Rattle.event_facts.specs.OtherRegisters.{other_registers}
 use Rattle.event_facts.specs.Pending.{delivered_facts, signal_facts}
 use Rattle.event_facts.specs.Requests.{begun_facts}
 use Rattle.event_facts.specs.Telling.{here_on, past_of}
 use Rattle.event_facts.specs.Threads.{thread_facts}
 use Rattle.event_facts.specs.declared.calls.SystemCall.{SystemCall}
-use Rattle.event_facts.proofs.Lists.{six_pieces}
+use Rattle.event_facts.proofs.Lists.{eight_pieces}
 use Rattle.event_facts.proofs.places.push_after.Goals as goal
 
 pub returns : goal.returns
 returns c = λ here is.
     let m = c.args.machine.now in
     let entry = c.args.entry in
-    six_pieces _ _ _ _ _ _ _ _ _ _ _ _ _
+    eight_pieces _ _ _ _ _ _ _ _ _ _ _ _ _ _ _ _ _
     (c.in_ok-push_answer.ensures ∙ ap (λ (o : Option SystemCall). c.args.facts.now.items ++ answer_facts m.setting (past_of m) entry o) is.call)
     (c.in_ok-push_begun.ensures ∙ (λ i. c.push_answer.new.facts.items ++ begun_facts (is.call i) (c.hart.ensures i).waits))
     (c.in_ok-push_interrupted.ensures
-    ∙ ap (λ (o : Option Outcome). c.push_begun.new.facts.items ++ interrupted_facts (here_on m entry.hart.0) entry o) c.requires.came)
+    ∙ ap (λ (o : Option Outcome). c.push_begun.new.facts.items ++ interrupted_facts (here_on m entry.hart.0) entry o) is.came)
     (c.in_ok-push_delivered.ensures
     ∙ ap (λ (o : Option ℕ). c.push_interrupted.new.facts.items ++ delivered_facts m.setting (past_of m) entry o) is.delivered)
     (c.in_ok-push_signals.ensures here.kernel.signals (c.deref.ensures.value ∙ is.pending)
@@ -27,3 +32,9 @@ returns c = λ here is.
     ++ signal_facts (is.threads.given i) (is.delivered i) entry.tid.0 here.kernel.signals (c.kernel-kernel.ensures.signals i)))
     (c.in_ok-push_threads.ensures here.kernel.threads is.threads
     ∙ ap (λ (ts : Threads). c.push_signals.new.facts.items ++ thread_facts here.kernel.threads ts) c.kernel-kernel.ensures.threads)
+    (c.in_ok-push_other_registers.ensures here (here_on m entry.hart.0).file is.registers is.threads.given c.kernel-kernel.ensures.saved
+    ∙ ap (λ (ts : Threads). c.push_threads.new.facts.items
+    ++ other_registers here.file here.kernel.threads (file_on here (runs here)).file (here_on m entry.hart.0).file ts) c.kernel-kernel.ensures.threads)
+    (c.in_ok-push_area.ensures
+    ∙ (λ i. c.push_other_registers.new.facts.items
+    ++ area_facts (choice_of entry) (is.call i) (is.area i) (here_on m entry.hart.0) entry.tid.0))

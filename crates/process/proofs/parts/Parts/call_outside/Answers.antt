@@ -1,5 +1,5 @@
-use Rattle.std.proofs.Common.{ap, refl, ◌∙◌}
-use Rattle.process.proofs.Common.{here_at, running_on}
+use Rattle.std.proofs.Common.{ap, refl, sym, ◌∙◌}
+use Rattle.process.proofs.Common.{Done, here_at, running_on}
 use Rattle.block_model.specs.Calls.{called}
 use Rattle.process.proofs.SystemCalls.{areas_found, calling, numbers_left, running_found, signals_found, tables_found}
 use Rattle.process.proofs.parts.Parts.call_outside.Goals as goal
@@ -54,8 +54,8 @@ finish_call-requires c =
       };
     }
 
-pub returns : goal.returns
-returns c v place plan =
+pub returns-clause-made : goal.returns-clause-made
+returns-clause-made c v place plan =
     let h = c.args.hart.0 in
     let m = c.args.self.now in
     let t = c.entry_of-entry.result.tid.0 in
@@ -71,3 +71,10 @@ returns c v place plan =
       written = c.as_slice.ensures.value ∙ c.make_call-done.ensures.written (here_at v h) is.at;
       harts = refl;
     })
+
+pub returns-clause-written : goal.returns-clause-written
+returns-clause-written c v place plan =
+    let h = c.args.hart.0 in
+    let m = c.args.self.now in
+    let is = calling v m c.args.hart c.busy_harts-running.result c.len-harts.result c.index-state.result.now c.entry_of-entry.result place plan c.requires.outside c.busy_harts-running.ensures (c.len-harts.ensures ∙ m.harts.ok.0) c.index-state.ensures c.entry_of-entry.ensures in
+    c.make_call-done.ensures.written (here_at v h) is.at ∙ ap (λ (d : Done). d.entered) (sym is.done)

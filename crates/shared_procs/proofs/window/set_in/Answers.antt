@@ -1,28 +1,24 @@
 use Rattle.std.proofs.Common.{sym, ◌∙◌}
 use Rattle.shared_procs.proofs.Segments.{outside}
 use Rattle.shared_procs.proofs.Windows.{few_bytes, writable_inside, writable_outside, written_inside, written_outside}
-use Rattle.shared_procs.proofs.window.WindowUserMem.set.Goals as goal
+use Rattle.shared_procs.proofs.window.set_in.Goals as goal
 
 pub returns-else-is_within-clause-answer : goal.returns-else-is_within-clause-answer
 returns-else-is_within-clause-answer c =
-    let v = c.args.self.now in
     let out = outside c.args.at c.args.size (few_bytes c.args.size c.requires) (sym c.is_within.ensures ∙ c.if-is_within.false) in
-    c.set.ensures.answer ∙ writable_outside v.pages.now c.keeps.ensures.gap c.args.at c.args.size out
+    c.set.ensures.answer ∙ writable_outside c.args.pages.now c.keeps.ensures.gap c.args.at c.args.size out
 
 pub returns-else-is_within-clause-bytes : goal.returns-else-is_within-clause-bytes
 returns-else-is_within-clause-bytes c =
-    let v = c.args.self.now in
     let out = outside c.args.at c.args.size (few_bytes c.args.size c.requires) (sym c.is_within.ensures ∙ c.if-is_within.false) in
-    written_outside v.pages.now c.keeps.ensures.gap v.segment.now c.set.new.self c.args.at c.args.size c.args.value c.set.result out
+    written_outside c.args.pages.now c.keeps.ensures.gap c.args.segment.now c.set.new.self c.args.at c.args.size c.args.value c.set.result out
     c.set.ensures.answer
     c.set.ensures.bytes
 
 pub returns-then-is_within-clause-answer : goal.returns-then-is_within-clause-answer
 returns-then-is_within-clause-answer c =
-    let v = c.args.self.now in
-    writable_inside v.segment.now v.pages.now c.args.at c.args.size (sym c.is_within.ensures ∙ c.if-is_within.true)
+    writable_inside c.args.segment.now c.args.pages.now c.args.at c.args.size (sym c.is_within.ensures ∙ c.if-is_within.true)
 
 pub returns-then-is_within-clause-bytes : goal.returns-then-is_within-clause-bytes
 returns-then-is_within-clause-bytes c =
-    let v = c.args.self.now in
-    written_inside v.segment.now v.pages.now c.args.at c.args.size (sym c.is_within.ensures ∙ c.if-is_within.true) c.put.new.self c.args.value c.put.ensures
+    written_inside c.args.segment.now c.args.pages.now c.args.at c.args.size (sym c.is_within.ensures ∙ c.if-is_within.true) c.put.new.self c.args.value c.put.ensures

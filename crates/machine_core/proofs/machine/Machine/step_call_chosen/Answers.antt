@@ -1,0 +1,87 @@
+-- A call of a machine that makes the choices of `run`, and what the kernel wrote in it.
+use Rattle.std.proofs.Common.{◌≡◌, Some, true, ap, length, refl, rules, sym, ◌∙◌, arith}
+use Rattle.mach_types.specs.declared.events.Choice.TheVariants as asked
+use Rattle.machine_core.proofs.Common.{Here, Parts, done_of, past_of, seen, seen_if, setting_of}
+use Rattle.block_model.specs.Stands.{stand_of}
+use Rattle.block_model.proofs.Laws.{same_here}
+use Rattle.machine_core.proofs.AdvanceAnswers.{all_of}
+use Rattle.machine_core.proofs.AllowedPlaces.{allowed_place, call_step, planned_call}
+use Rattle.machine_core.proofs.MachineCredits.{settled}
+use Rattle.machine_core.proofs.machine.Machine.step_call_chosen.Goals as goal
+
+pub sight-seen-requires : goal.sight-seen-requires
+sight-seen-requires c =
+    let m = c.self.inside in
+    rw (← c.self.view_is) (allowed_place m c.args.hart.0 asked.Exec c.requires.allowed.0 c.self.invariant (rw (← c.self.view_is) at c.requires.allowed.1)).lt
+
+pub make_call-made-requires : goal.make_call-made-requires
+make_call-made-requires c =
+    let m = c.self.inside in
+    let at = allowed_place m c.args.hart.0 asked.Exec c.requires.allowed.0 c.self.invariant (rw (← c.self.view_is) at c.requires.allowed.1) in
+    record {
+      stand = stand_of (seen m);
+      place = at.place.at;
+      plan = planned_call m c.args.hart.0 c.self.invariant at (rw (← c.self.view_is) at c.requires.call) (rw (← c.self.view_is) at c.requires.no_fault);
+    }
+
+pub append-requires : goal.append-requires
+append-requires c =
+    let m = c.self.inside in
+    let at = allowed_place m c.args.hart.0 asked.Exec c.requires.allowed.0 c.self.invariant (rw (← c.self.view_is) at c.requires.allowed.1) in
+    omega (arith, at.room, c.self.invariant.room, m.log.ok.0)
+
+pub follow-self-inside-requires-clause-held : goal.follow-self-inside-requires-clause-held
+follow-self-inside-requires-clause-held c =
+    let m = c.self.inside in
+    let h = c.args.hart.0 in
+    let at = allowed_place m h asked.Exec c.requires.allowed.0 c.self.invariant (rw (← c.self.view_is) at c.requires.allowed.1) in
+    let plan = planned_call m h c.self.invariant at (rw (← c.self.view_is) at c.requires.call) (rw (← c.self.view_is) at c.requires.no_fault) in
+    let after = c.make_call-made.ensures.after (stand_of (seen m)) at.place.at plan in
+    let e = c.make_call-made.result.0 in
+    let step = call_step m c.args.hart e c.make_call-made.new.self at (c.make_call-made.ensures.entry (stand_of (seen m)) at.place.at) after in
+    omega (arith, after.tied.all_harts, at.lt)
+
+pub invariant_of-self : goal.invariant_of-self
+invariant_of-self c =
+    let m = c.self.inside in
+    let h = c.args.hart.0 in
+    let at = allowed_place m h asked.Exec c.requires.allowed.0 c.self.invariant (rw (← c.self.view_is) at c.requires.allowed.1) in
+    let plan = planned_call m h c.self.invariant at (rw (← c.self.view_is) at c.requires.call) (rw (← c.self.view_is) at c.requires.no_fault) in
+    let after = c.make_call-made.ensures.after (stand_of (seen m)) at.place.at plan in
+    let e = c.make_call-made.result.0 in
+    let step = call_step m c.args.hart e c.make_call-made.new.self at (c.make_call-made.ensures.entry (stand_of (seen m)) at.place.at) after in
+    let all : m.chosen ≡ true = c.self.invariant.chosen ∙ sym (all_of (setting_of m) m.seed m.log.items (rw (← c.self.view_is) at c.requires.chosen)) in
+    let sees : Some c.sight-seen.result ≡ seen_if m.chosen (setting_of m) m.seed h (past_of m) = rw all (ap Some (rw (← c.self.view_is) at c.sight-seen.ensures)) in
+    let p' : Parts = record c.make_call-made.new.self { harts = c.follow-self-inside.new.harts } in
+    let is = settled m c.args.hart asked.Exec e c.make_call-made.new.self p' (Some c.sight-seen.result) c.self.invariant at.goes at.room at.lt step after.credits sees c.follow-self-inside.ensures.harts refl refl refl in
+    record {
+      run = rw c.append.ensures.items step.run;
+      tied = rw c.append.ensures.items is.tied;
+      chosen = rw c.append.ensures.items (c.follow-self-inside.ensures.followed ∙ is.chosen);
+      credits = rw c.append.ensures.items is.credits;
+      generators = λ followed. rw (c.append.ensures.items, c.follow-self-inside.ensures.generators) (is.generators (sym c.follow-self-inside.ensures.followed ∙ followed));
+      held = ap length c.follow-self-inside.ensures.generators ∙ is.held;
+      limits = c.self.invariant.limits;
+      room = omega (arith, c.self.invariant.room, c.append.ensures.capacity);
+    }
+
+pub returns : goal.returns
+returns c =
+    let m = c.self.inside in
+    let h = c.args.hart.0 in
+    let at = allowed_place m h asked.Exec c.requires.allowed.0 c.self.invariant (rw (← c.self.view_is) at c.requires.allowed.1) in
+    let plan = planned_call m h c.self.invariant at (rw (← c.self.view_is) at c.requires.call) (rw (← c.self.view_is) at c.requires.no_fault) in
+    let after = c.make_call-made.ensures.after (stand_of (seen m)) at.place.at plan in
+    let step = call_step m c.args.hart c.make_call-made.result.0 c.make_call-made.new.self at (c.make_call-made.ensures.entry (stand_of (seen m)) at.place.at) after in
+    record {
+      answer = rw (← c.self.view_is) step.decided;
+      log = search rules;
+      block_run = rw c.append.ensures.items step.run;
+      written = rw (← c.self.view_is) (c.make_call-made.ensures.written (stand_of (seen m)) at.place.at plan
+          ∙ ap (λ (x : Here). (done_of asked.Exec x).entered) (same_here (seen m) h c.self.invariant.run));
+    }
+
+pub follow-self-inside-requires-clause-hart : goal.follow-self-inside-requires-clause-hart
+follow-self-inside-requires-clause-hart c =
+    let at = allowed_place c.self.inside c.args.hart.0 asked.Exec c.requires.allowed.0 c.self.invariant (rw (← c.self.view_is) at c.requires.allowed.1) in
+    omega (arith, at.lt, c.self.invariant.limits.eight_harts)

@@ -1,0 +1,232 @@
+-- Stores of instructions that enter memory: one, none, and several, one after the other; and a process beside them.
+use Rattle.std.proofs.Common.{◌≡◌, ℕ, ◌+◌, ◌<◌, ◌≤◌, ◌++◌, ◌/◌, ◌||◌, Bool, true, false, cond, inl, inr, List, [], ◌∷◌, length, drop, append_assoc, append-nil, Option, Some, None, IfSome, slice_get, refl, sym, ap, ◌∙◌, subst, arith}
+use Rattle.std.proofs.Math.Path.{fun_ext}
+use Rattle.std.specs.List.{AllByRecursion, filter}
+use Rattle.std.proofs.lemmas.Bool.{cases_lt}
+use Rattle.mach_types.specs.Bytes.{IsAccessSize, after_write, all_stored, byte_over, each_byte, written}
+use Rattle.mach_types.specs.Kernel.Pages.{can_read, can_write}
+use Rattle.mach_types.specs.declared.user_memory.Store.{Store}
+use Rattle.mach_types.specs.declared.user_memory.Write.{Write}
+use Rattle.mach_types.specs.declared.user_memory.Write.TheVariants.{Stored}
+use Rattle.block_model.specs.Beside.{is_in_segment}
+use Rattle.block_model.specs.Here.{Done}
+use Rattle.block_model.specs.History.{lost_after}
+use Rattle.block_model.specs.Plain.{Plain}
+use Rattle.block_model.specs.Setting.{Setting}
+use Rattle.block_model.specs.Stands.{aside}
+use Rattle.page_map.specs.Map.{IsAlike, Map, can_write_in, may_write, permission_in}
+use Rattle.page_map.specs.Mapping.{IsGap}
+use Rattle.page_map.proofs.Laws.{over-high, over-low}
+use Rattle.process.specs.Refinement.{IsReadable, IsTied}
+use Rattle.process.specs.declared.parts.Parts.{Parts}
+use Rattle.process.proofs.PairLaws as losses
+use Rattle.sys_calls.specs.Made.{HoldsPages}
+use Rattle.shared_procs.specs.Entering.{AreEntering, AreStorable, HaveEntered, HaveLost, HoldsShared}
+use Rattle.shared_procs.specs.Pairs.{is_shared}
+use Rattle.shared_procs.specs.Segments.{lies_within, reached_in, shared_in, storable_in}
+use Rattle.shared_procs.proofs.PairWrites.{pages_beside, pages_on, shared_stored}
+use Rattle.shared_procs.proofs.Segments.{bytes_inside, outside}
+use Rattle.shared_procs.proofs.TiedAlike.{quiet_done, quietly_aside}
+use Rattle.shared_procs.proofs.Windows.{few_bytes, not_inside, writable_outside}
+
+-- LISTS OF STORES
+
+pub written_app : (ws vs : List Write) (a b : ℕ) → written vs a (written ws a b) ≡ written (ws ++ vs) a b
+written_app [] vs a b = refl
+written_app (w ∷ ws) vs a b = written_app ws vs a _
+
+pub stored_app : (ss ts : List Store) → all_stored (ss ++ ts) ≡ all_stored ss ++ all_stored ts
+stored_app [] ts = refl
+stored_app (s ∷ ss) ts = ap (λ (ws : List Write). Stored s ∷ ws) (stored_app ss ts)
+
+one_shared : (b : Bool) (w : Write) (us vs both : List Write) → both ≡ us ++ vs → cond b (w ∷ both) both ≡ cond b (w ∷ us) us ++ vs
+one_shared true w us vs both is = ap (λ (ws : List Write). w ∷ ws) is
+one_shared false w us vs both is = is
+
+pub shared_both : (ws vs : List Write) → filter is_shared (ws ++ vs) ≡ filter is_shared ws ++ filter is_shared vs
+shared_both [] vs = refl
+shared_both (w ∷ ws) vs = one_shared (is_shared w) w (filter is_shared ws) (filter is_shared vs) (filter is_shared (ws ++ vs)) (shared_both ws vs)
+
+pub shared_app : (ss ts : List Store) → filter is_shared (all_stored (ss ++ ts)) ≡ filter is_shared (all_stored ss) ++ filter is_shared (all_stored ts)
+shared_app ss ts = ap (filter is_shared) (stored_app ss ts) ∙ shared_both (all_stored ss) (all_stored ts)
+
+-- WHAT ENTERED MEMORY
+
+-- none
+pub entered_none : (m : Map) (segment : List ℕ) → HaveEntered [] m segment m segment
+entered_none m segment = record { pages = λ ps lowest byte holds. holds; shared = λ shared holds. holds; permissions = λ n. refl }
+
+-- some, and others behind them
+pub entered_app : (ss ts : List Store) (m m1 m2 : Map) (segment segment1 segment2 : List ℕ) → HaveEntered ss m segment m1 segment1
+    → HaveEntered ts m1 segment1 m2 segment2 → HaveEntered (ss ++ ts) m segment m2 segment2
+entered_app ss ts m m1 m2 segment segment1 segment2 first then = record {
+  pages = λ ps lowest byte holds.
+      subst (λ (b : ℕ → ℕ). HoldsPages ps lowest b m2)
+      (fun_ext (λ a.
+      written_app (all_stored ss) (all_stored ts) a (byte a)
+      ∙ ap (λ (ws : List Write). written ws a (byte a)) (sym (stored_app ss ts))))
+      (then.pages ps lowest (λ a. written (all_stored ss) a (byte a)) (first.pages ps lowest byte holds));
+  shared = λ shared holds a is.
+      then.shared (λ b. written (filter is_shared (all_stored ss)) b (shared b)) (first.shared shared holds) a is
+      ∙ written_app (filter is_shared (all_stored ss)) (filter is_shared (all_stored ts)) a (shared a)
+      ∙ ap (λ (ws : List Write). written ws a (shared a)) (sym (shared_app ss ts));
+  permissions = λ n. then.permissions n ∙ first.permissions n;
+}
+
+-- one
+some_bytes : (n : ℕ) → IsAccessSize n → 0 < n
+some_bytes n (inl e) = omega arith
+some_bytes n (inr (inl e)) = omega arith
+some_bytes n (inr (inr (inl e))) = omega arith
+some_bytes n (inr (inr (inr e))) = omega arith
+
+untouched : (w : Store) (a below : ℕ) → (w.at ≤ a → a < w.at + w.size → ⊥) → byte_over w a below ≡ below
+untouched w a below not =
+    elim (cases_lt a w.at) [
+      | inl low ↦ over-low w.at w.size w.value a below low
+      | inr from ↦
+          elim (cases_lt a (w.at + w.size)) [
+            | inl to ↦ absurd (not from to)
+            | inr high ↦ over-high w.at w.size w.value a below high
+          ]
+    ]
+
+module _ (m m' : Map) (segment segment' : List ℕ) (w : Store) (size : IsAccessSize w.size)
+    (storable : each_byte (storable_in m) w.at w.size ≡ true) (gap : (n : ℕ) → IsGap n → permission_in m n ≡ None) (alike : IsAlike m m')
+    (bytes : (a : ℕ) → reached_in segment' m' a ≡ after_write true w (reached_in segment m) a)
+  where
+    abbrev seen : Bool → (ℕ → ℕ) → ℕ → ℕ
+    seen b shared a = written (cond b (Stored w ∷ []) []) a (shared a)
+
+    inside : lies_within w.at w.size ≡ true → HaveEntered (w ∷ []) m segment m' segment'
+    inside within =
+        let positive = some_bytes w.size size in
+        let start : w.at + 0 ≡ w.at = omega arith in
+        let first : is_in_segment w.at ≡ true = ap is_in_segment (sym start) ∙ bytes_inside w.at w.size 0 within positive in
+        record {
+          pages = λ ps lowest byte holds. pages_beside segment segment' m m' w alike gap bytes ps lowest byte holds within;
+          shared = λ shared holds a is.
+              shared_stored segment segment' m m' w alike gap bytes shared holds a is ∙ ap (λ b. seen b shared a) (sym first);
+          permissions = alike.permissions;
+        }
+
+    beside : lies_within w.at w.size ≡ false → HaveEntered (w ∷ []) m segment m' segment'
+    beside without =
+        let positive = some_bytes w.size size in
+        let out = outside w.at w.size (few_bytes w.size size) without in
+        let may : each_byte (can_write_in m) w.at w.size ≡ true = writable_outside m gap w.at w.size out ∙ storable in
+        let none : is_in_segment w.at ≡ true → ⊥ =
+        λ is. not_inside m gap w.at w.size w.at out may is (omega arith) (omega arith) in
+        record {
+          pages = λ ps lowest byte holds. pages_on segment segment' m m' w alike gap bytes ps lowest byte holds may;
+          shared = λ shared holds a is.
+              shared_stored segment segment' m m' w alike gap bytes shared holds a is
+              ∙ untouched w a (shared a) (λ from to. not_inside m gap w.at w.size a out may is from to)
+              ∙ ap (λ b. seen b shared a) (sym (is_not (is_in_segment w.at) none));
+          permissions = alike.permissions;
+        }
+      where
+        is_not : (b : Bool) → (b ≡ true → ⊥) → b ≡ false
+        is_not true never = absurd (never refl)
+        is_not false never = refl
+
+    pub one_entered : HaveEntered (w ∷ []) m segment m' segment'
+    one_entered = by (lies_within w.at w.size) refl
+      where
+        by : (b : Bool) → lies_within w.at w.size ≡ b → HaveEntered (w ∷ []) m segment m' segment'
+        by true is = inside is
+        by false is = beside is
+
+-- WHAT MAY STILL ENTER
+
+storable_same : (m m' : Map) → ((n : ℕ) → permission_in m' n ≡ permission_in m n) → storable_in m' ≡ storable_in m
+storable_same m m' same =
+    let storable_by : (ℕ → Option ℕ) → ℕ → Bool = λ permission a. is_in_segment a || may_write (permission (a / 4096)) in
+    ap storable_by (fun_ext same)
+
+pub storable_kept : (m m' : Map) (ws : List Store) → ((n : ℕ) → permission_in m' n ≡ permission_in m n) → AreStorable m ws → AreStorable m' ws
+storable_kept m m' ws same may =
+    subst (λ (can : ℕ → Bool). AllByRecursion (λ (w : Store). each_byte can w.at w.size ≡ true) ws) (sym (storable_same m m' same)) may
+
+pub readable_kept : (m m' : Map) → ((n : ℕ) → permission_in m' n ≡ permission_in m n) → IsReadable m → IsReadable m'
+readable_kept m m' same readable n may = ap can_read (same n) ∙ readable n (sym (ap can_write (same n)) ∙ may)
+
+-- the oldest of stores that may
+pub oldest_may : (m : Map) (ws : List Store) (o : Option Store) → AreStorable m ws → o ≡ slice_get ws 0
+    → IfSome o (λ w. each_byte (storable_in m) w.at w.size ≡ true)
+oldest_may m ws o may is = subst (λ (q : Option Store). IfSome q (λ w. each_byte (storable_in m) w.at w.size ≡ true)) (sym is) (go ws may)
+  where
+    go : (ws : List Store) → AreStorable m ws → IfSome (slice_get ws 0) (λ w. each_byte (storable_in m) w.at w.size ≡ true)
+    go [] may = tt
+    go (w ∷ ws) may = may.0
+
+-- A PROCESS BESIDE THEM
+
+-- one that sees them where they lie in the segment
+pub lost_shown : (h : ℕ) (ws : List Store) (other other' : Parts)
+    → ((s : Setting) (y : Plain) (d : Done) → IsTied s y other → d.took ≡ false → d.barrier ≡ None
+    → IsTied s (aside h d (filter is_shared (all_stored ws)) y) other')
+    → HaveLost ws other other'
+lost_shown h ws other other' shown s y tied =
+    quietly_aside s y other' h (filter is_shared (all_stored ws)) (shown s y (quiet_done y.kernel) tied refl refl)
+
+pub lost_app : (ss ts : List Store) (m m1 m2 : Parts) → HaveLost ss m m1 → HaveLost ts m1 m2 → HaveLost (ss ++ ts) m m2
+lost_app ss ts m m1 m2 first then s y tied =
+    subst (λ (r : ℕ → Option ℕ). IsTied s (record y { reserved = r }) m2)
+    (fun_ext (λ k.
+    losses.lost_app (filter is_shared (all_stored ss)) (filter is_shared (all_stored ts)) (y.reserved k)
+    ∙ ap (λ (ws : List Write). lost_after ws (y.reserved k)) (sym (shared_app ss ts))))
+    (then s (record y { reserved = λ k. lost_after (filter is_shared (all_stored ss)) (y.reserved k) }) (first s y tied))
+
+-- ONE AFTER THE OTHER
+
+pub entering_start : (waited : List Store) (m : Map) (segment : List ℕ) (other : Parts) → AreStorable m waited
+    → AreEntering waited waited m segment other m segment other
+entering_start waited m segment other may = record {
+  gone = [];
+  all = refl;
+  entered = entered_none m segment;
+  lost = λ s y tied. tied;
+  storable = may;
+}
+
+pub first_may : (m : Map) (left : List Store) (w : Store) → AreStorable m left → Some w ≡ slice_get left 0 → each_byte (storable_in m) w.at w.size ≡ true
+first_may m [] w may at = cc
+first_may m (v ∷ left) w may at = let same : w ≡ v = cc in subst (λ (u : Store). each_byte (storable_in m) u.at u.size ≡ true) (sym same) may.0
+
+pub entering_more : (waited left : List Store) (w : Store) (m m1 m2 : Map) (segment segment1 segment2 : List ℕ) (other other1 other2 : Parts)
+    → AreEntering waited left m segment other m1 segment1 other1 → Some w ≡ slice_get left 0
+    → HaveEntered (w ∷ []) m1 segment1 m2 segment2 → HaveLost (w ∷ []) other1 other2
+    → AreEntering waited (drop 1 left) m segment other m2 segment2 other2
+entering_more waited [] w m m1 m2 segment segment1 segment2 other other1 other2 so at entered lost = cc
+entering_more waited (v ∷ left) w m m1 m2 segment segment1 segment2 other other1 other2 so at entered lost =
+    let same : w ≡ v = cc in
+    record {
+      gone = so.gone ++ w ∷ [];
+      all = append_assoc so.gone (w ∷ []) left ∙ ap (λ (u : Store). so.gone ++ (u ∷ left)) same ∙ so.all;
+      entered = entered_app so.gone (w ∷ []) m m1 m2 segment segment1 segment2 so.entered entered;
+      lost = lost_app so.gone (w ∷ []) other other1 other2 so.lost lost;
+      storable = storable_kept m1 m2 left entered.permissions so.storable.1;
+    }
+
+pub fewer_left : (left : List Store) (w : Store) → Some w ≡ slice_get left 0 → length (drop 1 left) < length left
+fewer_left [] w at = cc
+fewer_left (v ∷ left) w at = omega arith
+
+pub none_left : (left : List Store) → None ≡ slice_get left 0 → left ≡ []
+none_left [] at = refl
+none_left (v ∷ left) at = cc
+
+-- until none is left
+pub record HaveLeft (waited : List Store) (m : Map) (segment : List ℕ) (other : Parts) (m' : Map) (segment' : List ℕ) (other' : Parts) : Type 0 where
+  pub entered : HaveEntered waited m segment m' segment'
+  pub lost : HaveLost waited other other'
+
+pub entering_end : (waited left : List Store) (m m' : Map) (segment segment' : List ℕ) (other other' : Parts)
+    → AreEntering waited left m segment other m' segment' other' → None ≡ slice_get left 0 → HaveLeft waited m segment other m' segment' other'
+entering_end waited left m m' segment segment' other other' so at =
+    let all : so.gone ≡ waited = sym (append-nil so.gone) ∙ ap (λ (ws : List Store). so.gone ++ ws) (sym (none_left left at)) ∙ so.all in
+    record {
+      entered = subst (λ (ws : List Store). HaveEntered ws m segment m' segment') all so.entered;
+      lost = subst (λ (ws : List Store). HaveLost ws other other') all so.lost;
+    }

@@ -1,0 +1,65 @@
+-- Memory as the instructions of a process of a pair reach it, where the process is kept as at a place; and the pages of the segment.
+use Rattle.std.proofs.Common.{◌≡◌, ℕ, ◌+◌, ◌/◌, ◌<◌, ◌≤◌, ◌&&◌, ◌||◌, Bool, true, false, cond, inl, inr, List, Option, Some, arith, refl, sym, ap, ◌∙◌, subst}
+use Rattle.std.proofs.Math.Path.{fun_ext}
+use Rattle.std.specs.List.{AllByRecursion}
+use Rattle.std.proofs.lemmas.Bool.{cases_lt, lt-ltb, le-ltb, lt-leb, le-leb}
+use Rattle.mach_types.specs.Bytes.{each_byte}
+use Rattle.mach_types.specs.declared.user_memory.Store.{Store}
+use Rattle.block_model.specs.Beside.{Neighbour, SEGMENT_AT, SEGMENT_SIZE, is_in_segment}
+use Rattle.block_model.specs.Here.{is_storable, memory, reached}
+use Rattle.page_map.specs.Map.{byte_in}
+use Rattle.process.specs.ExecGates.{AreOfSegment}
+use Rattle.process.proofs.Laws.{bytes_held, writable_held}
+use Rattle.shared_procs.specs.Entering.{AreStorable}
+use Rattle.shared_procs.specs.PairPlaces.{IsActing}
+use Rattle.shared_procs.specs.Pairs.{Pair, PairSetting, half, here_two, setting}
+use Rattle.shared_procs.specs.Segments.{reached_in, shared_in, storable_in}
+use Rattle.shared_procs.specs.declared.half.Half.{Half}
+
+module _ (s : PairSetting) (m : Pair) (p : Bool) (h : ℕ) (mine : Half) (segment : List ℕ) (acting : IsActing s m p h mine segment) where
+  pub reached_is : reached_in segment mine.parts.pages ≡ reached (here_two s m p h)
+  reached_is = fun_ext (λ a. by a (is_in_segment a) refl)
+    where
+      by : (a : ℕ) (inside : Bool) → is_in_segment a ≡ inside
+          → cond inside (Some (shared_in segment a)) (byte_in mine.parts.pages a) ≡ cond inside (Some (m.shared a)) (memory (here_two s m p h) a)
+      by a true is = ap Some (acting.holds a is)
+      by a false is =
+          ap (λ (byte : ℕ → Option ℕ). byte a)
+          (bytes_held (half p m).kernel (setting s p).program.break_at (half p m).byte mine.parts.pages acting.place.tied.pages)
+
+  pub storable_is : storable_in mine.parts.pages ≡ is_storable (here_two s m p h)
+  storable_is =
+      let storable_by : (ℕ → Bool) → ℕ → Bool = λ writable a. is_in_segment a || writable a in
+      ap storable_by
+      (writable_held (half p m).kernel (setting s p).program.break_at (half p m).byte mine.parts.pages acting.place.tied.pages acting.place.tied.readable)
+
+-- the segment lies on 16 pages
+pub segment_pages : (o : Neighbour) → AreOfSegment (Some o) (record { first = 0x3FFFF80; count = 16 })
+segment_pages o a =
+    elim (cases_lt a SEGMENT_AT) [
+      | inl low ↦ rw (lt-leb SEGMENT_AT a low, lt-leb 0x3FFFF80 (a / 4096) (omega arith)) refl
+      | inr from ↦
+          elim (cases_lt a (SEGMENT_AT + SEGMENT_SIZE)) [
+            | inl inside ↦
+                rw (
+                  le-leb SEGMENT_AT a from,
+                  lt-ltb a (SEGMENT_AT + SEGMENT_SIZE) inside,
+                  le-leb 0x3FFFF80 (a / 4096) (omega arith),
+                  lt-ltb (a / 4096) (0x3FFFF80 + 16) (omega arith),
+                ) refl
+            | inr past ↦
+                rw (
+                  le-leb SEGMENT_AT a from,
+                  le-ltb a (SEGMENT_AT + SEGMENT_SIZE) past,
+                  le-leb 0x3FFFF80 (a / 4096) (omega arith),
+                  le-ltb (a / 4096) (0x3FFFF80 + 16) (omega arith),
+                ) refl
+          ]
+    ]
+
+-- what waits on a hart may enter memory
+pub waiting_may : (s : PairSetting) (m : Pair) (p : Bool) (h : ℕ) (mine : Half) (segment : List ℕ) → IsActing s m p h mine segment → (k : ℕ)
+    → AreStorable mine.parts.pages ((half p m).waiting k)
+waiting_may s m p h mine segment acting k =
+    subst (λ (test : ℕ → Bool). AllByRecursion (λ (w : Store). each_byte test w.at w.size ≡ true) ((half p m).waiting k))
+    (sym (storable_is s m p h mine segment acting)) ((acting.place.stands.good h acting.place.lt).within k)

@@ -1,0 +1,16 @@
+-- So far the harts before this one hold nothing.
+use Rattle.std.proofs.Common.{◌≡◌, ℕ, Bool, length}
+use Rattle.block_model.specs.Plain.{Plain}
+use Rattle.shared_procs.specs.Entering.{MayEmpty}
+use Rattle.shared_procs.specs.PairPlaces.{AreEmptied}
+use Rattle.shared_procs.specs.Pairs.{PairSetting}
+use Rattle.shared_procs.proofs.ending.empty_all.Given as goal
+
+abbrev pub invariant-loop-hart : goal.invariant-loop-hart
+invariant-loop-hart l = record {
+  emptied : (s : PairSetting) (p : Bool) (x y : Plain) (shared : ℕ → ℕ)
+      → AreEmptied s p 0 x y shared l.fn.mine l.fn.other l.fn.segment
+      → AreEmptied s p l.hart x y shared l.mine l.other l.segment;
+  may : MayEmpty l.mine;
+  harts : length l.mine.harts.items ≡ length l.fn.mine.harts.items;
+}

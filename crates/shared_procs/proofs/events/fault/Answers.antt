@@ -1,0 +1,37 @@
+-- A fault is seen by nobody but its thread.
+use Rattle.std.proofs.Common.{List, not, sym, ap}
+use Rattle.std.specs.List.{filter}
+use Rattle.block_model.specs.Events.{done_of}
+use Rattle.mach_types.specs.declared.events.Choice.TheVariants as asked
+use Rattle.mach_types.specs.declared.user_memory.Write.{Write}
+use Rattle.shared_procs.specs.Pairs.{half, here_two, is_shared, setting, stand}
+use Rattle.process.proofs.PairLaws.{eighth}
+use Rattle.shared_procs.proofs.PairEvents.{unshared}
+use Rattle.shared_procs.proofs.PairInstructions.{fault_planned}
+use Rattle.shared_procs.proofs.PassedEvents.{fault_quiet}
+use Rattle.shared_procs.proofs.events.fault.Goals as goal
+
+pub fault-requires : goal.fault-requires
+fault-requires c =
+    let has = c.requires.1 in (
+      c.requires.0,
+      record {
+        stand = stand has.setting has.pair has.process;
+        place = has.step.place;
+        plan = fault_planned has.setting has.pair has.process c.args.hart.0 c.requires.0 c.args.signal c.args.mine.now c.args.other.now has.step;
+      },
+    )
+
+pub unseen-requires : goal.unseen-requires
+unseen-requires c =
+    let has = c.requires.1 in
+    eighth (stand has.setting has.pair has.process) c.args.mine.now c.args.hart.0 has.step.place
+
+pub returns : goal.returns
+returns c effect s m p step =
+    let h = c.args.hart.0 in
+    let quiet = fault_quiet (here_two s m p h) step.thread c.args.signal step.at (sym step.fault) in
+    unshared s m p h (done_of asked.Exec (here_two s m p h)) c.args.mine.now c.fault.new.self c.unseen.new.other
+    (c.fault.ensures effect (stand s m p) step.place (fault_planned s m p h effect c.args.signal c.args.mine.now c.args.other.now step))
+    (ap (λ (ws : List Write). filter is_shared ws) quiet.none_written)
+    (c.unseen.ensures (setting s (not p)) (half (not p) m) (done_of asked.Exec (here_two s m p h)) step.beside quiet.untaken quiet.none_begun)

@@ -1,0 +1,100 @@
+-- An instruction over the pages and the segment.
+use Rattle.std.proofs.Common.{◌≡◌, ◌+◌, not, List, set, eqb, slice_get, option_map, arith, refl, sym, ap, ◌∙◌, subst}
+use Rattle.std.specs.List.{filter}
+use Rattle.mach_types.specs.Bytes.{all_stored}
+use Rattle.mach_types.specs.declared.events.Choice.TheVariants as asked
+use Rattle.mach_types.specs.declared.user_memory.Store.{Store}
+use Rattle.rv_inst.specs.Execution.{Outcome}
+use Rattle.hart_state.specs.State.{hart_after, stores}
+use Rattle.hart_state.specs.declared.hart.HartState.{HartState}
+use Rattle.block_model.specs.Events.Exec.{by_outcome}
+use Rattle.block_model.specs.Stands.{aside}
+use Rattle.process.specs.Harts.{counted}
+use Rattle.process.specs.Refinement.{IsTied}
+use Rattle.process.specs.Reservations.{lost_unless}
+use Rattle.process.proofs.Laws.{in_list, plain_own, runs_there, saved_plain}
+use Rattle.process.proofs.PairLaws.{eighth, no_call, quietly, ran_fits}
+use Rattle.shared_procs.specs.Entering.{HaveEntered}
+use Rattle.shared_procs.specs.Pairs.{half, here_two, is_shared, setting, stand}
+use Rattle.shared_procs.proofs.Entered.{readable_kept}
+use Rattle.shared_procs.proofs.PairEvents.{made_as}
+use Rattle.shared_procs.proofs.PairInstructions.{makes_no_fault, may_execute, performing}
+use Rattle.shared_procs.proofs.events.plain.Goals as goal
+
+pub index_mut-state-requires : goal.index_mut-state-requires
+index_mut-state-requires c =
+    let its = c.requires.next in
+    let v = stand its.setting its.pair its.process in
+    omega (arith, in_list v c.args.mine.now.parts c.args.hart.0 its.acting.place, c.args.mine.now.parts.harts.ok.0)
+
+pub execute-made-requires-clause-sizes : goal.execute-made-requires-clause-sizes
+execute-made-requires-clause-sizes c = c.requires.next.step.sizes
+
+pub execute-made-requires-clause-allowed : goal.execute-made-requires-clause-allowed
+execute-made-requires-clause-allowed c =
+    let its = c.requires.next in
+    may_execute its.setting its.pair its.process c.args.hart.0 c.args.mine.now c.args.segment.now c.args.other.now.parts c.index_mut-state.result.now c.args.effect.now its.acting its.step
+    c.index_mut-state.ensures.value
+
+pub execute-made-requires-clause-no_fault : goal.execute-made-requires-clause-no_fault
+execute-made-requires-clause-no_fault c =
+    let its = c.requires.next in
+    makes_no_fault its.setting its.pair its.process c.args.hart.0 c.args.mine.now c.args.segment.now c.args.other.now.parts c.index_mut-state.result.now c.args.effect.now its.acting its.step
+    c.index_mut-state.ensures.value
+
+pub execute-made-requires-clause-no_call : goal.execute-made-requires-clause-no_call
+execute-made-requires-clause-no_call c = no_call c.args.effect.now c.requires.no_call
+
+pub overflow_add-state : goal.overflow_add-state
+overflow_add-state c =
+    let its = c.requires.next in
+    let few = ran_fits (stand its.setting its.pair its.process) c.args.mine.now.parts c.args.hart.0 c.index_mut-state.result.now its.acting.place c.index_mut-state.ensures.value in
+    let same : c.execute-made.new.self.ran ≡ c.index_mut-state.result.now.ran = ap (λ (z : HartState). z.ran) c.execute-made.ensures.hart in
+    omega (arith, few, same)
+
+pub tell-requires : goal.tell-requires
+tell-requires c =
+    let its = c.requires.next in
+    eighth (stand its.setting its.pair its.process) c.args.mine.now.parts c.args.hart.0 its.acting.place
+
+pub returns : goal.returns
+returns c s m p acting step =
+    let h = c.args.hart.0 in
+    let mine = c.args.mine.now in
+    let other = c.args.other.now in
+    let segment = c.args.segment.now in
+    let v = stand s m p in
+    let q = half p m in
+    let place = acting.place in
+    let t = step.thread in
+    let x = c.index_mut-state.result.now in
+    let is = performing s m p h mine segment other.parts x c.args.effect.now acting step c.index_mut-state.ensures.value c.requires.no_call in
+    let d = by_outcome (here_two s m p h) t is.outcome in
+    let made : stores c.execute-made.result ≡ is.outcome.entered = sym c.execute-made.ensures.entered ∙ ap (λ (o : Outcome). o.entered) is.same in
+    let entered : HaveEntered is.outcome.entered mine.parts.pages segment c.enter.new.pages c.enter.new.segment =
+    subst (λ (ws : List Store). HaveEntered ws mine.parts.pages segment c.enter.new.pages c.enter.new.segment) made c.enter.ensures in
+    let y : HartState = record c.execute-made.new.self { ran = c.execute-made.new.self.ran + 1 } in
+    made_as s m p h asked.Exec d mine other _ _ _ y place step.free is.done
+    (record {
+      own =
+          plain_own _ v.setting q h t is.outcome x (counted y) is.own step.at
+          (ap (λ (z : HartState). record z { ran = z.ran + 1; events = z.events + 1 }) (c.execute-made.ensures.hart ∙ ap (hart_after x) is.same));
+      harts =
+          quietly h d (set mine.parts.harts.items h y) c.tell.new.mine.harts.items (record { none_begun = refl; none_taken = refl })
+          (λ k.
+          c.tell.ensures.harts k
+          ∙ ap (λ (ws : List Store). option_map (lost_unless (eqb k h) (all_stored ws)) (slice_get (set mine.parts.harts.items h y) k)) made);
+      pages = rw c.tell.ensures.pages (entered.pages q.kernel.pages (setting s p).program.break_at q.byte place.tied.pages);
+      readable = rw c.tell.ensures.pages (readable_kept mine.parts.pages c.enter.new.pages entered.permissions place.tied.readable);
+      tables = rw c.tell.ensures.kernel place.tied.tables;
+      ids = λ k u ne runs. refl;
+      table = rw c.tell.ensures.kernel place.tied.table;
+      saved =
+          rw c.tell.ensures.kernel
+          (saved_plain q.file t (record { file = is.outcome.regs; pc = is.outcome.pc }) c.args.hart mine.parts.kernel.threads place.tied.table
+          (runs_there v mine.parts c.args.hart t place step.at) place.tied.saved);
+      ended = c.tell.ensures.ended ∙ is.ended;
+    })
+    (subst (λ (ws : List Store). IsTied (setting s (not p)) (aside h d (filter is_shared (all_stored ws)) (half (not p) m)) c.tell.new.other) made
+    (c.tell.ensures.other (setting s (not p)) (half (not p) m) d step.beside refl refl))
+    (entered.shared m.shared acting.holds) refl refl

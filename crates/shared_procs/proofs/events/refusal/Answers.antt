@@ -1,0 +1,30 @@
+-- The first condition of a choice of a process that fails.
+use Rattle.std.proofs.Common.{sym, ap, ◌∙◌, subst}
+use Rattle.mach_types.specs.declared.events.Choice.{Choice}
+use Rattle.block_model.specs.Events.{refusal_of}
+use Rattle.process.proofs.Laws.{in_list}
+use Rattle.process.specs.Refinement.{IsTied}
+use Rattle.shared_procs.specs.Pairs.{half, here_two, neighbour, setting, stand}
+use Rattle.shared_procs.specs.declared.half.Half.{Half}
+use Rattle.shared_procs.proofs.PairMemory.{segment_pages}
+use Rattle.shared_procs.proofs.events.refusal.Goals as goal
+
+pub exec_gate_beside-requires-clause-listed : goal.exec_gate_beside-requires-clause-listed
+exec_gate_beside-requires-clause-listed c =
+    rw c.next_instruction-next.ensures.mine
+    (in_list (stand c.requires.setting c.requires.pair c.requires.process) c.args.mine.now.parts c.args.hart.0 c.requires.acting.place)
+
+pub refusal_unless_exec-requires-clause-place : goal.refusal_unless_exec-requires-clause-place
+refusal_unless_exec-requires-clause-place c = record {
+  stand = stand c.requires.setting c.requires.pair c.requires.process;
+  place = c.requires.acting.place;
+}
+
+pub returns-in-Exec-clause-why : goal.returns-in-Exec-clause-why
+returns-in-Exec-clause-why c s m p acting =
+    let tied = subst (λ (x : Half). IsTied (setting s p) (half p m) x.parts) (sym c.next_instruction-next.ensures.mine) acting.place.tied in
+    c.exec_gate_beside.ensures (stand s m p) tied acting.place.lt (segment_pages (neighbour s m p)) (c.next_instruction-next.ensures.next s m p acting)
+    ∙ ap (λ (choice : Choice). refusal_of choice (here_two s m p c.args.hart.0)) (sym c.in-Exec.is)
+
+pub returns-in_default-clause-why : goal.returns-in_default-clause-why
+returns-in_default-clause-why c s m p acting = c.refusal_unless_exec.ensures (stand s m p) acting.place

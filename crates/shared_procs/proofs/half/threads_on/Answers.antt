@@ -1,0 +1,12 @@
+use Rattle.std.proofs.Common.{List, ap, ◌∙◌}
+use Rattle.mach_types.specs.Kernel.Barriers.{harts_that}
+use Rattle.hart_state.specs.declared.hart.HartState.{HartState}
+use Rattle.process.specs.Barriers.{is_busy}
+use Rattle.process.proofs.PairLaws.{running_tied}
+use Rattle.shared_procs.proofs.half.threads_on.Goals as goal
+
+pub returns : goal.returns
+returns c s p tied few =
+    c.running_harts.ensures
+    ∙ ap (λ (xs : List HartState). harts_that (is_busy xs) 8) c.deref.ensures.value
+    ∙ running_tied s p c.args.parts.now tied few

@@ -1,0 +1,44 @@
+-- rseq(2) is refused.
+use Rattle.std.proofs.Common.{not, ap}
+use Rattle.mach_types.specs.declared.errors.TheConstants.{ENOSYS}
+use Rattle.mach_types.specs.declared.events.Choice.TheVariants as asked
+use Rattle.std.specs.List.{filter}
+use Rattle.block_model.specs.Calls.Answers.{refused}
+use Rattle.block_model.specs.Events.{done_of}
+use Rattle.block_model.specs.Here.{Done}
+use Rattle.shared_procs.specs.Pairs.{half, here_two, is_shared, setting, stand}
+use Rattle.process.proofs.PairLaws.{eighth}
+use Rattle.shared_procs.proofs.PairCalls.{rseq_called}
+use Rattle.shared_procs.proofs.PairEvents.{unshared}
+use Rattle.shared_procs.proofs.pair_calls.refuse_rseq.Goals as goal
+
+pub finish_call-requires : goal.finish_call-requires
+finish_call-requires c =
+    let has = c.requires.step in
+    record {
+      stand = stand has.setting has.pair has.process;
+      before = c.args.mine.now;
+      done = refused (here_two has.setting has.pair has.process c.args.hart.0) has.step.thread ENOSYS;
+      called =
+          rseq_called has.setting has.pair has.process c.args.hart c.args.mine.now c.args.other.now has.step c.requires.number c.index.result.now c.saved_of-saved.result
+          c.go_on-end.new.saved c.go_on-end.result c.index.ensures c.saved_of-saved.ensures c.go_on-end.ensures.saved c.go_on-end.ensures.stays c.go_on-end.ensures.runs_on
+          c.go_on-end.ensures.waits_in_none c.go_on-end.ensures.ends c.go_on-end.ensures.answer;
+    }
+
+pub unseen-requires : goal.unseen-requires
+unseen-requires c =
+    let has = c.requires.step in
+    eighth (stand has.setting has.pair has.process) c.args.mine.now c.args.hart.0 has.step.place
+
+pub returns : goal.returns
+returns c s m p step =
+    let h = c.args.hart.0 in
+    let d = done_of asked.Exec (here_two s m p h) in
+    let called =
+    rseq_called s m p c.args.hart c.args.mine.now c.args.other.now step c.requires.number c.index.result.now c.saved_of-saved.result c.go_on-end.new.saved
+    c.go_on-end.result c.index.ensures c.saved_of-saved.ensures c.go_on-end.ensures.saved c.go_on-end.ensures.stays c.go_on-end.ensures.runs_on
+    c.go_on-end.ensures.waits_in_none c.go_on-end.ensures.ends c.go_on-end.ensures.answer in
+    unshared s m p h d c.args.mine.now c.finish_call.new.self c.unseen.new.other
+    (c.finish_call.ensures (stand s m p) c.args.mine.now (refused (here_two s m p h) step.thread ENOSYS) called)
+    (ap (λ (e : Done). filter is_shared e.entered) called.done)
+    (c.unseen.ensures (setting s (not p)) (half (not p) m) d step.beside (ap (λ (e : Done). e.took) called.done) (ap (λ (e : Done). e.barrier) called.done))
