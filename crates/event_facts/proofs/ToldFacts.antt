@@ -16,6 +16,7 @@ use Rattle.block_model.specs.Events.Exec.{outcome_of}
 use Rattle.block_model.specs.Footprints.{bytes_of_all, have_byte}
 use Rattle.block_model.specs.Here.{Done, Here, memory, runs, view}
 use Rattle.block_model.specs.History.{Event, History, file, here_in_history}
+use Rattle.block_model.specs.PlainEvents.{is_plain}
 use Rattle.block_model.specs.Run.{IsBlockRun}
 use Rattle.block_model.specs.Setting.{Seen, Setting}
 use Rattle.block_model.proofs.Laws.{history-append}
@@ -53,7 +54,7 @@ pub memory_told : (s : Setting) (before : History) (h : ℕ) (o : Option Effect)
     → f3 ≡ f2 ++ entered_facts (memory (here_in_history s before h)) (line_behind (kept_on x h) line (drained_in deed)) [] (entered_in deed)
     → f4 ≡ f3 ++ own_facts o r r
     → f5 ≡ f4 ++ all_lost h before (entered_in deed) s.limits.harts
-    → f5 ≡ f0 ++ memory_facts s before h o (executed_in deed) (drained_in deed) (entered_in deed) (here_in_history s before h).reserved
+    → f5 ≡ f0 ++ memory_facts s before h true o (executed_in deed) (drained_in deed) (entered_in deed) (here_in_history s before h).reserved
 memory_told s before h o deed x line r f0 f1 f2 f3 f4 f5 tied lt line_is same p1 p2 p3 p4 p5 =
     let here = here_in_history s before h in
     five_pieces f0 f1 f2 f3 f4 f5 _ _ _ _ _
@@ -112,9 +113,10 @@ module _ (m m' : Seen) (entry : Entry) (run : IsBlockRun m.setting m.log) (decid
   instruction_facts : (e : Effect) (deed : Deed) (regs : Regs) → plain_event_of (choice_of entry) here ≡ Some (Instruction e) → IsDeedOf did deed
       → regs ≡ registers_on m entry.hart.0
       → facts_of m.setting before entry
-      ≡ memory_facts m.setting before entry.hart.0 (Some e) (executed_in deed) (drained_in deed) (entered_in deed) here.reserved ++ changed_facts entry (Instruction e) regs m'
+      ≡ memory_facts m.setting before entry.hart.0 true (Some e) (executed_in deed) (drained_in deed) (entered_in deed) here.reserved ++ changed_facts entry (Instruction e) regs m'
   instruction_facts e deed regs is its same =
       let x = executes (choice_of entry) here e is in
+      let plain : is_plain (choice_of entry) here ≡ true = ap (λ k. is_plain k here) x.choice ∙ x.plain in
       let o = outcome_of here x.thread e in
       let saved : Saved = record { file = o.regs; pc = o.pc } in
       let executed = sym its.executed in
@@ -123,10 +125,10 @@ module _ (m m' : Seen) (entry : Entry) (run : IsBlockRun m.setting m.log) (decid
       let earlier = sym (same ∙ ap (λ q. (file_on here q).file) x.on) in
       let later = sym (registers_after e x) in
       facts_here
-      ∙ (λ i. memory_facts m.setting before entry.hart.0 (x.by i) (executed i) (drained i) (entered i) did.reserved ++ files_facts here entry.tid.0 did.files)
-      ∙ ap (λ (d : Done). memory_facts m.setting before entry.hart.0 (Some e) (executed_in deed) (drained_in deed) (entered_in deed) here.reserved ++ files_facts here entry.tid.0 d.files)
+      ∙ (λ i. memory_facts m.setting before entry.hart.0 (plain i) (x.by i) (executed i) (drained i) (entered i) did.reserved ++ files_facts here entry.tid.0 did.files)
+      ∙ ap (λ (d : Done). memory_facts m.setting before entry.hart.0 true (Some e) (executed_in deed) (drained_in deed) (entered_in deed) here.reserved ++ files_facts here entry.tid.0 d.files)
       (instruction_done (choice_of entry) here e x)
-      ∙ ap (λ l. memory_facts m.setting before entry.hart.0 (Some e) (executed_in deed) (drained_in deed) (entered_in deed) here.reserved ++ l)
+      ∙ ap (λ l. memory_facts m.setting before entry.hart.0 true (Some e) (executed_in deed) (drained_in deed) (entered_in deed) here.reserved ++ l)
       (ap (λ t. files_facts here t ((x.thread, saved) ∷ [])) (thread_is e x)
       ∙ ap (λ b. register_facts (here.file x.thread).file (cond b saved (here.file x.thread)).file) (eqb_same x.thread)
       ∙ (λ i. register_facts (earlier i) (later i)))
@@ -134,21 +136,22 @@ module _ (m m' : Seen) (entry : Entry) (run : IsBlockRun m.setting m.log) (decid
   -- of a store that enters memory
   drain_facts : (w : Store) (deed : Deed) (regs : Regs) → plain_event_of (choice_of entry) here ≡ Some (Drain w) → IsDeedOf did deed
       → facts_of m.setting before entry
-      ≡ memory_facts m.setting before entry.hart.0 (effect_in (Drain w)) (executed_in deed) (drained_in deed) (entered_in deed) here.reserved ++ changed_facts entry (Drain w) regs m'
+      ≡ memory_facts m.setting before entry.hart.0 true (effect_in (Drain w)) (executed_in deed) (drained_in deed) (entered_in deed) here.reserved ++ changed_facts entry (Drain w) regs m'
   drain_facts w deed regs is its =
       let x = drains (choice_of entry) here w is in
+      let plain : is_plain (choice_of entry) here ≡ true = ap (λ k. is_plain k here) x.choice in
       let what = drain_done (choice_of entry) here w x in
       let executed = sym its.executed in
       let drained = sym its.drained in
       let entered = sym its.entered in
       let reserved = ap (λ (d : Done). d.reserved) what in
       let files = ap (λ (d : Done). files_facts here entry.tid.0 d.files) what ∙ none_changed (here.file entry.tid.0).file in
-      facts_here ∙ (λ i. memory_facts m.setting before entry.hart.0 (x.by i) (executed i) (drained i) (entered i) (reserved i) ++ files i)
+      facts_here ∙ (λ i. memory_facts m.setting before entry.hart.0 (plain i) (x.by i) (executed i) (drained i) (entered i) (reserved i) ++ files i)
 
   pub all_facts : (event : PlainEvent) (deed : Deed) (regs : Regs) → plain_event_of (choice_of entry) here ≡ Some event → IsDeedOf did deed
       → regs ≡ registers_on m entry.hart.0
       → facts_of m.setting before entry
-      ≡ memory_facts m.setting before entry.hart.0 (effect_in event) (executed_in deed) (drained_in deed) (entered_in deed) here.reserved ++ changed_facts entry event regs m'
+      ≡ memory_facts m.setting before entry.hart.0 true (effect_in event) (executed_in deed) (drained_in deed) (entered_in deed) here.reserved ++ changed_facts entry event regs m'
   all_facts (Instruction e) deed regs is its same = instruction_facts e deed regs is its same
   all_facts (Drain w) deed regs is its same = drain_facts w deed regs is its
 

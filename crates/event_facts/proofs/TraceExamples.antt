@@ -1,5 +1,5 @@
 -- Worked examples, proved by computation: what is told of each line of a log with system calls, of one with a fault, of one with two
--- threads, and of one with a signal.
+-- threads, of one with a signal, and of one with an area.
 use Rattle.std.proofs.Common.{◌≡◌, ℕ, ◌-◌, ◌^◌, List, [], ◌∷◌, ◌++◌, replicate, refl}
 use Rattle.mach_types.specs.Kernel.Areas.{are_readable, number_at}
 use Rattle.mach_types.specs.Kernel.Signals.{all_signals}
@@ -17,9 +17,10 @@ use Rattle.event_facts.specs.OtherRegisters.{other_registers}
 use Rattle.event_facts.specs.Pending.{signal_facts}
 use Rattle.event_facts.specs.Threads.{thread_facts}
 use Rattle.event_facts.specs.Trace.{trace_of}
+use Rattle.event_facts.specs.declared.areas.AreaField.TheVariants.{CpuIdStart, CpuId, NodeId, MmCid}
 use Rattle.event_facts.specs.declared.calls.SystemCall.{SystemCall}
 use Rattle.event_facts.specs.declared.facts.Fact.{Fact}
-use Rattle.event_facts.specs.declared.facts.Fact.TheVariants.{Register, Faulted, Called, Answered, Refused, NoAnswer, Interrupted, DeliveryKills, SignalPosted, ThreadChanged, ThreadRegister}
+use Rattle.event_facts.specs.declared.facts.Fact.TheVariants.{Register, KernelWrote, Faulted, Called, Answered, Refused, NoAnswer, Interrupted, DeliveryKills, SignalPosted, ThreadChanged, ThreadRegister, AreaWord}
 use Rattle.event_facts.specs.declared.faults.FaultWhy.TheVariants.{NotReadable}
 use Rattle.event_facts.specs.declared.interruptions.Interruption.TheVariants.{Nothing}
 use Rattle.event_facts.specs.declared.threads.ThreadChange.{ThreadChange}
@@ -137,3 +138,33 @@ signals_told : told (program sends) [] signal_log ≡
     ∷ []
 unfolding all_signals trace_of signal_facts thread_facts other_registers facts_of read_facts done end_of meaning row_of rows lui_rows auipc_rows jal_rows jalr_rows branch_rows load_rows store_rows op_imm_rows op_imm_32_rows op_rows op_32_rows misc_mem_rows amo_rows system_rows are_readable number_at
 signals_told = refl
+
+-- it registers the area at 0x20000 by rseq, which is call 293. It leaves its hart, and goes on on hart 1
+abbrev registers : List ℕ
+registers =
+    0x93 ∷ 0x08 ∷ 0x50 ∷ 0x12 ∷ 0x37 ∷ 0x05 ∷ 0x02 ∷ 0x00 ∷ 0x93 ∷ 0x05 ∷ 0x00 ∷ 0x02 ∷ 0x73 ∷ 0x00 ∷ 0x00 ∷ 0x00 ∷ []
+
+abbrev area_log : List Entry
+area_log =
+    by kind.Run 0x100B0 ∷ by kind.Exec 0x100B0 ∷ by kind.Exec 0x100B4 ∷ by kind.Exec 0x100B8 ∷ by kind.Exec 0x100BC ∷ by kind.Preempt 0x100C0
+    ∷ record { hart = record { 0 = 1 }; kind = kind.Run; tid = thread 1; pc = 0x100C0 } ∷ []
+
+-- the kernel's words of the area of a thread on a hart, which hold the id 0
+abbrev word : ℕ → ℕ → ℕ → Fact
+word line at value = KernelWrote (record { at = at; size = 4; value = value }) line
+
+abbrev words : ℕ → ℕ → List Fact
+words line hart = word line 0x20000 hart ∷ word line 0x20004 hart ∷ word line 0x20014 0 ∷ word line 0x20018 0 ∷ []
+
+areas_told : told (program registers) [] area_log ≡
+    (Interrupted Nothing ∷ became 1 Runs ∷ [])
+    ∷ (Register 17 293 ∷ [])
+    ∷ (Register 10 0x20000 ∷ [])
+    ∷ (Register 11 32 ∷ [])
+    ∷ (Called (record { number = 293; arguments = 0x20000 ∷ 32 ∷ 0 ∷ 0 ∷ 0 ∷ 0 ∷ [] }) ∷ Answered 0
+    ∷ AreaWord CpuIdStart 0 ∷ AreaWord CpuId 0 ∷ AreaWord NodeId 0 ∷ AreaWord MmCid 0 ∷ words 5 0 ++ Register 10 0 ∷ [])
+    ∷ (became 1 MadeReady ∷ [])
+    ∷ (Interrupted Nothing ∷ became 1 Runs ∷ AreaWord CpuIdStart 1 ∷ AreaWord CpuId 1 ∷ words 7 1)
+    ∷ []
+unfolding trace_of signal_facts thread_facts other_registers facts_of read_facts done end_of meaning row_of rows lui_rows auipc_rows jal_rows jalr_rows branch_rows load_rows store_rows op_imm_rows op_imm_32_rows op_rows op_32_rows misc_mem_rows amo_rows system_rows are_readable number_at
+areas_told = refl

@@ -28,7 +28,7 @@ use Rattle.event_facts.specs.Lines.{line_behind, next_line, waiting_on}
 use Rattle.event_facts.specs.Reservations.{all_lost, own_facts}
 use Rattle.event_facts.specs.Sources.{same_source, source_at}
 use Rattle.event_facts.specs.declared.facts.Fact.{Fact}
-use Rattle.event_facts.specs.declared.facts.Fact.TheVariants.{Read, Waits, Entered, Zeroed, Register}
+use Rattle.event_facts.specs.declared.facts.Fact.TheVariants.{Read, Waits, Entered, KernelWrote, Zeroed, Register}
 use Rattle.event_facts.specs.declared.facts.Source.{Source}
 
 -- READS
@@ -101,6 +101,15 @@ abbrev pub entered_facts : (ℕ → Option ℕ) → ℕ → List Write → List 
 entered_facts byte line earlier [] = []
 entered_facts byte line earlier (w ∷ ws) = entered_fact byte line earlier w ∷ entered_facts byte line (earlier ++ w ∷ []) ws
 
+-- a write of the kernel, in this line (own: without the number that stood there)
+abbrev pub kernel_fact : ℕ → Write → Fact
+kernel_fact line (entering.Stored w) = KernelWrote w line
+kernel_fact line (entering.Zeroed at n) = Zeroed at n
+
+-- those of an event that is plain; or else of the kernel's
+abbrev pub writing_facts : Bool → (ℕ → Option ℕ) → ℕ → List Write → List Fact
+writing_facts plain byte line entered = if plain then entered_facts byte line [] entered else map (kernel_fact line) entered
+
 -- REGISTERS
 
 -- register n, where its value is another one
@@ -117,14 +126,14 @@ files_facts here t files = register_facts (here.file t).file (file_among files t
 
 -- ALL
 
--- an event of hart h, which executes an instruction with this effect or none: it executed these stores, so many waiting ones entered
--- memory, these writes entered in all, and this is reserved after it
-abbrev pub memory_facts : Setting → History → ℕ → Option Effect → List Store → ℕ → List Write → Option ℕ → List Fact
-memory_facts s before h o executed drained entered reserved =
+-- an event of hart h, plain or not, which executes an instruction with this effect or none: it executed these stores, so many waiting ones
+-- entered memory, these writes entered in all, and this is reserved after it
+abbrev pub memory_facts : Setting → History → ℕ → Bool → Option Effect → List Store → ℕ → List Write → Option ℕ → List Fact
+memory_facts s before h plain o executed drained entered reserved =
     let here = here_in_history s before h in
     reading_facts (view here) (source_at h before) o
     ++ map Waits executed
-    ++ entered_facts (memory here) (line_behind (waiting_on h before) (next_line before) drained) [] entered
+    ++ writing_facts plain (memory here) (line_behind (waiting_on h before) (next_line before) drained) entered
     ++ own_facts o here.reserved reserved
     ++ all_lost h before entered s.limits.harts
 
@@ -132,7 +141,8 @@ memory_facts s before h o executed drained entered reserved =
 abbrev pub facts_by : Setting → History → Entry → Done → List Fact
 facts_by s before entry d =
     let here = here_in_history s before entry.hart.0 in
-    memory_facts s before entry.hart.0 (executed_by (choice_of entry) here) d.executed d.drained d.entered d.reserved
+    let c = choice_of entry in
+    memory_facts s before entry.hart.0 (is_plain c here) (executed_by c here) d.executed d.drained d.entered d.reserved
     ++ files_facts here entry.tid.0 d.files
 
 -- what came of an entry after a history

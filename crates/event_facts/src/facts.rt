@@ -40,6 +40,11 @@ pub enum Fact {
         old: u64,
         line: u32,
     },
+    /// The kernel made this write in line `line`.
+    KernelWrote {
+        store: Store,
+        line: u32,
+    },
     /// The `length` bytes at `at` became 0.
     Zeroed {
         at: u64,

@@ -5,7 +5,8 @@
 //! of memory was written last. [`plain_event`] looks whether the next event is plain: an instruction that
 //! makes neither a fault nor a call, or a store that enters memory. [`tell`] makes a plain event on a
 //! machine, and tells its facts. [`push_before`] and [`push_after`] tell of any event what is read at the places
-//! before it and after it: faults, calls, barriers, interruptions, signals and threads.
+//! before it and after it: faults, calls, barriers, interruptions, signals, threads and areas;
+//! [`push_kernel_writes`] what the kernel wrote in it.
 #![tactic(auto)]
 
 mod areas;
@@ -14,6 +15,7 @@ mod deeds;
 mod facts;
 mod faults;
 mod interruptions;
+mod kernel_writes;
 mod lines;
 mod other_registers;
 mod pending;
@@ -32,6 +34,7 @@ pub use calls::SystemCall;
 pub use facts::{Fact, Source};
 pub use faults::FaultWhy;
 pub use interruptions::{Interruption, WrongWord};
+pub use kernel_writes::push_kernel_writes;
 pub use lines::{Lines, Numbered};
 pub use places::{Before, push_after, push_before};
 pub use telling::{PlainEvent, plain_event, tell};

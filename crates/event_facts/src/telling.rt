@@ -1,6 +1,6 @@
 //! A plain event is made, and what came of it is told.
 
-ghost use Rattle.std.specs.Prelude.{◌≡◌, ◌<◌, ◌++◌, ◌&&◌, ◌∷◌, [], Some, None, IfSome, OnOk, if◌then◌else◌, is_none, length, map, not, option_to_list};
+ghost use Rattle.std.specs.Prelude.{◌≡◌, ◌<◌, ◌++◌, ◌&&◌, ◌∷◌, [], Some, None, IfSome, OnOk, if◌then◌else◌, is_none, length, map, not, option_to_list, true};
 ghost use Rattle.mach_types.specs.Bytes.{IsAccessSize};
 ghost use Rattle.mach_types.specs.Events.{choice_of};
 ghost use Rattle.mach_types.specs.Limits.{InRange};
@@ -191,7 +191,7 @@ fn push_memory(
     requires sizes { HasSizes event.now }
     requires size { IfSome deed.now.entered (λ w. IsAccessSize w.size) }
     ensures { OnOk result (facts.new.items ≡ facts.old.items
-        ++ memory_facts machine.now.setting (past_of machine.now) hart.0 (effect_in event.now)
+        ++ memory_facts machine.now.setting (past_of machine.now) hart.0 true (effect_in event.now)
         (executed_in deed.now) (drained_in deed.now) (entered_in deed.now)
         (here_on machine.now hart.0).reserved) }
 {

@@ -8,7 +8,7 @@ use Rattle.event_facts.specs.declared.areas.AreaField.{AreaField}
 use Rattle.event_facts.specs.declared.areas.AreaField.TheVariants as field
 use Rattle.event_facts.specs.declared.calls.SystemCall.{SystemCall}
 use Rattle.event_facts.specs.declared.facts.Fact.{Fact}
-use Rattle.event_facts.specs.declared.facts.Fact.TheVariants.{Read, Waits, Entered, Zeroed, Reserved, Used, Failed, Ended, Lost, Register, Faulted, RequestsTaken, BarrierReturns, Called, Answered, Refused, AnsweredLater, BarrierBegins, Interrupted, HandlerEntered, DeliveryKills, SignalPosted, SignalDropped, ThreadChanged, ThreadRegister, AreaWord, NoAnswer}
+use Rattle.event_facts.specs.declared.facts.Fact.TheVariants.{Read, Waits, Entered, KernelWrote, Zeroed, Reserved, Used, Failed, Ended, Lost, Register, Faulted, RequestsTaken, BarrierReturns, Called, Answered, Refused, AnsweredLater, BarrierBegins, Interrupted, HandlerEntered, DeliveryKills, SignalPosted, SignalDropped, ThreadChanged, ThreadRegister, AreaWord, NoAnswer}
 use Rattle.event_facts.specs.declared.faults.FaultWhy.{FaultWhy}
 use Rattle.event_facts.specs.declared.faults.FaultWhy.TheVariants.{NotAligned, NotExecutable, NoInstruction, Breakpoint, MisalignedJump, MisalignedAccess, NotReadable, NotWritable}
 use Rattle.event_facts.specs.declared.facts.Source.{Source}
@@ -46,6 +46,10 @@ waits_line w = line (codes "  waits") (store_fields w)
 abbrev pub wrote_line : Store → ℕ → ℕ → List ℕ
 wrote_line w old n =
     line (codes "  wrote") (store_fields w ++ codes "old" ∷ value_text old ∷ codes "line" ∷ decimal n ∷ [])
+
+-- `wrote AT SIZE VALUE line N`, of the kernel
+abbrev pub kernel_wrote_line : Store → ℕ → List ℕ
+kernel_wrote_line w n = line (codes "  wrote") (store_fields w ++ codes "line" ∷ decimal n ∷ [])
 
 -- `zeroed AT LENGTH`
 abbrev pub zeroed_line : ℕ → ℕ → List ℕ
@@ -168,6 +172,7 @@ abbrev pub fact_line : Fact → List ℕ
 fact_line (Read at size value source) = read_line at size value source
 fact_line (Waits w) = waits_line w
 fact_line (Entered w old n) = wrote_line w old n
+fact_line (KernelWrote w n) = kernel_wrote_line w n
 fact_line (Zeroed at n) = zeroed_line at n
 fact_line (Reserved at) = address_line (codes "  reserved") at
 fact_line (Used at) = address_line (codes "  used") at

@@ -78,6 +78,17 @@ fn push_wrote(text: &mut Vec<u8>, store: Store, old: u64, line: u32) -> Result<(
     Ok(())
 }
 
+/// Appends the line of a write of the kernel.
+fn push_kernel_wrote(text: &mut Vec<u8>, store: Store, line: u32) -> Result<(), AllocError>
+    ensures { OnOk result (text.new.items ≡ text.old.items ++ spec.kernel_wrote_line store line) }
+{
+    text.extend_from_slice(b"  wrote")?;
+    push_store(text, store)?;
+    push_named_number(text, b"line", u64::from(line))?;
+    text.push(b'\n')?;
+    Ok(())
+}
+
 /// Appends the line of bytes that became 0.
 fn push_zeroed(text: &mut Vec<u8>, at: u64, length: u64) -> Result<(), AllocError>
     ensures { OnOk result (text.new.items ≡ text.old.items ++ spec.zeroed_line at length) }
@@ -380,6 +391,7 @@ pub fn push_fact(text: &mut Vec<u8>, fact: &Fact) -> Result<(), AllocError>
         } => push_read(text, at, size, value, source),
         Fact::Waits(store) => push_waits(text, store),
         Fact::Entered { store, old, line } => push_wrote(text, store, old, line),
+        Fact::KernelWrote { store, line } => push_kernel_wrote(text, store, line),
         Fact::Zeroed { at, length } => push_zeroed(text, at, length),
         Fact::Reserved { at } => push_address(text, b"  reserved", at),
         Fact::Used { at } => push_address(text, b"  used", at),
