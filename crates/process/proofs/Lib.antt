@@ -25,6 +25,7 @@ pub mod PairLaws
 mod PassingEvents
 mod Places
 mod PlainInstructions
+mod PlainSteps
 mod PreemptEvent
 mod ReservationLosses
 mod RestartableSequences

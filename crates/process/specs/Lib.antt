@@ -8,6 +8,7 @@ pub mod Foresight
 pub mod Harts
 pub mod Pages
 pub mod Passing
+pub mod PlainSteps
 pub mod Planned
 pub mod Refinement
 pub mod Reservations

@@ -15,6 +15,7 @@ mod membarrier;
 mod next;
 mod parts;
 mod passing;
+mod plain;
 mod preempt;
 mod requests;
 mod reservations;

@@ -79,15 +79,25 @@ pub fn is_free(state: &HartState, effect: Option<&Effect>) -> bool
     is_local(effect) && !state.is_idle() && state.waits.is_none()
 }
 
-/// What the instruction at a pc asks for, with these registers. None exactly where nothing can be executed there, or where the
-/// word there is no instruction. Whoever looks at an instruction calls this one function, so the search of its page is in it.
-#[inline(never)]
-pub fn effect_at(code: &Code, file: &Regs, pc: u64) -> Option<Effect>
+/// What the instruction at a pc asks for, with these registers. None exactly where nothing can be executed
+/// there, or where the word there is no instruction. It stands in the loop of those who execute plain
+/// instructions, with the search of the page.
+#[inline(always)]
+pub(crate) fn asked_at(code: &Code, file: &Regs, pc: u64) -> Option<Effect>
     ensures effect { result ≡ next_effect code.now (record { file = file.now; pc = pc }) }
     ensures sizes { IfSome result HasAccessSizes }
 {
     let inst = instruction_at(code, pc)?;
     Some(effect(&inst, file, pc))
+}
+
+/// The same, as one function for all others who look at an instruction.
+#[inline(never)]
+pub fn effect_at(code: &Code, file: &Regs, pc: u64) -> Option<Effect>
+    ensures effect { result ≡ next_effect code.now (record { file = file.now; pc = pc }) }
+    ensures sizes { IfSome result HasAccessSizes }
+{
+    asked_at(code, file, pc)
 }
 
 /// What the next instruction of the thread on a hart in this state asks for. None exactly where nothing can be executed at its

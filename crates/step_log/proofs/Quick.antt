@@ -42,7 +42,7 @@ read_more digits i number so_far within digit =
     }
 
 -- what fewer than 16 digits write
-pub read_bound : (digits : List ℕ) (i number : ℕ) → IsReadTo digits i number → length digits ≡ 16 → i < length digits → number < 2 ^ 60
+pub read_bound : (digits : List ℕ) (i number : ℕ) → IsReadTo digits i number → length digits ≤ 16 → i < length digits → number < 2 ^ 60
 read_bound digits i number so_far long within =
     let front : length (take i digits) ≤ 15 = omega (arith, length-take i digits) in
     let small : digits_value 16 (take i digits) < 16 ^ length (take i digits) = digits_value-lt 16 (take i digits) (hex_digits (take i digits) so_far.all) in
@@ -50,7 +50,7 @@ read_bound digits i number so_far long within =
     let value = so_far.value in
     omega arith
 
-pub read_fits : (digits : List ℕ) (i number : ℕ) → IsReadTo digits i number → length digits ≡ 16 → i < length digits
+pub read_fits : (digits : List ℕ) (i number : ℕ) → IsReadTo digits i number → length digits ≤ 16 → i < length digits
     → is_hex_digit (get_or digits i 0) ≡ true → number * 16 + digit_value (get_or digits i 0) < 2 ^ 64
 read_fits digits i number so_far long within digit =
     let bound = read_bound digits i number so_far long within in

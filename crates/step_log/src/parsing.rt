@@ -121,9 +121,21 @@ fn hex_digit_value(character: u8) -> Option<u8>
     }
 }
 
-/// The number that 16 hexadecimal digits write; None where a character is another.
+/// The number that 16 hexadecimal digits write; None where a character is another. The first eight of most
+/// addresses are 0, and need no look one by one.
 fn hex_value(digits: &[u8]) -> Option<u64>
     requires { length digits.now ≡ 16 }
+    ensures { result ≡ (if list_all script.is_hex_digit digits.now then Some (digits_value 16 digits.now) else None) }
+{
+    match digits {
+        [b'0', b'0', b'0', b'0', b'0', b'0', b'0', b'0', low @ ..] => hex_number(low),
+        _ => hex_number(digits),
+    }
+}
+
+/// The number that at most 16 hexadecimal digits write; None where a character is another.
+fn hex_number(digits: &[u8]) -> Option<u64>
+    requires { length digits.now ≤ 16 }
     ensures { result ≡ (if list_all script.is_hex_digit digits.now then Some (digits_value 16 digits.now) else None) }
 {
     let mut number = 0u64;

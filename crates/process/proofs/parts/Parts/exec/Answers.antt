@@ -1,17 +1,18 @@
-use Rattle.std.proofs.Common.{Ok, sym, ap, ◌∙◌}
+use Rattle.std.proofs.Common.{sym, subst}
+use Rattle.std.specs.Prelude.{IfOk}
+use Rattle.process.proofs.Common.{IsPlace, IsUncounted, Parts, done_of, here_at}
 use Rattle.mach_types.specs.declared.events.Choice.TheVariants as asked
-use Rattle.block_model.specs.Deciding.{entry_in}
-use Rattle.block_model.specs.Stands.{here_at}
-use Rattle.process.specs.Refinement.{answered}
+use Rattle.process.specs.Refinement.{HasCode}
 use Rattle.process.proofs.parts.Parts.exec.Goals as goal
 
-pub entry-made-requires : goal.entry-made-requires
-entry-made-requires c = record {
-  stand = c.requires.stand;
-  place = c.requires.place;
-  free = (c.in-Ok.ensures.ok c.requires.stand c.requires.place c.requires.alone).free;
-}
+pub exec_any-requires : goal.exec_any-requires
+exec_any-requires c = subst (λ (m : Parts). HasCode c.args.code.now m c.args.hart.0) (sym c.in-None.ensures.none) c.requires
 
-pub returns-in-Ok-clause-answer : goal.returns-in-Ok-clause-answer
-returns-in-Ok-clause-answer c v place alone =
-    ap Ok (c.entry-made.ensures v place) ∙ ap (answered (entry_in asked.Exec (here_at v c.args.hart.0))) (sym (c.in-Ok.ensures.ok v place alone).free)
+pub returns-in-None-clause-answer : goal.returns-in-None-clause-answer
+returns-in-None-clause-answer c v place alone =
+    c.exec_any.ensures.answer v (subst (λ (m : Parts). IsPlace v m c.args.hart.0) (sym c.in-None.ensures.none) place) alone
+
+pub returns-in-None-clause-made : goal.returns-in-None-clause-made
+returns-in-None-clause-made c v place alone =
+    subst (λ (m : Parts). IfOk c.exec_any.result (λ e. IsUncounted v c.args.hart.0 (done_of asked.Exec (here_at v c.args.hart.0)) m c.exec_any.new.self)) c.in-None.ensures.none
+    (c.exec_any.ensures.made v (subst (λ (m : Parts). IsPlace v m c.args.hart.0) (sym c.in-None.ensures.none) place) alone)

@@ -4,7 +4,7 @@ use Rattle.std.specs.Option.{option_map}
 use Rattle.rv_inst.proofs.Laws.{meaning-sized}
 use Rattle.rv_inst.specs.Meaning.{meaning}
 use Rattle.rv_inst.specs.declared.instruction.Inst.{Inst}
-use Rattle.process.proofs.next.effect_at.Goals as goal
+use Rattle.process.proofs.next.asked_at.Goals as goal
 
 pub returns-clause-effect : goal.returns-clause-effect
 returns-clause-effect c = ap Some c.effect.ensures ∙ ap (option_map (λ (inst : Inst). meaning inst c.args.file.now c.args.pc)) c.in_ok-inst.ensures

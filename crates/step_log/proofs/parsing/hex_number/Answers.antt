@@ -1,7 +1,7 @@
 use Rattle.std.proofs.Common.{get_or, sym, ◌∙◌, arith}
 use Rattle.step_log.proofs.FieldReads.{digit_read}
 use Rattle.step_log.proofs.Quick.{IsReadTo, read_bound, read_more, read_fits}
-use Rattle.step_log.proofs.parsing.hex_value.Goals as goal
+use Rattle.step_log.proofs.parsing.hex_number.Goals as goal
 
 pub overflow_mul-number : goal.overflow_mul-number
 overflow_mul-number c = omega (arith, read_bound c.args.digits.now c.loop-digit.digit-index c.loop-digit.number c.loop-digit.invariant c.requires c.loop-digit-test.true)
