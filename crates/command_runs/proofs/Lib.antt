@@ -1,5 +1,8 @@
 mod Chosen
+mod NextLines
+mod OutputTexts
 mod Playing
+mod PlayingPairs
 mod RoundTurns
 mod ShownRuns
 mod SoloSteps

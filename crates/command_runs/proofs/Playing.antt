@@ -4,8 +4,8 @@ use Rattle.std.proofs.Common.{Bool, true, false, Option, Some, None, Result, Ok,
 use Rattle.std.proofs.Common.{if◌then◌else◌}
 use Rattle.std.proofs.lemmas.List.{map-append}
 use Rattle.std.specs.Option.{option_map}
-use Rattle.step_log.specs.Reading.{Unread, unread, next_answer, after_next, answer_at, answer_to}
-use Rattle.step_log.specs.Script.{line_meaning, lines_of}
+use Rattle.step_log.specs.Reading.{Unread, unread, next_answer, after_next}
+use Rattle.step_log.specs.Script.{lines_of}
 use Rattle.step_log.specs.declared.fields.Line.{Line}
 use Rattle.step_log.specs.declared.reading.BadLine.{BadLine}
 use Rattle.mach_types.specs.declared.events.Entry.{Entry}
@@ -18,6 +18,7 @@ use Rattle.block_model.specs.declared.refusals.Refused.{Refused}
 use Rattle.outcomes.specs.declared.reasons.LineFault.{LineFault}
 use Rattle.outcomes.specs.declared.reasons.LineFault.TheVariants.{Differs, Malformed}
 use Rattle.command_runs.specs.Playing.{IsPlaying}
+use Rattle.command_runs.proofs.NextLines.{at_bad, at_end, at_line}
 use Rattle.outcomes.specs.Programs.{ask_in, ask_of}
 use Rattle.outcomes.specs.Reasons.{IsBadLine, decided_fault, line_fault}
 use Rattle.outcomes.specs.Runs.{IsPlayedRun, IsWholePlay}
@@ -100,52 +101,6 @@ first_bad text m line more r fault p left faulty = record {
   };
   why = faulty;
 }
-
--- the reader's answer at the end, at a line that says something, and at a malformed one
-record IsNext (u : Unread) (line : Line) : Type 0 where
-  text : List ℕ
-  more : List (List ℕ)
-  left : u.left ≡ text ∷ more
-  says : line_meaning text ≡ Some line
-  after : (after_next u).left ≡ more
-
-record IsMalformed (u : Unread) : Type 0 where
-  text : List ℕ
-  more : List (List ℕ)
-  left : u.left ≡ text ∷ more
-  says : line_meaning text ≡ None
-
-at_end : (lines : List (List ℕ)) (read : ℕ) → answer_to lines read ≡ Ok None → lines ≡ []
-at_end [] read is = refl
-at_end (text ∷ more) read is = by_meaning (line_meaning text) is
-  where
-    by_meaning : (o : Option Line) → answer_at o (read + 1) ≡ Ok None → text ∷ more ≡ []
-    by_meaning None is = absurd cc
-    by_meaning (Some line) is = absurd cc
-
-by_said : (text : List ℕ) (more : List (List ℕ)) (read : ℕ) (line : Line) (o : Option Line)
-    → line_meaning text ≡ o → answer_at o (read + 1) ≡ Ok (Some line)
-    → IsNext (record { left = text ∷ more; read = read }) line
-by_said text more read line None at is = absurd cc
-by_said text more read line (Some other) at is =
-    let same : other ≡ line = cc in
-    record { text = text; more = more; left = refl; says = at ∙ ap Some same; after = rw at refl }
-
-at_line : (lines : List (List ℕ)) (read : ℕ) (line : Line) → answer_to lines read ≡ Ok (Some line)
-    → IsNext (record { left = lines; read = read }) line
-at_line [] read line is = absurd cc
-at_line (text ∷ more) read line is = by_said text more read line (line_meaning text) refl is
-
-by_unsaid : (text : List ℕ) (more : List (List ℕ)) (read : ℕ) (bad : BadLine) (o : Option Line)
-    → line_meaning text ≡ o → answer_at o (read + 1) ≡ Err bad
-    → IsMalformed (record { left = text ∷ more; read = read })
-by_unsaid text more read bad None at is = record { text = text; more = more; left = refl; says = at }
-by_unsaid text more read bad (Some line) at is = absurd cc
-
-at_bad : (lines : List (List ℕ)) (read : ℕ) (bad : BadLine) → answer_to lines read ≡ Err bad
-    → IsMalformed (record { left = lines; read = read })
-at_bad [] read bad is = absurd cc
-at_bad (text ∷ more) read bad is = by_unsaid text more read bad (line_meaning text) refl is
 
 -- the reader says that no line is left
 pub ended_here : (text : List ℕ) (m : Seen) (r : Unread) → IsPlaying text m r → next_answer r ≡ Ok None

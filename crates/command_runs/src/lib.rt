@@ -1,9 +1,10 @@
-//! How the run of each command comes about, on a machine of one hart or of several, and its text.
+//! How the run of each command comes about, on a machine of one hart or of several or by two processes, and its text.
 #![tactic(auto)]
 
 mod acts;
 mod gather;
 mod output;
+mod pairs;
 mod rounds;
 mod run;
 mod scripts;
@@ -13,6 +14,7 @@ mod summary;
 mod texts;
 
 pub use output::Output;
+pub use pairs::{pair_output, play_pair};
 pub use rounds::run_rounds;
 pub use run::run_workers;
 pub use scripts::play;

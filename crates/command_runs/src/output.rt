@@ -6,6 +6,8 @@ ghost use Rattle.outside.specs.Told.{Gained, GainedPrefix};
 ghost use Rattle.block_model.specs.Deciding.{end_of, history};
 ghost use Rattle.block_model.specs.History.{console};
 ghost use Rattle.place_text.specs.Ends.{end_line, number_line};
+ghost use Rattle.step_log.specs.Grammar.{log_text};
+ghost use Rattle.command_runs.specs.Pieces.{entries_of};
 ghost use Rattle.outcomes.specs.Text.{console_text, output_text};
 
 use log_lines::{LineBuffer, emit_around};
@@ -13,14 +15,17 @@ use mach_types::Entry;
 use machine_core::Machine;
 use outside::{Failed, Sink, emit};
 use place_text::{push_end, push_number_line};
+use shared_procs::Pair;
 use std::alloc::{AllocError, Global};
 use std::marker::Model;
 
-/// The entries of a log: those of a machine, or others.
+/// The entries of a log: those of a machine or a pair, or others.
 #[derive(Drop)]
 pub(crate) enum Log {
     /// Those that a machine made.
     OfMachine(Machine),
+    /// Those that a pair made.
+    OfPair(Pair),
     /// A log of its own.
     Own(Vec<Entry>),
 }
@@ -34,6 +39,7 @@ impl Log {
     {
         match self {
             Log::OfMachine(machine) => machine.log(),
+            Log::OfPair(pair) => pair.log(),
             Log::Own(entries) => entries,
         }
     }
@@ -76,6 +82,21 @@ impl Output {
         }
     }
 
+    /// A log between two texts. All memory is taken here.
+    pub(crate) fn with_log(
+        alloc: Global,
+        head: Vec<u8>,
+        log: Log,
+        tail: Vec<u8>,
+    ) -> Result<Output, AllocError>
+        requires { All (λ e. e.hart.0 < 8) (entries_of log) }
+        ensures { IfOk result (λ output. output ≡ head.items ++ log_text (entries_of log) ++ tail.items) }
+    {
+        let buffer = LineBuffer::new(alloc)?;
+        let lines = Some(Lines { log, buffer, tail });
+        Ok(Output { head, lines })
+    }
+
     /// Writes the text. It takes no memory, and the output stays the same. After `Failed` a prefix
     /// of it was appended.
     pub fn write<K: Sink>(&mut self, sink: &mut K) -> Result<(), Failed>
@@ -103,13 +124,7 @@ pub(crate) fn run_output(alloc: Global, machine: Machine) -> Result<Output, Allo
 {
     let head = head_of(alloc, &machine, machine.log().len())?;
     let tail = tail_of(alloc, &machine)?;
-    let buffer = LineBuffer::new(alloc)?;
-    let lines = Some(Lines {
-        log: Log::OfMachine(machine),
-        buffer,
-        tail,
-    });
-    Ok(Output { head, lines })
+    Output::with_log(alloc, head, Log::OfMachine(machine), tail)
 }
 
 /// The output of a run with another log. All memory is taken here.
@@ -125,13 +140,7 @@ pub(crate) fn output_with(
 {
     let head = head_of(alloc, machine, log.len())?;
     let tail = tail_of(alloc, machine)?;
-    let buffer = LineBuffer::new(alloc)?;
-    let lines = Some(Lines {
-        log: Log::Own(log),
-        buffer,
-        tail,
-    });
-    Ok(Output { head, lines })
+    Output::with_log(alloc, head, Log::Own(log), tail)
 }
 
 /// What stands before the lines of a log: the console, and how many lines there are.

@@ -89,7 +89,7 @@ fn play_line(machine: &mut Machine, line: &Line) -> Result<(), LineFault>
 }
 
 /// Whether an entry has the thread and the pc that a line says, where it says them.
-fn is_as_said(check: Option<(Tid, u64)>, entry: Entry) -> bool
+pub(crate) fn is_as_said(check: Option<(Tid, u64)>, entry: Entry) -> bool
     ensures { result ≡ is_as_said check entry }
 {
     match check {

@@ -27,8 +27,8 @@ use Rattle.command_words.proofs.ClapTurns.{other_plain, and_false, or_false, hel
 use Rattle.command_words.proofs.ClapTurns.{or_bad, plain_fine, plain_met, shape, short_bad, step_off, step_to}
 use Rattle.command_words.proofs.ClapTurns.{value_of, walk_at}
 use Rattle.command_words.proofs.ClapWalk.{GoesOn, Goes, IsReady, loose, read_on}
-use Rattle.command_words.proofs.ClapWalk.{option_fits, option_free, program_fits, program_free, script_fits}
-use Rattle.command_words.proofs.ClapWalk.{script_free, with_names}
+use Rattle.command_words.proofs.ClapWalk.{first_fits, first_free, option_fits, option_free, second_fits, second_free}
+use Rattle.command_words.proofs.ClapWalk.{third_fits, third_free, with_names}
 
 -- ---- a name
 
@@ -41,10 +41,10 @@ rows_of_held rows pending = (settled rules (held rows pending)).rows
 
 name_goes : (b : Bool) (word : Text) (rest : List Text) (given : Arguments) (names : List Text) (rows : List Row)
     (pending : Option (Text × List Text)) (target : Arguments → Option Arguments)
-    → ((next : Arguments) (rows : List Row) (pending : Option (Text × List Text)) → length next.names ≤ 2
+    → ((next : Arguments) (rows : List Row) (pending : Option (Text × List Text)) → length next.names ≤ 3
     → IsReady next rows pending
     → Ends (walk_at (held rows pending) idle (1 + length next.names) b) rest (target next))
-    → length names ≤ 2 → IsReady (with_names names given) rows pending
+    → length names ≤ 3 → IsReady (with_names names given) rows pending
     → word_met rules [] b idle (1 + length names) word (held rows pending) ≡ (held rows pending, value)
     → word_fault shape [] b idle word (held rows pending) ≡ []
     → Ends (walk_at (held rows pending) idle (1 + length names) b) (word ∷ rest)
@@ -54,43 +54,59 @@ name_goes b word rest given [] rows pending target on few ready met fine =
     let h = held rows pending in
     let now = rows_of_held rows pending in
     let turn : turn_fault shape [] (walk_at h idle 1 b) word ≡ [] =
-    rw (fine, met) (passed (is_pending (name_built 1 (codes "program")) pending) (settle_fault rules false h)
+    rw (fine, met) (passed (is_pending (name_built 1 (codes "first")) pending) (settle_fault rules false h)
     ready.0) in
     let goes : walked rules [] (walk_at h idle 1 b) word
-    ≡ walk_at (held now (Some (codes "program", word ∷ []))) idle 2 b =
-    rw (met, and_false (is_pending (name_built 1 (codes "program")) pending), or_false b) refl in
-    step_to (walk_at h idle 1 b) (walk_at (held now (Some (codes "program", word ∷ []))) idle 2 b) word rest
+    ≡ walk_at (held now (Some (codes "first", word ∷ []))) idle 2 b =
+    rw (met, and_false (is_pending (name_built 1 (codes "first")) pending), or_false b) refl in
+    step_to (walk_at h idle 1 b) (walk_at (held now (Some (codes "first", word ∷ []))) idle 2 b) word rest
     (target (with_names (word ∷ []) given)) turn goes
-    (on (with_names (word ∷ []) given) now (Some (codes "program", word ∷ [])) (omega arith) (
-      program_free (with_names [] given) now word ready.1 refl,
-      program_fits (with_names [] given) now word
+    (on (with_names (word ∷ []) given) now (Some (codes "first", word ∷ [])) (omega arith) (
+      first_free (with_names [] given) now word ready.1 refl,
+      first_fits (with_names [] given) now word
           ready.1 refl,
     ))
 name_goes b word rest given (a ∷ []) rows pending target on few ready met fine =
     let h = held rows pending in
     let now = rows_of_held rows pending in
     let turn : turn_fault shape [] (walk_at h idle 2 b) word ≡ [] =
-    rw (fine, met) (passed (is_pending (name_built 2 (codes "script")) pending) (settle_fault rules false h)
+    rw (fine, met) (passed (is_pending (name_built 2 (codes "second")) pending) (settle_fault rules false h)
     ready.0) in
-    let goes : walked rules [] (walk_at h idle 2 b) word ≡ walk_at (held now (Some (codes "script", word ∷ [])))
+    let goes : walked rules [] (walk_at h idle 2 b) word ≡ walk_at (held now (Some (codes "second", word ∷ [])))
     idle 3 b =
-    rw (met, and_false (is_pending (name_built 2 (codes "script")) pending), or_false b) refl in
-    step_to (walk_at h idle 2 b) (walk_at (held now (Some (codes "script", word ∷ []))) idle 3 b) word rest
+    rw (met, and_false (is_pending (name_built 2 (codes "second")) pending), or_false b) refl in
+    step_to (walk_at h idle 2 b) (walk_at (held now (Some (codes "second", word ∷ []))) idle 3 b) word rest
     (target (with_names (a ∷ word ∷ []) given)) turn goes
-    (on (with_names (a ∷ word ∷ []) given) now (Some (codes "script", word ∷ [])) (omega arith) (
-      script_free (with_names (a ∷ []) given) now word ready.1 a refl,
-      script_fits (with_names (a ∷ []) given)
+    (on (with_names (a ∷ word ∷ []) given) now (Some (codes "second", word ∷ [])) (omega arith) (
+      second_free (with_names (a ∷ []) given) now word ready.1 a refl,
+      second_fits (with_names (a ∷ []) given)
           now word ready.1 a refl,
     ))
 name_goes b word rest given (a ∷ c ∷ []) rows pending target on few ready met fine =
     let h = held rows pending in
-    let turn : turn_fault shape [] (walk_at h idle 3 b) word ≡ UnknownArgument ∷ [] = rw (fine, met) refl in
-    step_off (walk_at h idle 3 b) word rest (λ is. absurd (cc (sym turn ∙ is)))
-name_goes b word rest given (a ∷ c ∷ d ∷ more) rows pending target on few ready met fine = absurd (omega arith)
+    let now = rows_of_held rows pending in
+    let turn : turn_fault shape [] (walk_at h idle 3 b) word ≡ [] =
+    rw (fine, met) (passed (is_pending (name_built 3 (codes "third")) pending) (settle_fault rules false h)
+    ready.0) in
+    let goes : walked rules [] (walk_at h idle 3 b) word ≡ walk_at (held now (Some (codes "third", word ∷ [])))
+    idle 4 b =
+    rw (met, and_false (is_pending (name_built 3 (codes "third")) pending), or_false b) refl in
+    step_to (walk_at h idle 3 b) (walk_at (held now (Some (codes "third", word ∷ []))) idle 4 b) word rest
+    (target (with_names (a ∷ c ∷ word ∷ []) given)) turn goes
+    (on (with_names (a ∷ c ∷ word ∷ []) given) now (Some (codes "third", word ∷ [])) (omega arith) (
+      third_free (with_names (a ∷ c ∷ []) given) now word ready.1 a c refl,
+      third_fits (with_names (a ∷ c ∷ []) given)
+          now word ready.1 a c refl,
+    ))
+name_goes b word rest given (a ∷ c ∷ d ∷ []) rows pending target on few ready met fine =
+    let h = held rows pending in
+    let turn : turn_fault shape [] (walk_at h idle 4 b) word ≡ UnknownArgument ∷ [] = rw (fine, met) refl in
+    step_off (walk_at h idle 4 b) word rest (λ is. absurd (cc (sym turn ∙ is)))
+name_goes b word rest given (a ∷ c ∷ d ∷ e ∷ more) rows pending target on few ready met fine = absurd (omega arith)
 
 -- ---- what is held fails
 
-pub doomed_names : (words : List Text) (names : List Text) (h : Held) (waiting : Waiting) → length names ≤ 2
+pub doomed_names : (words : List Text) (names : List Text) (h : Held) (waiting : Waiting) → length names ≤ 3
     → (settle_fault rules false h ≡ [] → ⊥) → Ends (walk_at h waiting (1 + length names) true) words None
 unfolding walk_fault
 doomed_names [] names h waiting few bad = bad
@@ -157,7 +173,7 @@ short_is y more rows pending e =
 -- what is held fails, and no value is waited for
 pub doomed : (words : List Text) → AreLetters words → (names : List Text) (rows : List Row)
     (pending : Option (Text × List Text))
-    → length names ≤ 2 → (settle_fault rules false (held rows pending) ≡ [] → ⊥)
+    → length names ≤ 3 → (settle_fault rules false (held rows pending) ≡ [] → ⊥)
     → Ends (walk_at (held rows pending) idle (1 + length names) false) words None
 unfolding walk_fault
 doomed [] letters names rows pending few bad = bad
@@ -191,8 +207,8 @@ pub option_twice : (o : OptionName) (v x : Text) (given : Arguments) → value_o
     → with_item given (Some (Given o v)) ≡ None
 option_twice o v x given some = rw some refl
 
-few_after : (o : OptionName) (v : Text) (given : Arguments) → length given.names ≤ 2
-    → length (with_option o v given).names ≤ 2
+few_after : (o : OptionName) (v : Text) (given : Arguments) → length given.names ≤ 3
+    → length (with_option o v given).names ≤ 3
 few_after o v given few = few
 
 same_place : (o : OptionName) (v : Text) (given : Arguments) → length given.names
@@ -211,7 +227,7 @@ absent_row o given rows fits none =
     has_held (long_name o) rows (value_of o given) (fits.options o) ∙ ap (λ (y : Option Text). is_some y) none
 
 module _ (word : Text) (rest : List Text) (on : GoesOn rest) (given : Arguments) (rows : List Row)
-    (pending : Option (Text × List Text)) (few : length given.names ≤ 2) (ready : IsReady given rows pending)
+    (pending : Option (Text × List Text)) (few : length given.names ≤ 3) (ready : IsReady given rows pending)
     (dashes : bytes_eq word (45 ∷ 45 ∷ []) ≡ false) where
   abbrev here : Walk
   here = walk_at (held rows pending) idle (1 + length given.names) false
@@ -280,7 +296,7 @@ module _ (word : Text) (rest : List Text) (on : GoesOn rest) (given : Arguments)
       unknown name v long none = rw (dashes, long, none) refl
 
 options_turn : (word : Text) (rest : List Text) → GoesOn rest → IsUtf8 word → (given : Arguments) (rows : List Row)
-    (pending : Option (Text × List Text)) → length given.names ≤ 2 → IsReady given rows pending
+    (pending : Option (Text × List Text)) → length given.names ≤ 3 → IsReady given rows pending
     → Goes (word ∷ rest) given Options rows pending
 options_turn word rest on letters given rows pending few ready =
     by_form (λ w. IsUtf8 w → Goes (w ∷ rest) given Options rows pending)
@@ -312,7 +328,7 @@ options_turn word rest on letters given rows pending few ready =
         (plain_met (1 + length given.names) w (held rows pending) is) (plain_fine w (held rows pending) idle is))
 
 names_turn : (word : Text) (rest : List Text) → GoesOn rest → (given : Arguments) (rows : List Row)
-    (pending : Option (Text × List Text)) → length given.names ≤ 2 → IsReady given rows pending
+    (pending : Option (Text × List Text)) → length given.names ≤ 3 → IsReady given rows pending
     → Goes (word ∷ rest) given Names rows pending
 names_turn word rest on given rows pending few ready =
     name_goes true word rest given given.names rows pending (λ next. loose rest next Names)
@@ -334,7 +350,7 @@ short_waits o y more rows e =
     rw (dashes, long, short) refl
 
 module _ (o : OptionName) (rest : List Text) (on : GoesOn rest) (later : AreLetters rest) (given : Arguments)
-    (rows : List Row) (few : length given.names ≤ 2) (fits : Fits given rows) where
+    (rows : List Row) (few : length given.names ≤ 3) (fits : Fits given rows) where
   abbrev lacks : Held
   lacks = held rows (Some (long_name o, []))
 

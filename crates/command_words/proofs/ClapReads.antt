@@ -96,7 +96,7 @@ item_stays o x None given next there is =
     let same : given ≡ next = cc is in
     ap (value_of o) (sym same) ∙ there
 item_stays o x (Some (Name text)) given next there is =
-    name_stays o text given next (nat_lt (length given.names) 2) is ∙ there
+    name_stays o text given next (nat_lt (length given.names) 3) is ∙ there
 item_stays o x (Some (Given other text)) given next there is =
     value_stays o other x text given next (value_of other given) refl there is ∙ there
 
@@ -217,18 +217,22 @@ asks_as a b words same alike word = ap (λ (o : Option Arguments). o >>= asked_b
 
 -- ---- what `clap` found
 
-names_back : (names : List Text) → length names ≤ 2 → names_found (slice_get names 0) (slice_get names 1) ≡ names
+names_back : (names : List Text) → length names ≤ 3
+    → names_found (slice_get names 0) (slice_get names 1) (slice_get names 2) ≡ names
 names_back [] few = refl
 names_back (a ∷ []) few = refl
 names_back (a ∷ b ∷ []) few = refl
-names_back (a ∷ b ∷ c ∷ more) few = absurd (omega arith)
+names_back (a ∷ b ∷ c ∷ []) few = refl
+names_back (a ∷ b ∷ c ∷ d ∷ more) few = absurd (omega arith)
 
 read_back : (given : Arguments) (rows : List Row) → Fits given rows → arguments_found rows ≡ given
 read_back given rows fits =
-    let first = first_held (codes "program") rows (slice_get given.names 0) fits.first in
-    let second = first_held (codes "script") rows (slice_get given.names 1) fits.second in
-    let names : names_found (first_of (codes "program") rows) (first_of (codes "script") rows) ≡ given.names =
-    ap₂ names_found first second ∙ names_back given.names fits.few in
+    let first = first_held (codes "first") rows (slice_get given.names 0) fits.first in
+    let second = first_held (codes "second") rows (slice_get given.names 1) fits.second in
+    let third = first_held (codes "third") rows (slice_get given.names 2) fits.third in
+    let names : names_found (first_of (codes "first") rows) (first_of (codes "second") rows) (first_of (codes "third") rows)
+    ≡ given.names =
+    (λ i. names_found (first i) (second i) (third i)) ∙ names_back given.names fits.few in
     let value : (o : OptionName) → first_of (long_name o) rows ≡ given.values o =
     λ o. first_held (long_name o) rows (given.values o) (fits.options o) in
     λ i. record { names = names i; values = λ option. value option i }

@@ -54,9 +54,10 @@ value_of option given = given.values option
 
 pub record Fits (given : Arguments) (rows : List Row) : Type 0 where
   pub options : (o : OptionName) → Holds (long_name o) rows (value_of o given)
-  pub first : Holds (codes "program") rows (slice_get given.names 0)
-  pub second : Holds (codes "script") rows (slice_get given.names 1)
-  pub few : length given.names ≤ 2
+  pub first : Holds (codes "first") rows (slice_get given.names 0)
+  pub second : Holds (codes "second") rows (slice_get given.names 1)
+  pub third : Holds (codes "third") rows (slice_get given.names 2)
+  pub few : length given.names ≤ 3
 
 abbrev pub Ends : Walk → List Text → Option Arguments → Type 0
 Ends w words None = fails w words ≡ [] → ⊥
@@ -174,11 +175,13 @@ pass : (b : Bool) (k : Kinds) → cond (b && false) [] k ≡ [] → k ≡ []
 pass true k is = is
 pass false k is = is
 
-pub name_bad : (names : List Text) (h : Held) → length names ≤ 2 → (settle_fault rules false h ≡ [] → ⊥)
+pub name_bad : (names : List Text) (h : Held) → length names ≤ 3 → (settle_fault rules false h ≡ [] → ⊥)
     → step_fault shape (1 + length names) h value ≡ [] → ⊥
-name_bad [] h few bad is = bad (pass (is_pending (name_built 1 (codes "program")) h.pending)
+name_bad [] h few bad is = bad (pass (is_pending (name_built 1 (codes "first")) h.pending)
     (settle_fault rules false h) is)
-name_bad (a ∷ []) h few bad is = bad (pass (is_pending (name_built 2 (codes "script")) h.pending)
+name_bad (a ∷ []) h few bad is = bad (pass (is_pending (name_built 2 (codes "second")) h.pending)
     (settle_fault rules false h) is)
-name_bad (a ∷ b ∷ []) h few bad is = absurd (cc is)
-name_bad (a ∷ b ∷ c ∷ more) h few bad is = absurd (omega arith)
+name_bad (a ∷ b ∷ []) h few bad is = bad (pass (is_pending (name_built 3 (codes "third")) h.pending)
+    (settle_fault rules false h) is)
+name_bad (a ∷ b ∷ c ∷ []) h few bad is = absurd (cc is)
+name_bad (a ∷ b ∷ c ∷ d ∷ more) h few bad is = absurd (omega arith)

@@ -68,7 +68,7 @@ Goes rest given reading rows pending =
 
 abbrev pub GoesOn : List Text → Type 0
 GoesOn rest = (given : Arguments) (reading : Reading) (rows : List Row) (pending : Option (Text × List Text))
-    → length given.names ≤ 2 → IsHeld reading given rows pending → Goes rest given reading rows pending
+    → length given.names ≤ 3 → IsHeld reading given rows pending → Goes rest given reading rows pending
 
 -- ---- a name or a value more
 
@@ -119,56 +119,48 @@ module _ (given : Arguments) (rows : List Row) (v : Text) (fits : Fits given row
   pub names_after : (o : OptionName) → (with_option o v given).names ≡ given.names
   names_after o = refl
 
-  apart : (o : OptionName) → (bytes_eq (long_name o) (codes "program") ≡ false) ×
-      (bytes_eq (long_name o) (codes "script") ≡ false)
-  apart Harts = (refl, refl)
-  apart Frames = (refl, refl)
-  apart Steps = (refl, refl)
-  apart Seed = (refl, refl)
-  apart Policy = (refl, refl)
-  apart Calm = (refl, refl)
-  apart After = (refl, refl)
-  apart RunCount = (refl, refl)
-  apart Until = (refl, refl)
-  apart By = (refl, refl)
-  apart Jobs = (refl, refl)
+  -- an option has no name's id, and no name an option's
+  abbrev IsApart : OptionName → Text → Type 0
+  IsApart o name = (bytes_eq (long_name o) name ≡ false) × (bytes_eq name (long_name o) ≡ false)
 
-  unlike_names : (o : OptionName) → (bytes_eq (codes "program") (long_name o) ≡ false) ×
-      (bytes_eq (codes "script") (long_name o) ≡ false)
-  unlike_names Harts = (refl, refl)
-  unlike_names Frames = (refl, refl)
-  unlike_names Steps = (refl, refl)
-  unlike_names Seed = (refl, refl)
-  unlike_names Policy = (refl, refl)
-  unlike_names Calm = (refl, refl)
-  unlike_names After = (refl, refl)
-  unlike_names RunCount = (refl, refl)
-  unlike_names Until = (refl, refl)
-  unlike_names By = (refl, refl)
-  unlike_names Jobs = (refl, refl)
+  apart : (o : OptionName) → IsApart o (codes "first") × IsApart o (codes "second") × IsApart o (codes "third")
+  apart Harts = ((refl, refl), (refl, refl), (refl, refl))
+  apart Frames = ((refl, refl), (refl, refl), (refl, refl))
+  apart Steps = ((refl, refl), (refl, refl), (refl, refl))
+  apart Seed = ((refl, refl), (refl, refl), (refl, refl))
+  apart Policy = ((refl, refl), (refl, refl), (refl, refl))
+  apart Calm = ((refl, refl), (refl, refl), (refl, refl))
+  apart After = ((refl, refl), (refl, refl), (refl, refl))
+  apart RunCount = ((refl, refl), (refl, refl), (refl, refl))
+  apart Until = ((refl, refl), (refl, refl), (refl, refl))
+  apart By = ((refl, refl), (refl, refl), (refl, refl))
+  apart Jobs = ((refl, refl), (refl, refl), (refl, refl))
 
-  as_before : (o : OptionName) → Holds (long_name o) rows (value_of o (with_names (v ∷ []) given))
-  as_before o = fits.options o
+  as_before : (names : List Text) (o : OptionName) → Holds (long_name o) rows (value_of o (with_names names given))
+  as_before names o = fits.options o
 
-  as_before_two : (a : Text) (o : OptionName) → Holds (long_name o) rows (value_of o (with_names (a ∷ v ∷ []) given))
-  as_before_two a o = fits.options o
+  -- what is held of the names, where these are the names
+  named_at : (place : ℕ) (names : List Text) → given.names ≡ names
+      → option_map (λ (t : Text). t ∷ []) (slice_get given.names place)
+      ≡ option_map (λ (t : Text). t ∷ []) (slice_get names place)
+  named_at place names is = ap (λ (ns : List Text). option_map (λ (t : Text). t ∷ []) (slice_get ns place)) is
 
   pub option_fits : (o : OptionName) → value_of o given ≡ None
       → Fits (with_option o v given) (used (option_built (long_name o)) (v ∷ []) rows)
   option_fits o none =
       let absent : has_row (long_name o) rows ≡ false = has_held (long_name o) rows (value_of o given) (fits.options o)
       ∙ ap (λ (x : Option Text). is_some x) none in
-      let more = found_before (codes "program") rows (new_row (long_name o) v) (slice_get given.names 0) (apart o).0
-      fits.first in
-      let most = found_before (codes "script") rows (new_row (long_name o) v) (slice_get given.names 1) (apart o).1
-      fits.second in
+      let row = new_row (long_name o) v in
+      let one = found_before (codes "first") rows row (slice_get given.names 0) (apart o).0.0 fits.first in
+      let two = found_before (codes "second") rows row (slice_get given.names 1) (apart o).1.0 fits.second in
+      let three = found_before (codes "third") rows row (slice_get given.names 2) (apart o).2.0 fits.third in
+      let same = names_after o in
       subst (λ (rs : List Row). Fits (with_option o v given) rs) (sym (used_option (long_name o) v rows absent)) (record {
         options = λ (other : OptionName). options_after o other none;
-        first = more ∙ ap (λ (ns : List Text). option_map (λ (t : Text). t ∷ []) (slice_get ns 0))
-            (sym (names_after o));
-        second = most ∙ ap (λ (ns : List Text). option_map (λ (t : Text). t ∷ []) (slice_get ns 1))
-            (sym (names_after o));
-        few = subst (λ (ns : List Text). length ns ≤ 2) (sym (names_after o)) fits.few;
+        first = one ∙ sym (ap (λ (ns : List Text). option_map (λ (t : Text). t ∷ []) (slice_get ns 0)) same);
+        second = two ∙ sym (ap (λ (ns : List Text). option_map (λ (t : Text). t ∷ []) (slice_get ns 1)) same);
+        third = three ∙ sym (ap (λ (ns : List Text). option_map (λ (t : Text). t ∷ []) (slice_get ns 2)) same);
+        few = subst (λ (ns : List Text). length ns ≤ 3) (sym same) fits.few;
       })
 
   pub option_free : (o : OptionName) → value_of o given ≡ None
@@ -192,49 +184,76 @@ module _ (given : Arguments) (rows : List Row) (v : Text) (fits : Fits given row
       go By absent = rw absent refl
       go Jobs absent = rw absent refl
 
-  pub program_fits : given.names ≡ []
-      → Fits (with_names (v ∷ []) given) (used (name_built 1 (codes "program")) (v ∷ []) rows)
-  program_fits none =
-      let holds : Holds (codes "program") rows None = fits.first
-      ∙ ap (λ (ns : List Text). option_map (λ (t : Text). t ∷ []) (slice_get ns 0)) none in
-      let absent = has_held (codes "program") rows None holds in
-      let second : Holds (codes "script") rows None = fits.second
-      ∙ ap (λ (ns : List Text). option_map (λ (t : Text). t ∷ []) (slice_get ns 1)) none in
+  pub first_fits : given.names ≡ []
+      → Fits (with_names (v ∷ []) given) (used (name_built 1 (codes "first")) (v ∷ []) rows)
+  first_fits none =
+      let first : Holds (codes "first") rows None = fits.first ∙ named_at 0 [] none in
+      let second : Holds (codes "second") rows None = fits.second ∙ named_at 1 [] none in
+      let third : Holds (codes "third") rows None = fits.third ∙ named_at 2 [] none in
+      let absent = has_held (codes "first") rows None first in
+      let row = new_row (codes "first") v in
       subst (λ (rs : List Row). Fits (with_names (v ∷ []) given) rs)
-      (sym (used_name 1 (codes "program") v rows absent)) (record {
-        options = λ (other : OptionName). found_before (long_name other) rows (new_row (codes "program") v)
-            (value_of other (with_names (v ∷ []) given)) (unlike_names other).0 (as_before other);
-        first = found_last (codes "program") rows (new_row (codes "program") v) v refl refl absent;
-        second = found_before (codes "script") rows (new_row (codes "program") v) None refl second;
+      (sym (used_name 1 (codes "first") v rows absent)) (record {
+        options = λ (other : OptionName). found_before (long_name other) rows row
+            (value_of other (with_names (v ∷ []) given)) (apart other).0.1 (as_before (v ∷ []) other);
+        first = found_last (codes "first") rows row v refl refl absent;
+        second = found_before (codes "second") rows row None refl second;
+        third = found_before (codes "third") rows row None refl third;
         few = omega arith;
       })
 
-  pub script_fits : (a : Text) → given.names ≡ a ∷ []
-      → Fits (with_names (a ∷ v ∷ []) given) (used (name_built 2 (codes "script")) (v ∷ []) rows)
-  script_fits a one =
-      let holds : Holds (codes "script") rows None = fits.second
-      ∙ ap (λ (ns : List Text). option_map (λ (t : Text). t ∷ []) (slice_get ns 1)) one in
-      let absent = has_held (codes "script") rows None holds in
-      let first : Holds (codes "program") rows (Some a) = fits.first
-      ∙ ap (λ (ns : List Text). option_map (λ (t : Text). t ∷ []) (slice_get ns 0)) one in
+  pub second_fits : (a : Text) → given.names ≡ a ∷ []
+      → Fits (with_names (a ∷ v ∷ []) given) (used (name_built 2 (codes "second")) (v ∷ []) rows)
+  second_fits a one =
+      let first : Holds (codes "first") rows (Some a) = fits.first ∙ named_at 0 (a ∷ []) one in
+      let second : Holds (codes "second") rows None = fits.second ∙ named_at 1 (a ∷ []) one in
+      let third : Holds (codes "third") rows None = fits.third ∙ named_at 2 (a ∷ []) one in
+      let absent = has_held (codes "second") rows None second in
+      let row = new_row (codes "second") v in
       subst (λ (rs : List Row). Fits (with_names (a ∷ v ∷ []) given) rs)
-      (sym (used_name 2 (codes "script") v rows absent)) (record {
-        options = λ (other : OptionName). found_before (long_name other) rows (new_row (codes "script") v)
-            (value_of other (with_names (a ∷ v ∷ []) given)) (unlike_names other).1 (as_before_two a other);
-        first = found_before (codes "program") rows (new_row (codes "script") v) (Some a) refl first;
-        second = found_last (codes "script") rows (new_row (codes "script") v) v refl refl absent;
+      (sym (used_name 2 (codes "second") v rows absent)) (record {
+        options = λ (other : OptionName). found_before (long_name other) rows row
+            (value_of other (with_names (a ∷ v ∷ []) given)) (apart other).1.1 (as_before (a ∷ v ∷ []) other);
+        first = found_before (codes "first") rows row (Some a) refl first;
+        second = found_last (codes "second") rows row v refl refl absent;
+        third = found_before (codes "third") rows row None refl third;
         few = omega arith;
       })
 
-  pub program_free : given.names ≡ [] → settle_fault rules false (held rows (Some (codes "program", v ∷ []))) ≡ []
-  program_free none =
-      let absent : has_row (codes "program") rows ≡ false = has_held (codes "program") rows None (fits.first
-      ∙ ap (λ (ns : List Text). option_map (λ (t : Text). t ∷ []) (slice_get ns 0)) none) in
+  pub third_fits : (a b : Text) → given.names ≡ a ∷ b ∷ []
+      → Fits (with_names (a ∷ b ∷ v ∷ []) given) (used (name_built 3 (codes "third")) (v ∷ []) rows)
+  third_fits a b two =
+      let first : Holds (codes "first") rows (Some a) = fits.first ∙ named_at 0 (a ∷ b ∷ []) two in
+      let second : Holds (codes "second") rows (Some b) = fits.second ∙ named_at 1 (a ∷ b ∷ []) two in
+      let third : Holds (codes "third") rows None = fits.third ∙ named_at 2 (a ∷ b ∷ []) two in
+      let absent = has_held (codes "third") rows None third in
+      let row = new_row (codes "third") v in
+      subst (λ (rs : List Row). Fits (with_names (a ∷ b ∷ v ∷ []) given) rs)
+      (sym (used_name 3 (codes "third") v rows absent)) (record {
+        options = λ (other : OptionName). found_before (long_name other) rows row
+            (value_of other (with_names (a ∷ b ∷ v ∷ []) given)) (apart other).2.1 (as_before (a ∷ b ∷ v ∷ []) other);
+        first = found_before (codes "first") rows row (Some a) refl first;
+        second = found_before (codes "second") rows row (Some b) refl second;
+        third = found_last (codes "third") rows row v refl refl absent;
+        few = omega arith;
+      })
+
+  pub first_free : given.names ≡ [] → settle_fault rules false (held rows (Some (codes "first", v ∷ []))) ≡ []
+  first_free none =
+      let absent : has_row (codes "first") rows ≡ false =
+      has_held (codes "first") rows None (fits.first ∙ named_at 0 [] none) in
       rw absent refl
 
-  pub script_free : (a : Text) → given.names ≡ a ∷ [] → settle_fault rules false
-      (held rows (Some (codes "script", v ∷ []))) ≡ []
-  script_free a one =
-      let absent : has_row (codes "script") rows ≡ false = has_held (codes "script") rows None (fits.second
-      ∙ ap (λ (ns : List Text). option_map (λ (t : Text). t ∷ []) (slice_get ns 1)) one) in
+  pub second_free : (a : Text) → given.names ≡ a ∷ []
+      → settle_fault rules false (held rows (Some (codes "second", v ∷ []))) ≡ []
+  second_free a one =
+      let absent : has_row (codes "second") rows ≡ false =
+      has_held (codes "second") rows None (fits.second ∙ named_at 1 (a ∷ []) one) in
+      rw absent refl
+
+  pub third_free : (a b : Text) → given.names ≡ a ∷ b ∷ []
+      → settle_fault rules false (held rows (Some (codes "third", v ∷ []))) ≡ []
+  third_free a b two =
+      let absent : has_row (codes "third") rows ≡ false =
+      has_held (codes "third") rows None (fits.third ∙ named_at 2 (a ∷ b ∷ []) two) in
       rw absent refl

@@ -50,7 +50,7 @@ abbrev pub name_built : ℕ → Text → Rule
 name_built place name = record (filled (new_rule name)) { index = Some place }
 
 abbrev pub name_rules : List Rule
-name_rules = name_built 1 (codes "program") ∷ name_built 2 (codes "script") ∷ []
+name_rules = name_built 1 (codes "first") ∷ name_built 2 (codes "second") ∷ name_built 3 (codes "third") ∷ []
 
 abbrev rules_with : List OptionName → List Rule
 rules_with options = map (λ option. option_built (long_name option)) options ++ name_rules

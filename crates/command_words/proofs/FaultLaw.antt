@@ -11,7 +11,7 @@ use Rattle.command_words.specs.declared.faults.WordsFault.{WordsFault}
 use Rattle.command_words.specs.declared.faults.WordsFault.TheVariants.{NoNumber, NotTaken, NoValue}
 use Rattle.command_words.specs.declared.faults.WordsFault.TheVariants.{OneNameTooMany, Twice, UnknownGuest, UnknownOption}
 use Rattle.command_words.specs.declared.takes.NameKind.{NameKind}
-use Rattle.command_words.specs.declared.takes.NameKind.TheVariants.{Program, Script, Guest, Size}
+use Rattle.command_words.specs.declared.takes.NameKind.TheVariants.{Program, SecondProgram, Script, Guest, Size}
 use Rattle.command_words.specs.Commands.{Command}
 use Rattle.command_words.specs.Grammar.{Arguments, Item, Name, Given, asked_by, begins_with_dash, is_option, suits}
 use Rattle.command_words.specs.Options.{OptionName, is_value, option_named, values_of}
@@ -82,6 +82,7 @@ IsFault o = (fault : WordsFault) × (o ≡ Some fault)
 kind_wrong : (kind : NameKind) (word : ℕ) (text : List ℕ) → name_suits kind text ≡ false
     → IsFault (kind_fault kind word text)
 kind_wrong Program word text is = absurd (cc is)
+kind_wrong SecondProgram word text is = absurd (cc is)
 kind_wrong Script word text is = absurd (cc is)
 kind_wrong Guest word text is = (UnknownGuest word, rw is refl)
 kind_wrong Size word text is = (NoNumber word, rw is refl)
@@ -93,6 +94,7 @@ place_wrong (Some kind) word text is = kind_wrong kind word text is
 kind_right : (kind : NameKind) (word : ℕ) (text : List ℕ) → name_suits kind text ≡ true
     → kind_fault kind word text ≡ None
 kind_right Program word text is = refl
+kind_right SecondProgram word text is = refl
 kind_right Script word text is = refl
 kind_right Guest word text is = rw is refl
 kind_right Size word text is = rw is refl
@@ -101,12 +103,12 @@ place_right : (o : Option NameKind) (word : ℕ) (text : List ℕ) → suits_at 
 place_right None word text is = absurd (cc is)
 place_right (Some kind) word text is = kind_right kind word text is
 
--- one that is of its kind is one of two at most
-place_within : (takes : Takes) (place : ℕ) (text : List ℕ) → length takes.names ≤ 2
-    → suits_at (kind_at takes.names place) text ≡ true → place < 2
+-- one that is of its kind is one of three at most
+place_within : (takes : Takes) (place : ℕ) (text : List ℕ) → length takes.names ≤ 3
+    → suits_at (kind_at takes.names place) text ≡ true → place < 3
 place_within takes place text few is = by_kind (kind_at takes.names place) refl is
   where
-    by_kind : (o : Option NameKind) → kind_at takes.names place ≡ o → suits_at o text ≡ true → place < 2
+    by_kind : (o : Option NameKind) → kind_at takes.names place ≡ o → suits_at o text ≡ true → place < 3
     by_kind None at is = absurd (cc is)
     by_kind (Some kind) at is = let within = kind_within takes.names place kind at in omega arith
 
@@ -127,26 +129,26 @@ named_on word takes next reading after given text rest is sound awaits later rea
     goes =
         rw read (ap (λ n. Some (stood takes (next + 1) after n (given_options given))) (sym (name_more text given)))
 
-    never : (b : Bool) → nat_lt (length given.names) 2 ≡ b
+    never : (b : Bool) → nat_lt (length given.names) 3 ≡ b
         → suits_at (kind_at takes.names (length given.names)) text ≡ false
         → asks word given reading (text ∷ rest) ≡ false
-    never false two off =
-        refused_asks word given reading after (Some (Name text)) text rest read (rw two refl)
-    never true two off =
+    never false full off =
+        refused_asks word given reading after (Some (Name text)) text rest read (rw full refl)
+    never true room off =
         let bad : Sound takes (with_name text given) → ⊥ = λ sound.
         let suits = (and_parts (names_begin takes.names given.names)
         (suits_at (kind_at takes.names (length given.names)) text)
         (sym (begin_more takes.names given.names text) ∙ sound.begin)).1 in
         cc (sym suits ∙ off) in
-        taken_asks word given (with_name text given) reading after (Some (Name text)) text rest read (rw two refl)
+        taken_asks word given (with_name text given) reading after (Some (Name text)) text rest read (rw room refl)
         ∙ never_asks word takes rest (with_name text given) after is bad
 
     by_kind : (b : Bool) → suits_at (kind_at takes.names (length given.names)) text ≡ b
         → Agrees word takes (text ∷ rest) next reading given
     by_kind true suits =
         let within = place_within takes (length given.names) text (few_taken word takes is) suits in
-        let two : nat_lt (length given.names) 2 ≡ true = lt-ltb (length given.names) 2 within in
-        let taken : with_item given (Some (Name text)) ≡ Some (with_name text given) = rw two refl in
+        let room : nat_lt (length given.names) 3 ≡ true = lt-ltb (length given.names) 3 within in
+        let taken : with_item given (Some (Name text)) ≡ Some (with_name text given) = rw room refl in
         goes_on word takes next reading after given (with_name text given) (Some (Name text)) text rest read taken
         (fault ∙ place_right (kind_at takes.names (length given.names)) next text suits) goes
         (later (next + 1) after (with_name text given) (sound_name takes text given sound suits)
@@ -154,7 +156,7 @@ named_on word takes next reading after given text rest is sound awaits later rea
     by_kind false off =
         let wrong = place_wrong (kind_at takes.names (length given.names)) next text off in
         stops word takes next reading given text rest wrong.0 (fault ∙ wrong.1)
-        (never (nat_lt (length given.names) 2) refl off)
+        (never (nat_lt (length given.names) 3) refl off)
 
 -- a value of an option that is the command's, and isn't given yet
 valued_on : (word : List ℕ) (takes : Takes) (next : ℕ) (reading : Reading) (given : Arguments) (option : OptionName)

@@ -119,7 +119,7 @@ names_before : (takes : Takes) (item : Option Item) (given next : Arguments) →
     → names_begin takes.names next.names ≡ true → names_begin takes.names given.names ≡ true
 names_before takes None given next is fine =
     let same : given ≡ next = cc is in ap (λ (g : Arguments). names_begin takes.names g.names) same ∙ fine
-names_before takes (Some (Name text)) given next is fine = by_room (nat_lt (length given.names) 2) is
+names_before takes (Some (Name text)) given next is fine = by_room (nat_lt (length given.names) 3) is
   where
     by_room : (b : Bool) → cond b (Some (with_name text given)) None ≡ Some next
         → names_begin takes.names given.names ≡ true

@@ -11,7 +11,7 @@ use Rattle.command_words.specs.declared.faults.WordsFault.{WordsFault}
 use Rattle.command_words.specs.declared.faults.WordsFault.TheVariants.{NoNumber, NotTaken, NoValue, Twice}
 use Rattle.command_words.specs.declared.faults.WordsFault.TheVariants.{UnknownGuest}
 use Rattle.command_words.specs.declared.takes.NameKind.{NameKind}
-use Rattle.command_words.specs.declared.takes.NameKind.TheVariants.{Program, Script, Guest, Size}
+use Rattle.command_words.specs.declared.takes.NameKind.TheVariants.{Program, SecondProgram, Script, Guest, Size}
 use Rattle.command_words.specs.Grammar.{Item, Name, Given, begins_with_dash, is_option}
 use Rattle.command_words.specs.Options.{OptionName, Values, Numbers, PolicyNames, ApartNames, FileNames, is_value, number_of, option_named, values_of}
 use Rattle.command_words.specs.Takes.{Takes, has, takes_of}
@@ -42,6 +42,7 @@ near_value so_far option text = by_test (is_value (values_of option) text)
 
 near_kind : (kind : NameKind) (word : ℕ) (text : List ℕ) → IsNear word word (kind_fault kind word text)
 near_kind Program word text = tt
+near_kind SecondProgram word text = tt
 near_kind Script word text = tt
 near_kind Guest word text = by_name (is_some (name_of text))
   where
@@ -118,6 +119,7 @@ near_end so_far some = by_reading so_far.reading
         by_kind : (o : Option NameKind) → IsNear so_far.next (so_far.next - 1) (option_map missing o)
         by_kind None = tt
         by_kind (Some Program) = tt
+        by_kind (Some SecondProgram) = tt
         by_kind (Some Script) = tt
         by_kind (Some Guest) = tt
         by_kind (Some Size) = tt

@@ -73,7 +73,7 @@ once lists = list_all (λ option. nat_le (length (lists option)) 1) all_options
 -- the arguments of these names and values
 sorted : List (List ℕ) → Lists → Option Arguments
 sorted names lists =
-    cond (ltb 2 (length names)) None
+    cond (ltb 3 (length names)) None
     (cond (once lists) (Some (record { names = names; values = λ option. slice_get (lists option) 0 })) None)
 
 pub none_either : {A : Type 0} (b : Bool) (o : Option A) → o ≡ None → cond b None o ≡ None
@@ -84,15 +84,15 @@ pub none_after : {A B : Type 0} (o : Option A) (f : A → Option B) → ((x : A)
 none_after None f none = refl
 none_after (Some x) f none = none x
 
-too_many : (names : List (List ℕ)) (lists : Lists) → 2 < length names → sorted names lists ≡ None
+too_many : (names : List (List ℕ)) (lists : Lists) → 3 < length names → sorted names lists ≡ None
 unfolding sorted
-too_many names lists more = rw (lt-ltb 2 (length names) more)
+too_many names lists more = rw (lt-ltb 3 (length names) more)
 
 twice : (names : List (List ℕ)) (lists : Lists) (option : OptionName) → nat_le (length (lists option)) 1 ≡ false
     → sorted names lists ≡ None
 unfolding sorted
 twice names lists option many =
-    none_either (ltb 2 (length names)) _
+    none_either (ltb 3 (length names)) _
     (rw (one_fails (λ option. nat_le (length (lists option)) 1) option many) refl)
 
 -- what is given already, with no item behind it
@@ -115,27 +115,27 @@ same_kept given = λ i. Some (record {
   values = λ option. one_kept (given.values option) i;
 })
 
-kept : (given : Arguments) → length given.names ≤ 2 → Some given ≡ sorted (given.names ++ []) (with_more given [])
+kept : (given : Arguments) → length given.names ≤ 3 → Some given ≡ sorted (given.names ++ []) (with_more given [])
 unfolding sorted
 kept given few =
-    let no_more : ltb 2 (length (given.names ++ [])) ≡ false =
+    let no_more : ltb 3 (length (given.names ++ [])) ≡ false =
     simp append-nil (grind (arith, nat_tests)) in
     let each : once (with_more given []) ≡ true =
     all_of (λ option. nat_le (length (with_more given [] option)) 1) (λ option. one_at_most (given.values option)) in
     rw (no_more, each) (same_kept given)
 
 name_gathered : (b : Bool) (given : Arguments) (text : List ℕ) (rest : List (List ℕ)) (lists : Lists) (more : List Item)
-    → ltb (length given.names) 2 ≡ b
-    → (length (given.names ++ text ∷ []) ≤ 2
+    → ltb (length given.names) 3 ≡ b
+    → (length (given.names ++ text ∷ []) ≤ 3
     → added (record given { names = given.names ++ text ∷ [] }) more ≡ sorted ((given.names ++ text ∷ []) ++ rest) lists)
     → cond b (Some (record given { names = given.names ++ text ∷ [] })) None >>= (λ (next : Arguments). added next more)
     ≡ sorted (given.names ++ text ∷ rest) lists
 name_gathered true given text rest lists more room whole =
-    let short : length (given.names ++ text ∷ []) ≤ 2 = simp length-append (grind (arith, nat_tests)) in
+    let short : length (given.names ++ text ∷ []) ≤ 3 = simp length-append (grind (arith, nat_tests)) in
     whole short ∙ ap (λ ns. sorted ns lists) (append_assoc given.names (text ∷ []) rest)
 name_gathered false given text rest lists more full whole =
-    let many : 2 < length (given.names ++ text ∷ rest) =
-    simp length-append (omega (arith, ltb-false (length given.names) 2 full)) in
+    let many : 3 < length (given.names ++ text ∷ rest) =
+    simp length-append (omega (arith, ltb-false (length given.names) 3 full)) in
     sym (too_many (given.names ++ text ∷ rest) lists many)
 
 -- a value more: the option had none
@@ -163,11 +163,11 @@ two_values given option text x more some =
     rw (some, same_self option) (more_than_one (length (values_in option more)))
 
 -- adding items one after another comes to what they say together
-gathered : (given : Arguments) (found : List Item) → length given.names ≤ 2
+gathered : (given : Arguments) (found : List Item) → length given.names ≤ 3
     → added given found ≡ sorted (given.names ++ names_in found) (with_more given found)
 gathered given [] few = kept given few
 gathered given (Name text ∷ more) few =
-    name_gathered (ltb (length given.names) 2) given text (names_in more) (with_more given more) more refl
+    name_gathered (ltb (length given.names) 3) given text (names_in more) (with_more given more) more refl
     (λ short. gathered (record given { names = given.names ++ text ∷ [] }) more short)
 gathered given (Given option text ∷ more) few =
     by_value (gathered (with_option option text given) more few) (given.values option) refl

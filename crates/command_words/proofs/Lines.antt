@@ -381,19 +381,19 @@ line_read found words (inr ended) =
     ∙ items_read ended.before ended.front (codes "--" ∷ ended.names) ended.written
     ∙ ap (λ o. o >>= (λ more. Some (ended.before ++ more))) behind ∙ ap Some (sym ended.all)
 
--- no command has more than two names
-too_many : (word : List ℕ) (given : Arguments) (b : Bool) → 2 < length given.names
+-- no command has more than three names
+too_many : (word : List ℕ) (given : Arguments) (b : Bool) → 3 < length given.names
     → (cond b (Some given) None >>= asked_by word) ≡ None
 too_many word given true many = many_names word given many
 too_many word given false many = refl
 
-few_asked : (found : List Item) (word : List ℕ) (many : Bool) → ltb 2 (length (names_in found)) ≡ many
+few_asked : (found : List Item) (word : List ℕ) (many : Bool) → ltb 3 (length (names_in found)) ≡ many
     → (cond many None (arguments_in found) >>= asked_by word) ≡ (arguments_in found >>= asked_by word)
 few_asked found word false at = refl
 few_asked found word true at =
     sym (too_many word (record { names = names_in found; values = λ option. slice_get (values_in option found) 0 })
     (list_all (λ option. nat_le (length (values_in option found)) 1) all_options)
-    (ltb-true 2 (length (names_in found)) at))
+    (ltb-true 3 (length (names_in found)) at))
 
 -- the command of the words behind a command's word
 arguments_then : (o : Option (List Item)) (word : List ℕ)

@@ -8,10 +8,10 @@ use Rattle.command_words.specs.Grammar.{Arguments, Item, Name, Given}
 abbrev pub no_arguments : Arguments
 no_arguments = record { names = []; values = λ option. None }
 
--- a name more, none where there are two
+-- a name more, none where there are three
 abbrev pub with_name : Arguments → List ℕ → Option Arguments
 with_name given text =
-    if nat_lt (length given.names) 2 then Some (record given { names = given.names ++ text ∷ [] }) else None
+    if nat_lt (length given.names) 3 then Some (record given { names = given.names ++ text ∷ [] }) else None
 
 -- an option with this value
 abbrev pub with_option : OptionName → List ℕ → Arguments → Arguments

@@ -11,14 +11,15 @@ use Rattle.command_words.specs.declared.commands.Guest.{Guest as AskedGuest}
 use Rattle.command_words.specs.declared.commands.Settings.{Settings}
 use Rattle.step_log.specs.Script.{◌>>=◌}
 use Rattle.command_words.specs.declared.table.CommandKind.{CommandKind}
-use Rattle.command_words.specs.declared.table.CommandKind.TheVariants.{Runs, Makes, Tries, Explores}
+use Rattle.command_words.specs.declared.table.CommandKind.TheVariants.{Runs, Makes, Tries, Explores, Pairs}
 use Rattle.command_words.specs.declared.table.SourceKind.{SourceKind}
 use Rattle.command_words.specs.declared.table.SourceKind.TheVariants.{ByRule, ByScript, ByWorkers, ByDraws}
 use Rattle.command_words.specs.declared.takes.NameKind.{NameKind}
-use Rattle.command_words.specs.declared.takes.NameKind.TheVariants.{Program, Script, Guest, Size}
+use Rattle.command_words.specs.declared.takes.NameKind.TheVariants.{Program, SecondProgram, Script, Guest, Size}
 use Rattle.command_words.specs.Commands.{Command, Source, Rule, Workers}
 use Rattle.command_words.specs.Grammar.{Arguments, all_suit, asked_by, asked_for, command_for, drawn_source, files_for, guest_for}
-use Rattle.command_words.specs.Grammar.{guest_named, one_name, program_for, settings_of, suits, two_names}
+use Rattle.mach_types.specs.declared.limits.Limits.{Limits}
+use Rattle.command_words.specs.Grammar.{guest_named, one_name, pair_for, program_for, settings_of, suits, two_names}
 use Rattle.command_words.specs.Options.{OptionName, After, number_of}
 use Rattle.command_words.specs.Table.{command_kind}
 use Rattle.command_words.specs.Takes.{Takes, takes_by, takes_kind, takes_of}
@@ -34,6 +35,7 @@ and_true false = refl
 -- a name is of its kind
 abbrev pub name_suits : NameKind → List ℕ → Bool
 name_suits Program text = true
+name_suits SecondProgram text = true
 name_suits Script text = true
 name_suits Guest text = is_some (name_of text)
 name_suits Size text = is_some (number_of text)
@@ -157,6 +159,15 @@ program_is [] = refl
 program_is (a ∷ []) = refl
 program_is (a ∷ b ∷ more) = refl
 
+-- and a pair where there are three
+pair_is : (limits : Limits) (names : List (List ℕ))
+    → is_some (pair_for limits names) ≡ names_fit (Program ∷ SecondProgram ∷ Script ∷ []) names
+pair_is limits [] = refl
+pair_is limits (a ∷ []) = refl
+pair_is limits (a ∷ b ∷ []) = refl
+pair_is limits (a ∷ b ∷ c ∷ []) = refl
+pair_is limits (a ∷ b ∷ c ∷ d ∷ more) = refl
+
 mapped : {A B : Type 0} (f : A → B) (o : Option A) → is_some (option_map f o) ≡ is_some o
 mapped f None = refl
 mapped f (Some x) = refl
@@ -168,6 +179,7 @@ names_are (Runs source shown) settings after names =
 names_are Makes settings after names = mapped _ (guest_for names) ∙ guests_are names
 names_are Tries settings after names = mapped _ (guest_for names) ∙ guests_are names
 names_are Explores settings after names = mapped _ (program_for names) ∙ program_is names
+names_are Pairs settings after names = mapped _ (pair_for settings.limits names) ∙ pair_is settings.limits names
 
 -- so a command of a kind is asked for exactly where the arguments are its own
 kind_fits : (kind : CommandKind) (given : Arguments) → is_some (asked_for kind given) ≡ fits (takes_kind kind) given
@@ -202,27 +214,28 @@ none_asked word given is = by_kind (command_kind word) is
     by_kind None is = refl
     by_kind (Some kind) is = absurd (cc is)
 
--- a command has two names at most
-two_names_by : (source : SourceKind) → length (takes_by source).names ≤ 2
-two_names_by ByRule = omega arith
-two_names_by ByScript = omega arith
-two_names_by ByWorkers = omega arith
-two_names_by ByDraws = omega arith
+-- a command has three names at most
+three_names_by : (source : SourceKind) → length (takes_by source).names ≤ 3
+three_names_by ByRule = omega arith
+three_names_by ByScript = omega arith
+three_names_by ByWorkers = omega arith
+three_names_by ByDraws = omega arith
 
-two_names_most : (kind : CommandKind) → length (takes_kind kind).names ≤ 2
-two_names_most (Runs source shown) = two_names_by source
-two_names_most Makes = omega arith
-two_names_most Tries = omega arith
-two_names_most Explores = omega arith
+three_names_most : (kind : CommandKind) → length (takes_kind kind).names ≤ 3
+three_names_most (Runs source shown) = three_names_by source
+three_names_most Makes = omega arith
+three_names_most Tries = omega arith
+three_names_most Explores = omega arith
+three_names_most Pairs = omega arith
 
-pub few_taken : (word : List ℕ) (takes : Takes) → takes_of word ≡ Some takes → length takes.names ≤ 2
+pub few_taken : (word : List ℕ) (takes : Takes) → takes_of word ≡ Some takes → length takes.names ≤ 3
 few_taken word takes is = by_kind (command_kind word) is
   where
-    by_kind : (o : Option CommandKind) → option_map takes_kind o ≡ Some takes → length takes.names ≤ 2
+    by_kind : (o : Option CommandKind) → option_map takes_kind o ≡ Some takes → length takes.names ≤ 3
     by_kind None is = absurd (cc is)
     by_kind (Some kind) is =
         let same : takes_kind kind ≡ takes = cc is in
-        omega (arith, two_names_most kind, ap (λ (t : Takes). length t.names) same)
+        omega (arith, three_names_most kind, ap (λ (t : Takes). length t.names) same)
 
 -- arguments that aren't a command's ask for nothing
 nothing_there : {A : Type 0} (o : Option A) → is_some o ≡ false → o ≡ None
@@ -237,15 +250,15 @@ nothing_asked word given never = by_kind (command_kind word)
     by_kind None = refl
     by_kind (Some kind) = nothing_there (asked_for kind given) (kind_fits kind given ∙ never kind)
 
--- nor do more names than two
-pub many_names : (word : List ℕ) (given : Arguments) → 2 < length given.names → asked_by word given ≡ None
+-- nor do more names than three
+pub many_names : (word : List ℕ) (given : Arguments) → 3 < length given.names → asked_by word given ≡ None
 many_names word given many = nothing_asked word given (λ kind. by_test kind (names_fit (takes_kind kind).names given.names) refl)
   where
     by_test : (kind : CommandKind) (b : Bool) → names_fit (takes_kind kind).names given.names ≡ b
         → (b && all_suit (takes_kind kind) given.values) ≡ false
     by_test kind false is = refl
     by_test kind true is =
-        let most = two_names_most kind in
+        let most = three_names_most kind in
         let same = fit_length (takes_kind kind).names given.names is in
         absurd (omega arith)
 

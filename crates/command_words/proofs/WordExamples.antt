@@ -7,7 +7,7 @@ use Rattle.draw_policies.specs.declared.policies.Policies.{Policies}
 use Rattle.draw_policies.specs.declared.policies.Policies.TheVariants.{All, Only}
 use Rattle.draw_policies.specs.declared.policies.Policy.TheVariants as policy
 use Rattle.guest_names.specs.declared.names.Name.TheVariants.{Counter, Migrate}
-use Rattle.command_words.specs.Commands.{Command, Runs, Makes, Tries, Explores, Source, Rule, Script, Workers, Drawn, DrawnAfter}
+use Rattle.command_words.specs.Commands.{Command, Runs, Makes, Tries, Explores, Pairs, Source, Rule, Script, Workers, Drawn, DrawnAfter}
 use Rattle.command_words.specs.declared.commands.Settings.{Settings}
 use Rattle.command_words.specs.declared.options.Apart.{Apart}
 use Rattle.command_words.specs.declared.options.Apart.TheVariants.{ByText, ByEnd}
@@ -469,6 +469,34 @@ inspect_seed = refl
 gather_seed : command_of (codes "gather" ∷ codes "F" ∷ codes "S" ∷ codes "--seed=1" ∷ []) ≡ None
 unfolding command_of arguments_of
 gather_seed = refl
+
+-- `pair F G S` runs two programs on the events of a script, with the harts, the frames and the steps that are given, or else the defaults
+abbrev pair : List ℕ → List ℕ → List ℕ → Limits → Command
+pair first second script limits =
+    Pairs (record { first = first; second = second; script = script; limits = limits })
+
+pair_defaults : command_of (codes "pair" ∷ codes "F" ∷ codes "G" ∷ codes "S" ∷ [])
+    ≡ Some (pair (codes "F") (codes "G") (codes "S") (limits 2 4096 200000))
+unfolding command_of arguments_of
+pair_defaults = refl
+
+pair_options : command_of
+    (codes "pair" ∷ codes "F" ∷ codes "--harts=3" ∷ codes "F" ∷ codes "--frames" ∷ codes "128" ∷ codes "--steps=5" ∷ codes "--"
+    ∷ codes "-S" ∷ []) ≡ Some (pair (codes "F") (codes "F") (codes "-S") (limits 3 128 5))
+unfolding command_of arguments_of
+pair_options = refl
+
+pair_two_names : command_of (codes "pair" ∷ codes "F" ∷ codes "S" ∷ []) ≡ None
+unfolding command_of arguments_of
+pair_two_names = refl
+
+pair_four_names : command_of (codes "pair" ∷ codes "F" ∷ codes "G" ∷ codes "S" ∷ codes "T" ∷ []) ≡ None
+unfolding command_of arguments_of
+pair_four_names = refl
+
+pair_seed : command_of (codes "pair" ∷ codes "F" ∷ codes "G" ∷ codes "S" ∷ codes "--seed=1" ∷ []) ≡ None
+unfolding command_of arguments_of
+pair_seed = refl
 
 -- `make NAME N` makes a guest, whatever the number; whether the guest takes it isn't a matter of the words
 make_counter : command_of (codes "make" ∷ codes "counter" ∷ codes "1000" ∷ [])

@@ -1,5 +1,5 @@
 -- What can be asked for (own): to run a program, and to show something of the run; to make the file of a guest; to try a
--- guest; or to explore runs of a program. The names are those of files.
+-- guest; to explore runs of a program; or to run two programs together. The names are those of files.
 use Rattle.std.specs.Prelude.{ℕ, ◌≡◌, ◌<◌, ◌≤◌, ◌==◌, Bool, true, false, not, List, Option, Some, None, IfSome}
 use Rattle.mach_types.specs.declared.limits.Limits.{Limits}
 use Rattle.mach_types.specs.Limits.{InRange}
@@ -25,12 +25,20 @@ pub record Run : Type 0 where
   pub shown : Shown
   pub limits : Limits
 
--- a command runs this, makes the file of this guest, makes this trial, or explores runs of this program
+-- two programs that run together, on the events of a script
+pub record PairRun : Type 0 where
+  pub first : List ℕ
+  pub second : List ℕ
+  pub script : List ℕ
+  pub limits : Limits
+
+-- a command runs this, makes the file of this guest, makes this trial, explores runs of this program, or runs this pair
 pub data Command : Type 0 where
   Runs : (run : Run) → Command
   Makes : (guest : Guest) → Command
   Tries : (trial : Trial) → Command
   Explores : (program : List ℕ) (settings : Settings) → Command
+  Pairs : (pair : PairRun) → Command
 
 -- the limits of a trial: it has no option for the frames
 abbrev pub trial_limits : Trial → Limits
@@ -55,6 +63,7 @@ needs_workers (Runs run) = is_by_workers run.source
 needs_workers (Makes guest) = false
 needs_workers (Tries trial) = false
 needs_workers (Explores program settings) = not (is_alone settings.jobs)
+needs_workers (Pairs pair) = false
 
 -- whether the words ask for a run by workers, or for runs by several host threads
 abbrev pub is_run : Option Command → Bool
@@ -68,6 +77,7 @@ hangs_on_turns (Some (Runs run)) = is_by_workers run.source
 hangs_on_turns (Some (Makes guest)) = false
 hangs_on_turns (Some (Tries trial)) = false
 hangs_on_turns (Some (Explores program settings)) = false
+hangs_on_turns (Some (Pairs pair)) = false
 
 -- what options come to is in their ranges
 pub record AreInRange (settings : Settings) : Type 0 where
@@ -75,12 +85,13 @@ pub record AreInRange (settings : Settings) : Type 0 where
   pub runs : settings.runs ≤ 1000000000
   pub jobs : IfSome settings.jobs (λ jobs. 0 < jobs)
 
--- the limits of a run or a trial, and the settings of an exploration, are in their ranges
+-- the limits of a run, a trial or a pair, and the settings of an exploration, are in their ranges
 abbrev pub HasLimits : Command → Type 0
 HasLimits (Runs run) = InRange run.limits
 HasLimits (Makes guest) = Unit {0}
 HasLimits (Tries trial) = InRange (trial_limits trial)
 HasLimits (Explores program settings) = AreInRange settings
+HasLimits (Pairs pair) = InRange pair.limits
 
 -- the fixed rule runs on one hart
 abbrev pub HasHartsOf : Source → Limits → Type 0
@@ -95,3 +106,4 @@ HasItsHarts (Runs run) = HasHartsOf run.source run.limits
 HasItsHarts (Makes guest) = Unit {0}
 HasItsHarts (Tries trial) = Unit {0}
 HasItsHarts (Explores program settings) = Unit {0}
+HasItsHarts (Pairs pair) = Unit {0}

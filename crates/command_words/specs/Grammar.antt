@@ -25,7 +25,7 @@ use Rattle.command_words.specs.declared.table.CommandKind.TheVariants as kind
 use Rattle.command_words.specs.declared.table.Shown.{Shown}
 use Rattle.command_words.specs.declared.table.SourceKind.{SourceKind}
 use Rattle.command_words.specs.declared.table.SourceKind.TheVariants.{ByRule, ByScript, ByWorkers, ByDraws}
-use Rattle.command_words.specs.Commands.{Command, Run, Runs, Makes, Tries, Explores, Source, Rule, Script, Workers, Drawn, DrawnAfter}
+use Rattle.command_words.specs.Commands.{Command, PairRun, Run, Runs, Makes, Tries, Explores, Pairs, Source, Rule, Script, Workers, Drawn, DrawnAfter}
 use Rattle.command_words.specs.Options.{OptionName, Harts, Frames, Steps, Seed, Policy, Calm, After, RunCount, Until, By, Jobs}
 use Rattle.command_words.specs.Options.{Range, all_options, apart_named, is_value}
 use Rattle.command_words.specs.Options.{number_in, number_of, option_word, range_of, same_option, values_of}
@@ -202,6 +202,12 @@ abbrev pub program_for : List (List ℕ) → Option (List ℕ)
 program_for (program ∷ []) = Some program
 program_for _ = None
 
+-- the two programs and the script that three names give, where there are three
+abbrev pub pair_for : Limits → List (List ℕ) → Option PairRun
+pair_for limits (first ∷ second ∷ script ∷ []) =
+    Some (record { first = first; second = second; script = script; limits = limits })
+pair_for limits _ = None
+
 -- the command of this kind with these settings, behind this script where one is named, and with these names
 abbrev pub command_for : CommandKind → Settings → Option (List ℕ) → List (List ℕ) → Option Command
 command_for (kind.Runs source shown) settings after names =
@@ -209,6 +215,7 @@ command_for (kind.Runs source shown) settings after names =
 command_for kind.Makes settings after names = option_map Makes (guest_for names)
 command_for kind.Tries settings after names = option_map (λ guest. Tries (trial_of settings guest)) (guest_for names)
 command_for kind.Explores settings after names = option_map (λ program. Explores program settings) (program_for names)
+command_for kind.Pairs settings after names = option_map Pairs (pair_for settings.limits names)
 
 -- what such a command asks for with these arguments: each value that is given suits it
 abbrev pub asked_for : CommandKind → Arguments → Option Command

@@ -1,11 +1,12 @@
 -- What the code keeps of the words, in the grammar's terms.
 use Rattle.std.specs.Prelude.{ℕ, List, [], ◌∷◌, Option}
-use Rattle.std.specs.Option.{option_copied, option_to_list}
+use Rattle.std.specs.Option.{option_copied}
 use Rattle.command_words.specs.declared.arguments.Arguments.{Arguments}
 use Rattle.command_words.specs.declared.arguments.FileNames.{FileNames as KeptNames}
-use Rattle.command_words.specs.declared.arguments.FileNames.TheVariants.{Zero, One, Two}
+use Rattle.command_words.specs.declared.arguments.FileNames.TheVariants.{Zero, One, Two, Three}
 use Rattle.command_words.specs.declared.commands.Command.{Command}
 use Rattle.command_words.specs.declared.commands.Command.TheVariants as command
+use Rattle.command_words.specs.declared.commands.PairRun.{PairRun}
 use Rattle.command_words.specs.declared.commands.Run.{Run}
 use Rattle.command_words.specs.declared.commands.Source.{Source}
 use Rattle.command_words.specs.declared.commands.Source.TheVariants as code
@@ -17,9 +18,12 @@ use Rattle.command_words.specs.declared.options.Values.TheVariants as values
 use Rattle.command_words.specs.declared.reader.Reader.{Reader}
 use Rattle.command_words.specs.declared.reader.Reading.{Reading}
 use Rattle.command_words.specs.declared.reader.Reading.TheVariants as reading
+use Rattle.command_words.specs.declared.takes.NameKind.{NameKind}
+use Rattle.command_words.specs.declared.takes.NameKinds.{NameKinds}
+use Rattle.command_words.specs.declared.takes.NameKinds.TheVariants as kinds
 use Rattle.command_words.specs.declared.takes.OptionSet.{OptionSet}
 use Rattle.command_words.specs.declared.takes.Takes.{Takes}
-use Rattle.command_words.specs.Commands.{Command as Asked, Run as AskedRun, Runs, Makes, Tries, Explores}
+use Rattle.command_words.specs.Commands.{Command as Asked, PairRun as AskedPair, Run as AskedRun, Runs, Makes, Tries, Explores, Pairs}
 use Rattle.command_words.specs.Commands.{Source as FromSource, Rule, Script, Workers, Drawn, DrawnAfter}
 use Rattle.command_words.specs.Grammar.{Arguments as Stated}
 use Rattle.command_words.specs.Options.{OptionName as Named, Harts, Frames, Steps, Seed, Policy, Calm, After, RunCount, Until, By, Jobs, Range}
@@ -58,6 +62,7 @@ abbrev pub names_kept : KeptNames → List (List ℕ)
 names_kept Zero = []
 names_kept (One first) = first.now ∷ []
 names_kept (Two first second) = first.now ∷ second.now ∷ []
+names_kept (Three first second third) = first.now ∷ second.now ∷ third.now ∷ []
 
 -- the text of an option's value, if it is given
 abbrev pub value_kept : Arguments → Named → Option (List ℕ)
@@ -94,12 +99,22 @@ run_said run = record {
   limits = run.limits;
 }
 
+-- the pair, with the texts of its names
+abbrev pub pair_said : PairRun → AskedPair
+pair_said pair = record {
+  first = pair.first.now;
+  second = pair.second.now;
+  script = pair.script.now;
+  limits = pair.limits;
+}
+
 -- the command, with the texts of its names
 abbrev pub said : Command → Asked
 said (command.Runs run) = Runs (run_said run)
 said (command.Makes guest) = Makes guest
 said (command.Tries trial) = Tries trial
 said (command.Explores explore) = Explores explore.program.now explore.settings
+said (command.Pairs pair) = Pairs (pair_said pair)
 
 -- some of the options
 abbrev pub options_kept : OptionSet → SomeOptions
@@ -117,10 +132,15 @@ options_kept options = record {
   jobs = options.jobs;
 }
 
+-- what the names of a command are
+abbrev pub kinds_kept : NameKinds → List NameKind
+kinds_kept (kinds.One first) = first ∷ []
+kinds_kept (kinds.Two first second) = first ∷ second ∷ []
+kinds_kept (kinds.Three first second third) = first ∷ second ∷ third ∷ []
+
 -- what a command takes
 abbrev pub takes_kept : Takes → Taken
-takes_kept takes =
-    record { names = takes.first ∷ option_to_list takes.second; options = options_kept takes.options }
+takes_kept takes = record { names = kinds_kept takes.names; options = options_kept takes.options }
 
 -- how the next word is read
 abbrev pub reading_kept : Reading → Read

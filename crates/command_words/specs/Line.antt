@@ -1,5 +1,5 @@
 -- What stands behind a command's word, as `clap` is told of it (own): the options, which take a value each, and
--- two names.
+-- three names.
 use Rattle.std.specs.Prelude.{ℕ, ◌≡◌, List, [], ◌∷◌, Option, Some, None, codes, fold, true}
 use Rattle.std.specs.Option.{option_to_list}
 use Rattle.clap.specs.Words.{App, Row, Rule, first_of, new_app, new_rule, with_rule}
@@ -23,17 +23,22 @@ abbrev pub with_options : App
 with_options = fold (λ app option. with_rule app (option_rule (long_name option))) bare all_options
 
 abbrev pub line : App
-line = with_rule (with_rule with_options (new_rule (codes "program"))) (new_rule (codes "script"))
+line =
+    with_rule (with_rule (with_rule with_options (new_rule (codes "first"))) (new_rule (codes "second"))) (new_rule (codes "third"))
 
--- the names that were found: no second without a first
-abbrev pub names_found : Option (List ℕ) → Option (List ℕ) → List (List ℕ)
-names_found None second = []
-names_found (Some first) second = first ∷ option_to_list second
+-- the names that were found: none without those before it
+abbrev pub names_behind : Option (List ℕ) → Option (List ℕ) → List (List ℕ)
+names_behind None third = []
+names_behind (Some second) third = second ∷ option_to_list third
+
+abbrev pub names_found : Option (List ℕ) → Option (List ℕ) → Option (List ℕ) → List (List ℕ)
+names_found None second third = []
+names_found (Some first) second third = first ∷ names_behind second third
 
 -- the arguments that `clap` found
 abbrev pub arguments_found : List Row → Arguments
 arguments_found rows = record {
-  names = names_found (first_of (codes "program") rows) (first_of (codes "script") rows);
+  names = names_found (first_of (codes "first") rows) (first_of (codes "second") rows) (first_of (codes "third") rows);
   values = λ option. first_of (long_name option) rows;
 }
 

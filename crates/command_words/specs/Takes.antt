@@ -1,11 +1,11 @@
 -- What each command takes behind its word (own): which names, and which options.
 use Rattle.std.specs.Prelude.{ℕ, Bool, true, false, List, [], ◌∷◌, Option, option_map}
 use Rattle.command_words.specs.declared.table.CommandKind.{CommandKind}
-use Rattle.command_words.specs.declared.table.CommandKind.TheVariants.{Runs, Makes, Tries, Explores}
+use Rattle.command_words.specs.declared.table.CommandKind.TheVariants.{Runs, Makes, Tries, Explores, Pairs}
 use Rattle.command_words.specs.declared.table.SourceKind.{SourceKind}
 use Rattle.command_words.specs.declared.table.SourceKind.TheVariants.{ByRule, ByScript, ByWorkers, ByDraws}
 use Rattle.command_words.specs.declared.takes.NameKind.{NameKind}
-use Rattle.command_words.specs.declared.takes.NameKind.TheVariants.{Program, Script, Guest, Size}
+use Rattle.command_words.specs.declared.takes.NameKind.TheVariants.{Program, SecondProgram, Script, Guest, Size}
 use Rattle.command_words.specs.Options.{OptionName, Harts, Frames, Steps, Seed, Policy, Calm, After, RunCount, Until, By, Jobs}
 use Rattle.command_words.specs.Table.{command_kind}
 
@@ -76,13 +76,17 @@ pub record Takes : Type 0 where
 abbrev pub taken_alone : Takes
 taken_alone = record { names = Program ∷ []; options = record no_options { frames = true; steps = true } }
 
--- what a run on the events of a script takes: it chooses nothing
+-- the options of a run on the events of a script: it chooses nothing
+abbrev pub options_on_script : OptionSet
+options_on_script = record no_options { harts = true; frames = true; steps = true }
+
+-- what such a run takes
 abbrev pub taken_on_script : Takes
-taken_on_script =
-    record {
-      names = Program ∷ Script ∷ [];
-      options = record no_options { harts = true; frames = true; steps = true };
-    }
+taken_on_script = record { names = Program ∷ Script ∷ []; options = options_on_script }
+
+-- what such a run of two programs takes
+abbrev pub taken_by_pair : Takes
+taken_by_pair = record { names = Program ∷ SecondProgram ∷ Script ∷ []; options = options_on_script }
 
 -- the options of a run that chooses by a seed
 abbrev pub options_by_seed : OptionSet
@@ -130,6 +134,7 @@ takes_kind (Runs source shown) = takes_by source
 takes_kind Makes = taken_by_make
 takes_kind Tries = taken_by_trial
 takes_kind Explores = taken_by_explore
+takes_kind Pairs = taken_by_pair
 
 -- what the command of a word takes, if a command has the word
 abbrev pub takes_of : List ℕ → Option Takes

@@ -12,10 +12,10 @@ use Rattle.command_words.specs.declared.faults.WordsFault.{WordsFault}
 use Rattle.command_words.specs.declared.faults.WordsFault.TheVariants.{NoCommand, UnknownCommand, UnknownOption}
 use Rattle.command_words.specs.declared.faults.WordsFault.TheVariants.{NotTaken, Twice, NoValue, OutOfRange, UnknownPolicy}
 use Rattle.command_words.specs.declared.faults.WordsFault.TheVariants.{NeitherTextNorEnd}
-use Rattle.command_words.specs.declared.faults.WordsFault.TheVariants.{OneNameTooMany, NoProgram, NoScript}
+use Rattle.command_words.specs.declared.faults.WordsFault.TheVariants.{OneNameTooMany, NoProgram, NoSecondProgram, NoScript}
 use Rattle.command_words.specs.declared.faults.WordsFault.TheVariants.{UnknownGuest, NoNumber, NoGuest, NoSize}
 use Rattle.command_words.specs.declared.takes.NameKind.{NameKind}
-use Rattle.command_words.specs.declared.takes.NameKind.TheVariants.{Program, Script, Guest, Size}
+use Rattle.command_words.specs.declared.takes.NameKind.TheVariants.{Program, SecondProgram, Script, Guest, Size}
 use Rattle.command_words.specs.Grammar.{Item, Name, Given, begins_with_dash, is_option}
 use Rattle.command_words.specs.Options.{OptionName, Values, Numbers, PolicyNames, ApartNames, FileNames, is_value, number_of, option_named, values_of}
 use Rattle.command_words.specs.Takes.{OptionSet, Takes, has, no_options, takes_of, with_option}
@@ -68,6 +68,7 @@ kind_at (kind ∷ more) (suc place) = kind_at more place
 -- what is wrong with a name in this word: a guest's is one of theirs, and its size is a number
 abbrev pub kind_fault : NameKind → ℕ → List ℕ → Option WordsFault
 kind_fault Program word text = None
+kind_fault SecondProgram word text = None
 kind_fault Script word text = None
 kind_fault Guest word text = if is_some (name_of text) then None else Some (UnknownGuest word)
 kind_fault Size word text = if is_some (number_of text) then None else Some (NoNumber word)
@@ -125,6 +126,7 @@ value_missing so_far Names = None
 -- the fault where such a name is missing
 abbrev pub missing : NameKind → WordsFault
 missing Program = NoProgram
+missing SecondProgram = NoSecondProgram
 missing Script = NoScript
 missing Guest = NoGuest
 missing Size = NoSize
@@ -169,6 +171,7 @@ word_of (OneNameTooMany word) = Some word
 word_of (UnknownGuest word) = Some word
 word_of (NoNumber word) = Some word
 word_of NoProgram = None
+word_of NoSecondProgram = None
 word_of NoScript = None
 word_of NoGuest = None
 word_of NoSize = None

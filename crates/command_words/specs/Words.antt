@@ -63,7 +63,7 @@ items reading (word ∷ rest) = do
 
 -- the arguments that items make, where they have so few names that some command may have them
 abbrev pub few_arguments : List Item → Option Arguments
-few_arguments found = if nat_lt 2 (length (names_in found)) then None else arguments_in found
+few_arguments found = if nat_lt 3 (length (names_in found)) then None else arguments_in found
 
 -- what the words behind a command give it
 unfoldable pub arguments_of : List (List ℕ) → Option Arguments

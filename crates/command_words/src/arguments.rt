@@ -20,6 +20,8 @@ pub(crate) enum FileNames<'a> {
     One(&'a str),
     /// Two names.
     Two(&'a str, &'a str),
+    /// Three names.
+    Three(&'a str, &'a str, &'a str),
 }
 
 /// What a command is given: its names, and the value of each option that is given.
@@ -91,18 +93,25 @@ fn parser<'a>(alloc: Global) -> Result<Parser<'a>, AllocError>
     ensures { IfOk result (λ parser. app_of parser ≡ line) }
 {
     options(alloc)?
-        .arg(Arg::new(alloc, "program"))?
-        .arg(Arg::new(alloc, "script"))
+        .arg(Arg::new(alloc, "first"))?
+        .arg(Arg::new(alloc, "second"))?
+        .arg(Arg::new(alloc, "third"))
 }
 
-/// The names of a first and a second name.
-fn names_of<'a>(first: Option<&'a str>, second: Option<&'a str>) -> FileNames<'a>
-    ensures { names_kept result ≡ names_found (option_copied first.entry) (option_copied second.entry) }
+/// The names of a first, a second and a third name: none without those before it.
+fn names_of<'a>(
+    first: Option<&'a str>,
+    second: Option<&'a str>,
+    third: Option<&'a str>,
+) -> FileNames<'a>
+    ensures { names_kept result
+        ≡ names_found (option_copied first.entry) (option_copied second.entry) (option_copied third.entry) }
 {
-    match (first, second) {
-        (Some(first), Some(second)) => FileNames::Two(first, second),
-        (Some(first), None) => FileNames::One(first),
-        (None, _) => FileNames::Zero,
+    match (first, second, third) {
+        (Some(first), Some(second), Some(third)) => FileNames::Three(first, second, third),
+        (Some(first), Some(second), None) => FileNames::Two(first, second),
+        (Some(first), None, _) => FileNames::One(first),
+        (None, _, _) => FileNames::Zero,
     }
 }
 
@@ -111,7 +120,11 @@ fn arguments_in<'a>(matches: &ArgMatches<'a>) -> Arguments<'a>
     ensures { stated result ≡ arguments_found (rows_of (found_of matches.now)) }
 {
     Arguments {
-        names: names_of(matches.get_str("program"), matches.get_str("script")),
+        names: names_of(
+            matches.get_str("first"),
+            matches.get_str("second"),
+            matches.get_str("third"),
+        ),
         harts: matches.get_str("harts"),
         frames: matches.get_str("frames"),
         steps: matches.get_str("steps"),
@@ -127,7 +140,7 @@ fn arguments_in<'a>(matches: &ArgMatches<'a>) -> Arguments<'a>
 }
 
 /// What the words behind a command give it; None where an option isn't known, is given twice or lacks its
-/// value, and where there are more than two names. An option's value is text yet.
+/// value, and where there are more than three names. An option's value is text yet.
 ///
 /// It errs only for want of memory.
 pub(crate) fn arguments_of<'a>(

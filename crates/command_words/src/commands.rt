@@ -3,10 +3,10 @@
 ghost use Rattle.std.specs.Prelude.{◌≡◌, ◌≤◌, IfOk, IfSome, option_copied, option_map};
 ghost use Rattle.mach_types.specs.Limits.{InRange};
 ghost use Rattle.command_words.specs.Commands.{AreInRange, HasHartsOf, HasItsHarts, HasLimits, trial_limits};
-ghost use Rattle.command_words.specs.Kept.{named, names_kept, range, run_said, said, source_said, stated, takes_kept};
+ghost use Rattle.command_words.specs.Kept.{named, names_kept, pair_said, range, run_said, said, source_said, stated, takes_kept};
 ghost use Rattle.command_words.specs.Grammar.{all_suit, apart_or_text, asked_by, asked_for, command_for, drawn_source, files_for, guest_for, guest_named};
 ghost use Rattle.command_words.specs.Grammar.{harts_for, one_name, policies_or_all, run_for, settings_of, suits, trial_of};
-ghost use Rattle.command_words.specs.Grammar.{number_given, program_for, two_names};
+ghost use Rattle.command_words.specs.Grammar.{number_given, pair_for, program_for, two_names};
 ghost use Rattle.command_words.specs.Options.{range_of};
 ghost use Rattle.command_words.specs.Words.{command_of, texts};
 
@@ -126,6 +126,19 @@ pub struct Explore<'a> {
     pub settings: Settings,
 }
 
+/// To run two programs together, on the events of a script.
+#[derive(Clone, Copy, Drop)]
+pub struct PairRun<'a> {
+    /// The name of the first program's file.
+    pub first: &'a str,
+    /// The name of the second program's file.
+    pub second: &'a str,
+    /// The name of the script's file.
+    pub script: &'a str,
+    /// The limits of the run: each program has so many frames, and harts and steps are those of both.
+    pub limits: Limits,
+}
+
 /// What words ask for.
 #[derive(Clone, Copy, Drop)]
 pub enum Command<'a> {
@@ -137,6 +150,8 @@ pub enum Command<'a> {
     Tries(Trial),
     /// An exploration of the runs of a program.
     Explores(Explore<'a>),
+    /// A run of two programs together.
+    Pairs(PairRun<'a>),
 }
 
 impl Trial {
@@ -157,7 +172,8 @@ impl Trial {
 /// The first word is the command: `solo FILE`, with `--frames` and `--steps`; `play FILE SCRIPT` and the other
 /// commands on a script, with `--harts` too; `run FILE`, with `--harts` and `--seed` too; `draw FILE`, with
 /// `--policy`, `--calm` and `--after` besides; `explore FILE`, with `--policy`, `--calm`, `--runs`, `--until`, `--by` and `--jobs`;
-/// `make NAME N`, with no option; or `trial NAME N`, with `--harts`, `--steps` and `--seed`. Each limit is in its range.
+/// `make NAME N`, with no option; `trial NAME N`, with `--harts`, `--steps` and `--seed`; or `pair FILE1 FILE2 SCRIPT`, with the options
+/// of `play`. Each limit is in its range.
 #[tactic(auto, unfolding(crate::specs::Words::command_of))]
 pub(crate) fn command_of<'a>(
     alloc: Global,
@@ -354,6 +370,7 @@ fn command_for<'a>(
             let program = program_for(names)?;
             Some(Command::Explores(Explore { program, settings }))
         }
+        CommandKind::Pairs => Some(Command::Pairs(pair_for(settings.limits, names)?)),
     }
 }
 
@@ -373,7 +390,7 @@ fn program_for(names: FileNames<'_>) -> Option<&str>
 {
     match names {
         FileNames::One(program) => Some(program),
-        FileNames::Zero | FileNames::Two(..) => None,
+        FileNames::Zero | FileNames::Two(..) | FileNames::Three(..) => None,
     }
 }
 
@@ -384,7 +401,7 @@ fn one_name<'a>(source: Source<'a>, names: FileNames<'a>) -> Option<(&'a str, So
 {
     match names {
         FileNames::One(program) => Some((program, source)),
-        FileNames::Zero | FileNames::Two(..) => None,
+        FileNames::Zero | FileNames::Two(..) | FileNames::Three(..) => None,
     }
 }
 
@@ -395,7 +412,7 @@ fn two_names(names: FileNames<'_>) -> Option<(&str, Source<'_>)>
 {
     match names {
         FileNames::Two(program, script) => Some((program, Source::Script(script))),
-        FileNames::Zero | FileNames::One(_) => None,
+        FileNames::Zero | FileNames::One(_) | FileNames::Three(..) => None,
     }
 }
 
@@ -469,6 +486,23 @@ fn run_for<'a>(
     })
 }
 
+/// The two programs and the script that three names give, with these limits; None where there aren't three.
+fn pair_for<'a>(limits: Limits, names: FileNames<'a>) -> Option<PairRun<'a>>
+    requires { InRange limits }
+    ensures pair { option_map pair_said result ≡ pair_for limits (names_kept names.entry) }
+    ensures limits { IfSome result (λ pair. InRange pair.limits) }
+{
+    match names {
+        FileNames::Three(first, second, script) => Some(PairRun {
+            first,
+            second,
+            script,
+            limits,
+        }),
+        FileNames::Zero | FileNames::One(_) | FileNames::Two(..) => None,
+    }
+}
+
 /// The trial of this guest with these settings.
 fn trial_of(settings: Settings, guest: Guest) -> Trial
     requires { InRange settings.limits }
@@ -489,7 +523,7 @@ fn guest_for(names: FileNames<'_>) -> Option<Guest>
 {
     match names {
         FileNames::Two(name, size) => guest_named(name, size),
-        FileNames::Zero | FileNames::One(_) => None,
+        FileNames::Zero | FileNames::One(_) | FileNames::Three(..) => None,
     }
 }
 

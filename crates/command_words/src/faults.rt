@@ -45,6 +45,8 @@ pub enum WordsFault {
     NoNumber(usize),
     /// No word is wrong, and the name of the program's file is missing.
     NoProgram,
+    /// No word is wrong, and the name of the second program's file is missing.
+    NoSecondProgram,
     /// No word is wrong, and the name of the script's file is missing.
     NoScript,
     /// No word is wrong, and the name of the guest is missing.

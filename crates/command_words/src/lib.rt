@@ -11,7 +11,7 @@ mod table;
 mod takes;
 mod theorems;
 
-pub use commands::{Command, Draws, Explore, Guest, Run, Settings, Source, Trial};
+pub use commands::{Command, Draws, Explore, Guest, PairRun, Run, Settings, Source, Trial};
 pub use faults::{WordsFault, words_fault};
 pub use options::Apart;
 pub use read::{WordsError, read_words};

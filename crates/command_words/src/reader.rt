@@ -98,6 +98,7 @@ impl NameKind {
     {
         match self {
             NameKind::Program => WordsFault::NoProgram,
+            NameKind::SecondProgram => WordsFault::NoSecondProgram,
             NameKind::Script => WordsFault::NoScript,
             NameKind::Guest => WordsFault::NoGuest,
             NameKind::Size => WordsFault::NoSize,

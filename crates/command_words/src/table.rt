@@ -1,5 +1,5 @@
-//! The commands: of each its word, and whether it makes or tries a guest or explores runs, or how the log of its run comes about and what is
-//! shown of it.
+//! The commands: of each its word, and whether it makes or tries a guest, explores runs or runs two programs together, or how the log of
+//! its run comes about and what is shown of it.
 
 ghost use Rattle.std.specs.Prelude.{◌≡◌};
 ghost use Rattle.command_words.specs.Table.{command_kind};
@@ -73,12 +73,14 @@ pub enum CommandKind {
     Tries,
     /// It explores the runs of a program.
     Explores,
+    /// It runs two programs together, on the events of a script.
+    Pairs,
 }
 
 /// The words of the commands.
-pub const COMMANDS: [&str; 11] = [
+pub const COMMANDS: [&str; 12] = [
     "solo", "play", "blocks", "inspect", "acts", "gather", "run", "draw", "explore", "make",
-    "trial",
+    "trial", "pair",
 ];
 
 /// What the command of a word is; None where no command has the word.
@@ -97,6 +99,7 @@ pub fn command_kind(word: &str) -> Option<CommandKind>
         "explore" => return Some(CommandKind::Explores),
         "make" => return Some(CommandKind::Makes),
         "trial" => return Some(CommandKind::Tries),
+        "pair" => return Some(CommandKind::Pairs),
         _ => return None,
     };
     Some(CommandKind::Runs { source, shown })

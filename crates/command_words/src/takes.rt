@@ -1,8 +1,8 @@
 //! What each command takes behind its word: which names, and which options.
 
 ghost use Rattle.std.specs.Prelude.{◌≡◌, ◌∷◌, [], option_map};
-ghost use Rattle.command_words.specs.declared.takes.NameKind.TheVariants.{Guest, Size};
-ghost use Rattle.command_words.specs.Kept.{named, options_kept, takes_kept};
+ghost use Rattle.command_words.specs.declared.takes.NameKind.TheVariants.{Guest, Program, Size};
+ghost use Rattle.command_words.specs.Kept.{kinds_kept, named, options_kept, takes_kept};
 ghost use Rattle.command_words.specs.Takes.{has, no_options, takes_by, takes_kind, takes_of, with_option};
 ghost use Rattle.command_words.specs.WordFaults.{kind_at};
 
@@ -148,6 +148,8 @@ const OF_EXPLORE: OptionSet = OptionSet {
 pub(crate) enum NameKind {
     /// That of a program's file.
     Program,
+    /// That of a second program's file.
+    SecondProgram,
     /// That of a script's file.
     Script,
     /// That of a guest.
@@ -156,13 +158,41 @@ pub(crate) enum NameKind {
     Size,
 }
 
+/// What the names of a command are, in their order.
+#[derive(Clone, Copy, Drop)]
+enum NameKinds {
+    /// It has one.
+    One(NameKind),
+    /// It has two.
+    Two(NameKind, NameKind),
+    /// It has three.
+    Three(NameKind, NameKind, NameKind),
+}
+
+impl NameKinds {
+    /// What the name at this place is, counted from 0; None where there are fewer.
+    fn at(self, place: usize) -> Option<NameKind>
+        ensures { result ≡ kind_at (kinds_kept self) place }
+    {
+        let (first, second, third) = match self {
+            NameKinds::One(first) => (first, None, None),
+            NameKinds::Two(first, second) => (first, Some(second), None),
+            NameKinds::Three(first, second, third) => (first, Some(second), Some(third)),
+        };
+        match place {
+            0 => Some(first),
+            1 => second,
+            2 => third,
+            _ => None,
+        }
+    }
+}
+
 /// What a command takes behind its word.
 #[derive(Clone, Copy, Drop)]
 pub(crate) struct Takes {
-    /// What its first name is.
-    first: NameKind,
-    /// What its second name is, if it has two.
-    second: Option<NameKind>,
+    /// What its names are.
+    names: NameKinds,
     /// The options that it has.
     pub(crate) options: OptionSet,
 }
@@ -172,11 +202,7 @@ impl Takes {
     pub(crate) fn name_at(self, place: usize) -> Option<NameKind>
         ensures { result ≡ kind_at (takes_kept self).names place }
     {
-        match place {
-            0 => Some(self.first),
-            1 => self.second,
-            _ => None,
-        }
+        self.names.at(place)
     }
 }
 
@@ -185,16 +211,14 @@ impl SourceKind {
     fn takes(self) -> Takes
         ensures { takes_kept result ≡ takes_by self }
     {
-        let (second, options) = match self {
-            SourceKind::ByRule => (None, ON_ONE_HART),
-            SourceKind::ByScript => (Some(NameKind::Script), ON_A_SCRIPT),
-            SourceKind::ByWorkers => (None, OF_WORKERS),
-            SourceKind::ByDraws => (None, OF_A_DRAW),
-        };
-        Takes {
-            first: NameKind::Program,
-            second,
-            options,
+        match self {
+            SourceKind::ByRule => of_a_program(ON_ONE_HART),
+            SourceKind::ByScript => Takes {
+                names: NameKinds::Two(NameKind::Program, NameKind::Script),
+                options: ON_A_SCRIPT,
+            },
+            SourceKind::ByWorkers => of_a_program(OF_WORKERS),
+            SourceKind::ByDraws => of_a_program(OF_A_DRAW),
         }
     }
 }
@@ -208,12 +232,26 @@ impl CommandKind {
             CommandKind::Runs { source, .. } => source.takes(),
             CommandKind::Makes => of_a_guest(NO_OPTIONS),
             CommandKind::Tries => of_a_guest(OF_A_TRIAL),
-            CommandKind::Explores => Takes {
-                first: NameKind::Program,
-                second: None,
-                options: OF_EXPLORE,
+            CommandKind::Explores => of_a_program(OF_EXPLORE),
+            CommandKind::Pairs => Takes {
+                names: NameKinds::Three(
+                    NameKind::Program,
+                    NameKind::SecondProgram,
+                    NameKind::Script,
+                ),
+                options: ON_A_SCRIPT,
             },
         }
+    }
+}
+
+/// What a command takes that is about a program alone and has these options.
+fn of_a_program(options: OptionSet) -> Takes
+    ensures { takes_kept result ≡ record { names = Program ∷ []; options = options_kept options } }
+{
+    Takes {
+        names: NameKinds::One(NameKind::Program),
+        options,
     }
 }
 
@@ -222,8 +260,7 @@ fn of_a_guest(options: OptionSet) -> Takes
     ensures { takes_kept result ≡ record { names = Guest ∷ Size ∷ []; options = options_kept options } }
 {
     Takes {
-        first: NameKind::Guest,
-        second: Some(NameKind::Size),
+        names: NameKinds::Two(NameKind::Guest, NameKind::Size),
         options,
     }
 }

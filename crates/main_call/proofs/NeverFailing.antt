@@ -2,7 +2,7 @@
 use Rattle.std.proofs.Common.{◌≡◌, ◌⊎◌, ℕ, inl, inr, List, Option, arith}
 use Rattle.outside.specs.Counts.{Rose}
 use Rattle.outcomes.specs.Causes.{ReadFailed}
-use Rattle.outcomes.specs.Needs.{Needs, Nothing, Program, Script, Guest, needs_in}
+use Rattle.outcomes.specs.Needs.{Needs, Nothing, Program, Script, Guest, Pair, needs_in}
 use Rattle.outcomes.specs.Outcome.{Call, IsOutcome, IsSureOutcome, NoneFailed, all_told}
 use Rattle.outcomes.specs.Programs.{Files}
 
@@ -29,6 +29,9 @@ all_read files (Program program limits) rose = never_rose rose
 all_read files (Script program script limits) (inl rose) = never_rose rose
 all_read files (Script program script limits) (inr unread) = never_rose unread.rose
 all_read files (Guest guest) failed = failed
+all_read files (Pair pair) (inl rose) = never_rose rose
+all_read files (Pair pair) (inr (inl second)) = never_rose second.holds
+all_read files (Pair pair) (inr (inr script)) = never_rose script.holds
 
 -- no device of such a call failed
 none_failed : (words : List (List ℕ)) (files : List ℕ → List ℕ) (after : Files) (held held_after : Option (List ℕ))

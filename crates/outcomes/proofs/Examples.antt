@@ -1,7 +1,7 @@
 -- Worked examples of texts and lines, by computation.
 use Rattle.std.proofs.Common.{◌≡◌, ℕ, [], ◌∷◌, ◌++◌, refl, codes}
 use Rattle.std.specs.Fmt.{digits}
-use Rattle.mach_types.specs.declared.events.Kind.TheVariants.{Exec, Done}
+use Rattle.mach_types.specs.declared.events.Kind.TheVariants.{Exec, Done, Take}
 use Rattle.mach_types.specs.declared.limits.End.TheVariants.{Exit}
 use Rattle.elf_load.specs.declared.fault.ElfFault.TheVariants.{Short, Flags}
 use Rattle.step_log.specs.Text.{hex_text}
@@ -10,6 +10,9 @@ use Rattle.block_view.specs.declared.forms.Act.{Act}
 use Rattle.block_view.specs.declared.forms.Form.{Form}
 use Rattle.block_view.specs.declared.forms.Form.TheVariants.{Step, Kernel, Sequence}
 use Rattle.outcomes.specs.declared.faults.Fault.TheVariants.{Usage, Elf, Guest, Script}
+use Rattle.shared_procs.specs.declared.outcomes.PairEnd.TheVariants as pair
+use Rattle.shared_procs.specs.declared.outcomes.ProcState.TheVariants as process
+use Rattle.outcomes.specs.PairText.{pair_tail, pair_text}
 use Rattle.outcomes.specs.Summary.{ends_text, summary_text}
 use Rattle.outcomes.specs.Text.{output_text, fault_line}
 
@@ -39,6 +42,21 @@ one_event : output_text []
     ≡ codes "console 0\n\nlog 1\n0 exec 1 0000000000010078\nend exit 7\n"
 unfolding output_text digits hex_text
 one_event = refl
+
+-- two processes: the second took a request as its thread ran, and both have exited
+pair_done : pair_text [] []
+    (record { hart = record { 0 = 1 }; kind = Take; tid = record { 0 = 2147483649 }; pc = 0x1009c } ∷ [])
+    (pair_tail (process.Exit 1) (process.Exit 0) pair.Done)
+    ≡ codes "console 0\n\nconsole 0\n\nlog 1\n1 take 2147483649 000000000001009c\n"
+    ++ codes "process 1 exit 1\nprocess 2 exit 0\nend done\n"
+unfolding pair_text digits hex_text
+pair_done = refl
+
+-- one process wrote a byte and is live, the other was killed
+pair_open : pair_text (65 ∷ []) [] [] (pair_tail process.Live (process.Killed 11) pair.Unended)
+    ≡ codes "console 1\nA\nconsole 0\n\nlog 0\nprocess 1 live\nprocess 2 killed 11\nend open\n"
+unfolding pair_text digits
+pair_open = refl
 
 -- an act of a hart, from one entry to another
 abbrev an_act : ℕ → ℕ → ℕ → Form → Act

@@ -10,17 +10,20 @@ use Rattle.outcomes.specs.declared.faults.Fault.{Fault}
 use Rattle.outcomes.specs.declared.faults.Fault.TheVariants.{Usage, Read, Memory, Big, Elf, Script, Guest}
 use Rattle.command_words.specs.Commands.{Command}
 use Rattle.outcomes.specs.Needs as need
+use Rattle.outcomes.specs.PairFiles.{AfterBoth, AfterFirst, IsPairScriptRefused}
 use Rattle.outcomes.specs.Programs.{Files, IsProgram, IsRefused, IsScript, IsTooBig, most_program_bytes}
 use Rattle.outcomes.specs.Programs.{most_script_bytes}
 use Rattle.outcomes.specs.Runs.{IsFirstBadLine}
 use Rattle.command_words.specs.Words.{command_of}
 
--- the program that is needed is refused for this fault
+-- a program that is needed is refused for this fault: of a pair the first one that is
 abbrev pub IsRefusalOf : Files → need.Needs → ElfFault → Type 0
 IsRefusalOf files need.Nothing fault = ⊥
 IsRefusalOf files (need.Program program limits) fault = IsRefused files program limits fault
 IsRefusalOf files (need.Script program script limits) fault = IsRefused files program limits fault
 IsRefusalOf files (need.Guest guest) fault = ⊥
+IsRefusalOf files (need.Pair pair) fault =
+    IsRefused files pair.first pair.limits fault ⊎ AfterFirst files pair (IsRefused files pair.second pair.limits fault)
 
 -- a script is refused at the line of this number, after its program was taken
 pub record IsScriptRefused
@@ -38,6 +41,7 @@ IsScriptRefusalOf files (need.Program program limits) number = ⊥
 IsScriptRefusalOf files (need.Script program script limits) number =
     IsScriptRefused files program script limits number
 IsScriptRefusalOf files (need.Guest guest) number = ⊥
+IsScriptRefusalOf files (need.Pair pair) number = IsPairScriptRefused files pair number
 
 -- a script has too many bytes, after its program was taken
 pub record IsBigScript (files : Files) (program script : List ℕ) (limits : Limits) : Type 0 where
@@ -45,13 +49,18 @@ pub record IsBigScript (files : Files) (program script : List ℕ) (limits : Lim
   pub taken : IsProgram files program limits image
   pub big : IsTooBig files script most_script_bytes
 
--- a file that is needed has too many bytes: the program, or the script after the program was taken
+-- a file that is needed has too many bytes: the program, or the script after the program was taken; of a pair the first file
+-- that has
 abbrev pub HasBigFile : Files → need.Needs → Type 0
 HasBigFile files need.Nothing = ⊥
 HasBigFile files (need.Program program limits) = IsTooBig files program most_program_bytes
 HasBigFile files (need.Script program script limits) =
     IsTooBig files program most_program_bytes ⊎ IsBigScript files program script limits
 HasBigFile files (need.Guest guest) = ⊥
+HasBigFile files (need.Pair pair) =
+    IsTooBig files pair.first most_program_bytes
+    ⊎ AfterFirst files pair (IsTooBig files pair.second most_program_bytes)
+    ⊎ AfterBoth files pair (IsTooBig files pair.script most_script_bytes)
 
 -- a script couldn't be read, after its program was taken: the count of faults of its name rose
 pub record IsUnreadScript
@@ -61,13 +70,16 @@ pub record IsUnreadScript
   pub rose : Rose (old script) (new script)
 
 -- a file that is needed couldn't be read: the count of faults of the program's name rose, or that of the
--- script's after the program was taken
+-- script's after the program was taken; of a pair that of a file's name after those before it were taken
 abbrev pub ReadFailed : Files → need.Needs → (List ℕ → ℕ) → (List ℕ → ℕ) → Type 0
 ReadFailed files need.Nothing old new = ⊥
 ReadFailed files (need.Program program limits) old new = Rose (old program) (new program)
 ReadFailed files (need.Script program script limits) old new =
     Rose (old program) (new program) ⊎ IsUnreadScript files program script limits old new
 ReadFailed files (need.Guest guest) old new = ⊥
+ReadFailed files (need.Pair pair) old new =
+    Rose (old pair.first) (new pair.first) ⊎ AfterFirst files pair (Rose (old pair.second) (new pair.second))
+    ⊎ AfterBoth files pair (Rose (old pair.script) (new pair.script))
 
 -- the guest that is needed doesn't take its size, which is this number
 abbrev pub IsOutsideGuest : need.Needs → ℕ → Type 0
@@ -75,6 +87,7 @@ IsOutsideGuest need.Nothing number = ⊥
 IsOutsideGuest (need.Program program limits) number = ⊥
 IsOutsideGuest (need.Script program script limits) number = ⊥
 IsOutsideGuest (need.Guest guest) number = (is_size guest.name guest.size ≡ false) × (number ≡ guest.size)
+IsOutsideGuest (need.Pair pair) number = ⊥
 
 -- why a fault comes where a command is asked for, or none; for a command want of memory is free, and for none it is
 -- no cause: what is wrong with words is found without memory

@@ -5,6 +5,7 @@ use Rattle.mach_types.specs.declared.limits.Limits.{Limits}
 use Rattle.elf_load.specs.Faults.{first_fault}
 use Rattle.block_model.specs.Setting.{Setting}
 use Rattle.guest_names.specs.Guests.{is_size}
+use Rattle.shared_procs.specs.Pairs.{PairSetting}
 use Rattle.outside.specs.Counts.{Rose}
 use Rattle.outside.specs.Told.{Gained, GainedPrefix}
 use Rattle.command_words.specs.declared.commands.Guest.{Guest as AskedGuest}
@@ -13,8 +14,8 @@ use Rattle.outcomes.specs.declared.reasons.FileRole.{FileRole}
 use Rattle.outcomes.specs.declared.reasons.Reason.{Reason}
 use Rattle.outcomes.specs.declared.reasons.Reason.TheVariants.{Words, Unread, NoMemory, TooBig, Elf, Script, Guest, Unwritten}
 use Rattle.outcomes.specs.ElfPlaces.{place_of}
-use Rattle.outcomes.specs.Programs.{Files, IsTooBig}
-use Rattle.outcomes.specs.Reasons.{IsBadLine, most_bytes, reason_status}
+use Rattle.outcomes.specs.Programs.{Files, IsTooBig, most_program_bytes}
+use Rattle.outcomes.specs.Reasons.{IsBadLine, IsBadLineOfPair, IsRefusedAbout, most_bytes, reason_status}
 
 -- the status was due and the sink gained the whole text
 pub record IsWritten (old new : Option (List ℕ)) (text : List ℕ) (due answered : ℕ) : Type 0 where
@@ -64,22 +65,37 @@ IsFileReason files name file old new said (Unread other trouble) =
 IsFileReason files name file old new said NoMemory = Unit {0}
 IsFileReason files name file old new said (TooBig other) =
     (other ≡ file) × IsTooBig files name (most_bytes file)
-IsFileReason files name file old new said (Elf fault about) = ⊥
+IsFileReason files name file old new said (Elf other fault about) = ⊥
 IsFileReason files name file old new said (Script number fault) = ⊥
 IsFileReason files name file old new said (Guest number) = ⊥
 IsFileReason files name file old new said (Unwritten trouble) = ⊥
 
--- why no image is taken from these bytes
-abbrev pub IsLoadReason : List ℕ → Limits → Reason → Type 0
-IsLoadReason bytes limits (Words fault) = ⊥
-IsLoadReason bytes limits (Unread file trouble) = ⊥
-IsLoadReason bytes limits NoMemory = Unit {0}
-IsLoadReason bytes limits (TooBig file) = ⊥
-IsLoadReason bytes limits (Elf fault about) =
-    (first_fault bytes limits.frames ≡ Some fault) × (about ≡ place_of bytes limits fault)
-IsLoadReason bytes limits (Script number fault) = ⊥
-IsLoadReason bytes limits (Guest number) = ⊥
-IsLoadReason bytes limits (Unwritten trouble) = ⊥
+-- why no image is taken from these bytes, which are those of a file of this role
+abbrev pub IsLoadReason : FileRole → List ℕ → Limits → Reason → Type 0
+IsLoadReason file bytes limits (Words fault) = ⊥
+IsLoadReason file bytes limits (Unread other trouble) = ⊥
+IsLoadReason file bytes limits NoMemory = Unit {0}
+IsLoadReason file bytes limits (TooBig other) = ⊥
+IsLoadReason file bytes limits (Elf other fault about) =
+    (other ≡ file) × (first_fault bytes limits.frames ≡ Some fault) × (about ≡ place_of bytes limits fault)
+IsLoadReason file bytes limits (Script number fault) = ⊥
+IsLoadReason file bytes limits (Guest number) = ⊥
+IsLoadReason file bytes limits (Unwritten trouble) = ⊥
+
+-- why the program of this name isn't taken, which has this role: its file isn't read, or no image is taken from its bytes
+abbrev pub IsTakeReason :
+    Files → List ℕ → FileRole → Limits → (List ℕ → ℕ) → (List ℕ → ℕ) → Option ErrorKind → Reason → Type 0
+IsTakeReason files name file limits old new said (Words fault) = ⊥
+IsTakeReason files name file limits old new said (Unread other trouble) =
+    IsUnreadFile name file old new said other trouble
+IsTakeReason files name file limits old new said NoMemory = Unit {0}
+IsTakeReason files name file limits old new said (TooBig other) =
+    (other ≡ file) × IsTooBig files name most_program_bytes
+IsTakeReason files name file limits old new said (Elf other fault about) =
+    (other ≡ file) × IsRefusedAbout files name limits fault about
+IsTakeReason files name file limits old new said (Script number fault) = ⊥
+IsTakeReason files name file limits old new said (Guest number) = ⊥
+IsTakeReason files name file limits old new said (Unwritten trouble) = ⊥
 
 -- why a script isn't played to its end: memory is short, or one of its lines is the first bad one
 abbrev pub IsPlayReason : Setting → List ℕ → Reason → Type 0
@@ -87,10 +103,21 @@ IsPlayReason s text (Words fault) = ⊥
 IsPlayReason s text (Unread file trouble) = ⊥
 IsPlayReason s text NoMemory = Unit {0}
 IsPlayReason s text (TooBig file) = ⊥
-IsPlayReason s text (Elf fault about) = ⊥
+IsPlayReason s text (Elf file fault about) = ⊥
 IsPlayReason s text (Script number fault) = IsBadLine s text number fault
 IsPlayReason s text (Guest number) = ⊥
 IsPlayReason s text (Unwritten trouble) = ⊥
+
+-- the same of a script of a pair
+abbrev pub IsPairPlayReason : PairSetting → List ℕ → Reason → Type 0
+IsPairPlayReason s text (Words fault) = ⊥
+IsPairPlayReason s text (Unread file trouble) = ⊥
+IsPairPlayReason s text NoMemory = Unit {0}
+IsPairPlayReason s text (TooBig file) = ⊥
+IsPairPlayReason s text (Elf file fault about) = ⊥
+IsPairPlayReason s text (Script number fault) = IsBadLineOfPair s text number fault
+IsPairPlayReason s text (Guest number) = ⊥
+IsPairPlayReason s text (Unwritten trouble) = ⊥
 
 -- why the file of a guest isn't made: memory is short, or the guest doesn't take its size
 abbrev pub IsGuestReason : AskedGuest → Reason → Type 0
@@ -98,7 +125,7 @@ IsGuestReason guest (Words fault) = ⊥
 IsGuestReason guest (Unread file trouble) = ⊥
 IsGuestReason guest NoMemory = Unit {0}
 IsGuestReason guest (TooBig file) = ⊥
-IsGuestReason guest (Elf fault about) = ⊥
+IsGuestReason guest (Elf file fault about) = ⊥
 IsGuestReason guest (Script number fault) = ⊥
 IsGuestReason guest (Guest number) = (is_size guest.name guest.size ≡ false) × (number ≡ guest.size)
 IsGuestReason guest (Unwritten trouble) = ⊥

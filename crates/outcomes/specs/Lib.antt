@@ -7,6 +7,9 @@ pub mod Guests
 pub mod Needs
 pub mod Outcome
 pub mod Outputs
+pub mod PairFiles
+pub mod PairText
+pub mod PlayedPairs
 pub mod Programs
 pub mod Reasons
 pub mod Rounds

@@ -1,5 +1,5 @@
--- The output of a command: what it shows of a whole run of its program, the file of its guest, the text of its trial, or that
--- of its exploration.
+-- The output of a command: what it shows of a whole run of its program, the file of its guest, the text of its trial, that of its
+-- exploration, or that of its pair.
 use Rattle.std.specs.Prelude.{ℕ, ◌≡◌, ◌++◌, List, Option, Some, None, Ok, length, map}
 use Rattle.std.specs.List.{flat_map}
 use Rattle.mach_types.specs.declared.events.Entry.{Entry}
@@ -19,10 +19,11 @@ use Rattle.place_text.specs.Place.{place_text}
 use Rattle.command_words.specs.declared.commands.Draws.{Draws}
 use Rattle.command_words.specs.declared.table.Shown.{Shown}
 use Rattle.command_words.specs.declared.table.Shown.TheVariants as shows
-use Rattle.command_words.specs.Commands.{Command, Run, Runs, Makes, Tries, Explores, Source, Rule, Script, Workers, Drawn, DrawnAfter}
+use Rattle.command_words.specs.Commands.{Command, Run, Runs, Makes, Tries, Explores, Pairs, Source, Rule, Script, Workers, Drawn, DrawnAfter}
 use Rattle.command_words.specs.Words.{command_of}
 use Rattle.outcomes.specs.Explorations.{IsExploreOutput}
 use Rattle.outcomes.specs.Guests.{IsGuestOutput, IsPlainTrialOutput, IsTrialOutput}
+use Rattle.outcomes.specs.PairFiles.{IsPairOutput}
 use Rattle.outcomes.specs.Programs.{Files, IsProgram, IsScript, asks_of}
 use Rattle.outcomes.specs.Runs.{IsChosenRun, IsSoloRun, IsPlayedRun}
 use Rattle.outcomes.specs.Summary.{act_line, summary_text}
@@ -100,6 +101,7 @@ IsOutputOf files (Some (Runs run)) written = IsRunOutput files run written
 IsOutputOf files (Some (Makes guest)) written = IsGuestOutput guest written
 IsOutputOf files (Some (Tries trial)) written = IsTrialOutput trial written
 IsOutputOf files (Some (Explores program settings)) written = IsExploreOutput files program settings written
+IsOutputOf files (Some (Pairs pair)) written = IsPairOutput files pair written
 
 -- the output of the words
 abbrev pub IsOutput : Files → List (List ℕ) → List ℕ → Type 0
@@ -148,14 +150,15 @@ pub record IsPlainRunOutput (files : Files) (asked : Run) (written : List ℕ) :
   pub made : IsPlainRunOf files asked.source (setting_for asked image) run
   pub text : written ≡ plain_text asked.shown (setting_for asked image) run
 
--- the plain machine's output of a command; for the file of a guest no machine runs, and of an exploration this says no more than
--- its own definition
+-- the plain machine's output of a command; for the file of a guest no machine runs, and of an exploration and of a pair this says
+-- no more than their own definitions
 abbrev pub IsPlainOutputOf : Files → Option Command → List ℕ → Type 0
 IsPlainOutputOf files None written = ⊥
 IsPlainOutputOf files (Some (Runs run)) written = IsPlainRunOutput files run written
 IsPlainOutputOf files (Some (Makes guest)) written = IsGuestOutput guest written
 IsPlainOutputOf files (Some (Tries trial)) written = IsPlainTrialOutput trial written
 IsPlainOutputOf files (Some (Explores program settings)) written = IsExploreOutput files program settings written
+IsPlainOutputOf files (Some (Pairs pair)) written = IsPairOutput files pair written
 
 -- the plain machine's output of the words
 abbrev pub IsPlainOutput : Files → List (List ℕ) → List ℕ → Type 0

@@ -9,8 +9,14 @@ use Rattle.block_model.specs.Deciding.{decide, history}
 use Rattle.block_model.specs.Replay.{Ask, is_as_said}
 use Rattle.block_model.specs.Setting.{Setting, setting_of}
 use Rattle.block_model.specs.declared.refusals.Refused.{Refused}
+use Rattle.block_model.specs.declared.refusals.Refused.TheVariants as barred
+use Rattle.shared_procs.specs.Pairs.{Pair, PairSetting, pair_setting_of}
+use Rattle.shared_procs.specs.PairRuns.{pair_decide}
+use Rattle.shared_procs.specs.declared.outcomes.PairRefused.{PairRefused}
+use Rattle.shared_procs.specs.declared.outcomes.PairRefused.TheVariants as two
 use Rattle.outside.specs.Counts.{Rose}
 use Rattle.command_words.specs.declared.faults.WordsFault.{WordsFault}
+use Rattle.command_words.specs.Commands.{PairRun}
 use Rattle.command_words.specs.WordFaults.{words_fault}
 use Rattle.command_words.specs.Words.{command_of}
 use Rattle.outcomes.specs.declared.faults.Fault.{Fault}
@@ -28,6 +34,8 @@ use Rattle.outcomes.specs.ElfPlaces.{place_of}
 use Rattle.outcomes.specs.Needs as need
 use Rattle.outcomes.specs.Outcome.{Call, CouldNotWrite, IsOutcome, WrotePrefix, WroteText}
 use Rattle.outcomes.specs.Outputs.{IsOutput}
+use Rattle.outcomes.specs.PairFiles.{AfterBoth, AfterFirst, IsPairScriptRefused}
+use Rattle.outcomes.specs.PlayedPairs.{IsFirstBadOfPair, pair_at}
 use Rattle.outcomes.specs.Programs.{Files, IsRefused, IsTooBig, most_program_bytes, most_script_bytes}
 use Rattle.outcomes.specs.Runs.{IsFirstBadLine}
 use Rattle.outcomes.specs.Text.{fault_line}
@@ -35,12 +43,13 @@ use Rattle.outcomes.specs.Text.{fault_line}
 -- how many bytes a file of this role may have
 abbrev pub most_bytes : FileRole → ℕ
 most_bytes role.Program = most_program_bytes
+most_bytes role.SecondProgram = most_program_bytes
 most_bytes role.Script = most_script_bytes
 
 -- the exit status that goes with a reason
 abbrev pub reason_status : Reason → ℕ
 reason_status (Words fault) = 2
-reason_status (Elf fault about) = 3
+reason_status (Elf file fault about) = 3
 reason_status (Script number fault) = 4
 reason_status (Unread file trouble) = 5
 reason_status (Unwritten trouble) = 6
@@ -54,7 +63,7 @@ fault_told (Words fault) = Some told.Usage
 fault_told (Unread file trouble) = Some told.Read
 fault_told NoMemory = Some told.Memory
 fault_told (TooBig file) = Some told.Big
-fault_told (Elf fault about) = Some (told.Elf fault)
+fault_told (Elf file fault about) = Some (told.Elf fault)
 fault_told (Script number fault) = Some (told.Script number)
 fault_told (Guest number) = Some (told.Guest number)
 fault_told (Unwritten trouble) = None
@@ -76,25 +85,60 @@ pub record IsBadLine (s : Setting) (text : List ℕ) (number : ℕ) (fault : Lin
   pub first : IsFirstBadLine s text number
   pub why : line_fault s first.log first.line ≡ Some fault
 
+-- what is wrong with a line by what is decided of its event where two processes stand: no process goes on, the event isn't allowed
+-- for another reason, or its entry isn't as the line says; none where nothing is
+abbrev pub refusal_of_pair : PairRefused → LineFault
+refusal_of_pair two.Ended = line.NoneGoesOn
+refusal_of_pair two.Full = line.Refused barred.Full
+refusal_of_pair (two.NotEnabled why) = line.Refused (barred.NotEnabled why)
+
+abbrev pub decided_for_pair : Option (Tid × ℕ) → Result Entry PairRefused → Option LineFault
+decided_for_pair check (Err refused) = Some (refusal_of_pair refused)
+decided_for_pair check (Ok e) = if is_as_said check e then None else Some (line.Differs e)
+
+-- what is wrong with a line of a script there: it can't be read, or what is decided of it
+abbrev pub line_fault_of_pair : PairSetting → Pair → Option Ask → Option LineFault
+line_fault_of_pair s m None = Some line.Malformed
+line_fault_of_pair s m (Some ask) = decided_for_pair ask.check (pair_decide s m ask.hart.0 ask.choice)
+
+-- the line of this number is the first bad one of a script of a pair, and this is what is wrong with it
+pub record IsBadLineOfPair (s : PairSetting) (text : List ℕ) (number : ℕ) (fault : LineFault) : Type 0 where
+  pub first : IsFirstBadOfPair s text number
+  pub why : line_fault_of_pair s (pair_at s first.log) first.line ≡ Some fault
+
 -- the file of this role couldn't be read: the count of faults of the program's name rose, or that of the
--- script's after the program was taken
+-- script's after the program was taken; of a pair that of a file's name after those before it were taken
 abbrev pub IsUnread : Files → need.Needs → (List ℕ → ℕ) → (List ℕ → ℕ) → FileRole → Type 0
 IsUnread files need.Nothing old new file = ⊥
 IsUnread files (need.Program program limits) old new role.Program = Rose (old program) (new program)
+IsUnread files (need.Program program limits) old new role.SecondProgram = ⊥
 IsUnread files (need.Program program limits) old new role.Script = ⊥
 IsUnread files (need.Script program script limits) old new role.Program = Rose (old program) (new program)
+IsUnread files (need.Script program script limits) old new role.SecondProgram = ⊥
 IsUnread files (need.Script program script limits) old new role.Script =
     IsUnreadScript files program script limits old new
 IsUnread files (need.Guest guest) old new file = ⊥
+IsUnread files (need.Pair pair) old new role.Program = Rose (old pair.first) (new pair.first)
+IsUnread files (need.Pair pair) old new role.SecondProgram =
+    AfterFirst files pair (Rose (old pair.second) (new pair.second))
+IsUnread files (need.Pair pair) old new role.Script =
+    AfterBoth files pair (Rose (old pair.script) (new pair.script))
 
--- the file of this role has too many bytes: the program, or the script after the program was taken
+-- the file of this role has too many bytes: the program, or the script after the program was taken; of a pair a file after those
+-- before it were taken
 abbrev pub IsBig : Files → need.Needs → FileRole → Type 0
 IsBig files need.Nothing file = ⊥
 IsBig files (need.Program program limits) role.Program = IsTooBig files program most_program_bytes
+IsBig files (need.Program program limits) role.SecondProgram = ⊥
 IsBig files (need.Program program limits) role.Script = ⊥
 IsBig files (need.Script program script limits) role.Program = IsTooBig files program most_program_bytes
+IsBig files (need.Script program script limits) role.SecondProgram = ⊥
 IsBig files (need.Script program script limits) role.Script = IsBigScript files program script limits
 IsBig files (need.Guest guest) file = ⊥
+IsBig files (need.Pair pair) role.Program = IsTooBig files pair.first most_program_bytes
+IsBig files (need.Pair pair) role.SecondProgram =
+    AfterFirst files pair (IsTooBig files pair.second most_program_bytes)
+IsBig files (need.Pair pair) role.Script = AfterBoth files pair (IsTooBig files pair.script most_script_bytes)
 
 -- the program of this name was read, and is refused for this fault, which is about this
 pub record IsRefusedAbout
@@ -102,13 +146,19 @@ pub record IsRefusedAbout
   pub refused : IsRefused files name limits fault
   pub place : about ≡ place_of refused.bytes limits fault
 
--- the program that is needed is
-abbrev pub IsRefusalAbout : Files → need.Needs → ElfFault → Option ElfPlace → Type 0
-IsRefusalAbout files need.Nothing fault about = ⊥
-IsRefusalAbout files (need.Program program limits) fault about = IsRefusedAbout files program limits fault about
-IsRefusalAbout files (need.Script program script limits) fault about =
-    IsRefusedAbout files program limits fault about
-IsRefusalAbout files (need.Guest guest) fault about = ⊥
+-- the program that is needed is, which has this role
+abbrev pub IsRefusalAbout : Files → need.Needs → FileRole → ElfFault → Option ElfPlace → Type 0
+IsRefusalAbout files need.Nothing file fault about = ⊥
+IsRefusalAbout files (need.Program program limits) file fault about =
+    (file ≡ role.Program) × IsRefusedAbout files program limits fault about
+IsRefusalAbout files (need.Script program script limits) file fault about =
+    (file ≡ role.Program) × IsRefusedAbout files program limits fault about
+IsRefusalAbout files (need.Guest guest) file fault about = ⊥
+IsRefusalAbout files (need.Pair pair) role.Program fault about =
+    IsRefusedAbout files pair.first pair.limits fault about
+IsRefusalAbout files (need.Pair pair) role.SecondProgram fault about =
+    AfterFirst files pair (IsRefusedAbout files pair.second pair.limits fault about)
+IsRefusalAbout files (need.Pair pair) role.Script fault about = ⊥
 
 -- a script is refused at the line of this number, after its program was taken, and this is what is wrong with
 -- the line
@@ -117,6 +167,12 @@ pub record IsScriptRefusedFor
   pub refused : IsScriptRefused files program script limits number
   pub why : line_fault (setting_of refused.image limits) refused.first.log refused.first.line ≡ Some fault
 
+-- the script of a pair is
+pub record IsPairScriptRefusedFor (files : Files) (pair : PairRun) (number : ℕ) (fault : LineFault) : Type 0 where
+  pub refused : IsPairScriptRefused files pair number
+  pub why : line_fault_of_pair (pair_setting_of refused.one refused.two pair.limits)
+      (pair_at (pair_setting_of refused.one refused.two pair.limits) refused.first.log) refused.first.line ≡ Some fault
+
 -- the script that is needed is
 abbrev pub IsScriptRefusalFor : Files → need.Needs → ℕ → LineFault → Type 0
 IsScriptRefusalFor files need.Nothing number fault = ⊥
@@ -124,6 +180,7 @@ IsScriptRefusalFor files (need.Program program limits) number fault = ⊥
 IsScriptRefusalFor files (need.Script program script limits) number fault =
     IsScriptRefusedFor files program script limits number fault
 IsScriptRefusalFor files (need.Guest guest) number fault = ⊥
+IsScriptRefusalFor files (need.Pair pair) number fault = IsPairScriptRefusedFor files pair number fault
 
 -- a file of this role couldn't be read, and this is what the shelf says of its last fault
 pub record IsUnreadFor
@@ -139,7 +196,7 @@ IsReasonFor files needs old new said (Words fault) = ⊥
 IsReasonFor files needs old new said (Unread file trouble) = IsUnreadFor files needs old new said file trouble
 IsReasonFor files needs old new said NoMemory = Unit {0}
 IsReasonFor files needs old new said (TooBig file) = IsBig files needs file
-IsReasonFor files needs old new said (Elf fault about) = IsRefusalAbout files needs fault about
+IsReasonFor files needs old new said (Elf file fault about) = IsRefusalAbout files needs file fault about
 IsReasonFor files needs old new said (Script number fault) = IsScriptRefusalFor files needs number fault
 IsReasonFor files needs old new said (Guest number) = IsOutsideGuest needs number
 IsReasonFor files needs old new said (Unwritten trouble) = ⊥

@@ -8,7 +8,10 @@ use Rattle.elf_load.specs.declared.image.Image.{Image}
 use Rattle.elf_load.specs.Images.{IsImage}
 use Rattle.guest_names.specs.Guests.{is_size}
 use Rattle.block_model.specs.Setting.{setting_of}
-use Rattle.outcomes.specs.Needs.{Needs, Nothing, Program, Script, Guest}
+use Rattle.shared_procs.specs.Pairs.{pair_setting_of}
+use Rattle.command_words.specs.Commands.{PairRun}
+use Rattle.outcomes.specs.Needs.{Needs, Nothing, Program, Script, Guest, Pair}
+use Rattle.outcomes.specs.PlayedPairs.{IsFirstBadOfPair, IsPlayedPair}
 use Rattle.outcomes.specs.Programs.{Files, IsFaulty, IsGood, most_program_bytes, most_script_bytes}
 use Rattle.outcomes.specs.Runs.{IsFirstBadLine, IsPlayedRun}
 
@@ -54,12 +57,37 @@ pub record TellsBadLine (files : Files) (program script : List ℕ) (limits : Li
   pub number : ℕ
   pub first : IsFirstBadLine (setting_of both.image limits) both.lines number
 
+-- two good programs and the script beside them are told, and the script isn't too big; these are the programs' images
+pub record TellsPair (files : Files) (pair : PairRun) : Type 0 where
+  pub first : TellsGood files pair.first pair.limits
+  pub one : Image
+  pub first_loaded : IsImage first.bytes one
+  pub second : TellsGood files pair.second pair.limits
+  pub two : Image
+  pub second_loaded : IsImage second.bytes two
+  pub lines : List ℕ
+  pub script_told : files pair.script ≡ Some lines
+  pub fits : length lines ≤ most_script_bytes
+
+-- each line of the script can be read, and its event is allowed
+pub record TellsAllowedPair (files : Files) (pair : PairRun) : Type 0 where
+  pub all : TellsPair files pair
+  pub log : List Entry
+  pub run : IsPlayedPair (pair_setting_of all.one all.two pair.limits) all.lines log
+
+-- a line of the script is the first that can't be read, isn't allowed, or differs
+pub record TellsBadLineOfPair (files : Files) (pair : PairRun) : Type 0 where
+  pub all : TellsPair files pair
+  pub number : ℕ
+  pub first : IsFirstBadOfPair (pair_setting_of all.one all.two pair.limits) all.lines number
+
 -- the files that are needed are told, and nothing else is needed
 abbrev pub AreTold : Files → Needs → Type 0
 AreTold files Nothing = Unit {0}
 AreTold files (Program program limits) = IsSome (files program)
 AreTold files (Script program script limits) = IsSome (files program) × IsSome (files script)
 AreTold files (Guest guest) = ⊥
+AreTold files (Pair pair) = IsSome (files pair.first) × IsSome (files pair.second) × IsSome (files pair.script)
 
 -- the files that are needed are told and give a whole output, or the guest that is needed takes its size
 abbrev pub TellsGoodFiles : Files → Needs → Type 0
@@ -67,13 +95,17 @@ TellsGoodFiles files Nothing = ⊥
 TellsGoodFiles files (Program program limits) = TellsGood files program limits
 TellsGoodFiles files (Script program script limits) = TellsAllowed files program script limits
 TellsGoodFiles files (Guest guest) = is_size guest.name guest.size ≡ true
+TellsGoodFiles files (Pair pair) = TellsAllowedPair files pair
 
--- the program that is needed is told and is refused
+-- the program that is needed is told and is refused; of a pair the first, or the second beside a good one
 abbrev pub TellsFaultyProgram : Files → Needs → Type 0
 TellsFaultyProgram files Nothing = ⊥
 TellsFaultyProgram files (Program program limits) = TellsFaulty files program limits
 TellsFaultyProgram files (Script program script limits) = TellsFaulty files program limits
 TellsFaultyProgram files (Guest guest) = ⊥
+TellsFaultyProgram files (Pair pair) =
+    TellsFaulty files pair.first pair.limits
+    ⊎ (TellsGood files pair.first pair.limits × TellsFaulty files pair.second pair.limits)
 
 -- the script that is needed is told and is refused
 abbrev pub TellsBadScript : Files → Needs → Type 0
@@ -81,8 +113,10 @@ TellsBadScript files Nothing = ⊥
 TellsBadScript files (Program program limits) = ⊥
 TellsBadScript files (Script program script limits) = TellsBadLine files program script limits
 TellsBadScript files (Guest guest) = ⊥
+TellsBadScript files (Pair pair) = TellsBadLineOfPair files pair
 
--- a file that is needed is told and is too big: the program, or the script beside a good program
+-- a file that is needed is told and is too big: the program, or the script beside a good program; of a pair a file beside good
+-- programs before it
 abbrev pub TellsBigFile : Files → Needs → Type 0
 TellsBigFile files Nothing = ⊥
 TellsBigFile files (Program program limits) = TellsBig files program most_program_bytes
@@ -90,3 +124,8 @@ TellsBigFile files (Script program script limits) =
     TellsBig files program most_program_bytes
     ⊎ (TellsGood files program limits × TellsBig files script most_script_bytes)
 TellsBigFile files (Guest guest) = ⊥
+TellsBigFile files (Pair pair) =
+    TellsBig files pair.first most_program_bytes
+    ⊎ (TellsGood files pair.first pair.limits × TellsBig files pair.second most_program_bytes)
+    ⊎ (TellsGood files pair.first pair.limits × TellsGood files pair.second pair.limits
+    × TellsBig files pair.script most_script_bytes)

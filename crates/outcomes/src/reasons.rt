@@ -20,8 +20,10 @@ const MOST_SCRIPT_BYTES: usize = 67_108_864;
 /// What a file is to a command.
 #[derive(Clone, Copy, Drop)]
 pub enum FileRole {
-    /// The program that it runs.
+    /// The program that it runs; of two the first.
     Program,
+    /// The second of two programs that it runs.
+    SecondProgram,
     /// The script whose events it makes.
     Script,
 }
@@ -32,7 +34,7 @@ impl FileRole {
         ensures { result ≡ most_bytes self }
     {
         match self {
-            FileRole::Program => MOST_PROGRAM_BYTES,
+            FileRole::Program | FileRole::SecondProgram => MOST_PROGRAM_BYTES,
             FileRole::Script => MOST_SCRIPT_BYTES,
         }
     }
@@ -45,6 +47,8 @@ pub enum LineFault {
     Malformed,
     /// Its event isn't allowed, for this reason.
     Refused(Refused),
+    /// Its event isn't allowed: neither of two processes goes on.
+    NoneGoesOn,
     /// Its event is allowed and is this entry, whose thread or pc isn't as the line says.
     Differs(Entry),
 }
@@ -97,6 +101,8 @@ pub enum Reason {
     TooBig(FileRole),
     /// The program's file is refused.
     Elf {
+        /// The program of this role.
+        file: FileRole,
         /// For this fault.
         fault: ElfFault,
         /// The place that it is about, if it is about one.

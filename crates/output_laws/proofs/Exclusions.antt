@@ -16,7 +16,14 @@ use Rattle.outcomes.specs.declared.faults.Fault.TheVariants as fault
 use Rattle.outcomes.specs.declared.faults.Fault.TheVariants.{Usage, Read, Memory, Big, Elf}
 use Rattle.outcomes.specs.Causes.{HasBigFile, IsBigScript, IsCauseOf, IsRefusalOf, IsScriptRefusalOf}
 use Rattle.outcomes.specs.Causes.{IsOutsideGuest, IsScriptRefused, ReadFailed}
-use Rattle.outcomes.specs.Needs.{Needs, Nothing, Program, Script, Guest, needs_by, needs_of}
+use Rattle.outcomes.specs.Needs.{Needs, Nothing, Program, Script, Guest, Pair, needs_by, needs_of}
+use Rattle.outcomes.specs.PairFiles.{HasPairRun}
+use Rattle.shared_procs.specs.PairRuns.{PairSeen}
+use Rattle.output_laws.proofs.FileExclusions.{big_program, big_refused, big_script_read, faulty_fits, faulty_program, good_not_refused}
+use Rattle.output_laws.proofs.FileExclusions.{not_big, program_fits, read_as_told}
+use Rattle.output_laws.proofs.PairExclusions.{no_big_when_faulty_pair, no_big_when_told_pair, no_line_when_good_pair}
+use Rattle.output_laws.proofs.PairExclusions.{no_refusal_when_big_pair, no_refusal_when_told_pair, not_taken_when_faulty_pair}
+use Rattle.output_laws.proofs.PairExclusions.{unused_when_bad_line_of_pair, unused_when_big_pair}
 use Rattle.outcomes.specs.Outputs.{IsLogOf, IsOutputOf}
 use Rattle.outcomes.specs.Programs.{Files, IsFaulty, IsGood, IsProgram, IsReadAs, IsRefused, IsScript}
 use Rattle.outcomes.specs.Programs.{IsTooBig, asks_of, most_program_bytes, most_script_bytes}
@@ -25,53 +32,6 @@ use Rattle.outcomes.specs.Statuses.{fault_status}
 use Rattle.outcomes.specs.Told.{TellsBadScript, TellsBig, TellsBigFile, TellsBoth, TellsFaulty}
 use Rattle.outcomes.specs.Told.{TellsFaultyProgram, TellsGood, TellsGoodFiles}
 use Rattle.command_words.specs.Commands as words
-
--- a file that is told was read as it is
-read_as_told : (files : Files) (name bytes told : List ℕ) → IsReadAs files name bytes → files name ≡ Some told
-    → bytes ≡ told
-read_as_told files name bytes told read is = subst (λ o. IfSome o (λ t. bytes ≡ t)) is read
-
-big_as_told : (files : Files) (name told : List ℕ) (most : ℕ) → IsTooBig files name most
-    → files name ≡ Some told → most < length told
-big_as_told files name told most big is = subst (λ o. IfSome o (λ t. most < length t)) is big
-
--- a file that fits isn't too big
-not_big : (files : Files) (name told : List ℕ) (most : ℕ) → files name ≡ Some told → length told ≤ most
-    → ¬ (IsTooBig files name most)
-not_big files name told most is fits big = omega (arith, big_as_told files name told most big is)
-
--- one program is good or faulty, not both, and neither where it is too big
-good_not_faulty : (limits : Limits) (bytes other : List ℕ) (fault : ElfFault) → IsGood limits bytes
-    → IsFaulty limits other fault → other ≢ bytes
-good_not_faulty limits bytes other fault good faulty same =
-    let none = subst (λ b. IsGood limits b) (sym same) good in
-    absurd (cc (sym none.no_fault ∙ faulty.due))
-
-good_not_refused : (files : Files) (name bytes : List ℕ) (limits : Limits) (fault : ElfFault)
-    → files name ≡ Some bytes → IsGood limits bytes → ¬ (IsRefused files name limits fault)
-good_not_refused files name bytes limits fault told good refused =
-    good_not_faulty limits bytes refused.bytes fault good refused.faulty
-    (read_as_told files name refused.bytes bytes refused.read told)
-
-faulty_not_taken : (files : Files) (name bytes : List ℕ) (limits : Limits) (fault : ElfFault) (image : Image)
-    → files name ≡ Some bytes → IsFaulty limits bytes fault → ¬ (IsProgram files name limits image)
-faulty_not_taken files name bytes limits fault image told faulty taken =
-    good_not_faulty limits taken.bytes bytes fault taken.good faulty
-    (sym (read_as_told files name taken.bytes bytes taken.read told))
-
-big_not_taken : (files : Files) (name bytes : List ℕ) (limits : Limits) (image : Image)
-    → files name ≡ Some bytes → most_program_bytes < length bytes → ¬ (IsProgram files name limits image)
-big_not_taken files name bytes limits image told big taken =
-    let same = read_as_told files name taken.bytes bytes taken.read told in
-    let long = subst (λ b. most_program_bytes < length b) (sym same) big in
-    omega (arith, long, taken.good.fits)
-
-big_not_refused : (files : Files) (name bytes : List ℕ) (limits : Limits) (fault : ElfFault)
-    → files name ≡ Some bytes → most_program_bytes < length bytes → ¬ (IsRefused files name limits fault)
-big_not_refused files name bytes limits fault told big refused =
-    let same = read_as_told files name refused.bytes bytes refused.read told in
-    let long = subst (λ b. most_program_bytes < length b) (sym same) big in
-    omega (arith, long, refused.faulty.fits)
 
 -- a script whose lines are all allowed has no bad line
 allowed_not_bad : (s : Setting) (text : List ℕ) (log : List Entry) (n : ℕ) → IsPlayedRun s text log
@@ -100,6 +60,7 @@ AreUsed files (Script program script limits) =
     (image : Image) × (lines : List ℕ) × (log : List Entry) × IsProgram files program limits image
     × IsScript files script lines × IsPlayedRun (setting_of image limits) lines log
 AreUsed files (Guest guest) = is_size guest.name guest.size ≡ true
+AreUsed files (Pair pair) = (v : PairSeen) × HasPairRun files pair v
 
 used_by_run : (files : Files) (program : List ℕ) (limits : Limits) (source : words.Source) (image : Image)
     (log : List Entry) → IsProgram files program limits image
@@ -120,11 +81,7 @@ used_by_output files (Some (words.Runs run)) written output =
 used_by_output files (Some (words.Makes guest)) written output = output.taken
 used_by_output files (Some (words.Tries trial)) written output = output.taken.made.taken
 used_by_output files (Some (words.Explores program settings)) written output = (output.image, output.taken)
-
--- the program is good
-program_fits : (files : Files) (name bytes : List ℕ) (limits : Limits) → files name ≡ Some bytes
-    → IsGood limits bytes → ¬ (IsTooBig files name most_program_bytes)
-program_fits files name bytes limits told good = not_big files name bytes most_program_bytes told good.fits
+used_by_output files (Some (words.Pairs pair)) written output = (output.seen, output.made)
 
 script_fits : (files : Files) (program script : List ℕ) (limits : Limits)
     → (both : TellsBoth files program script limits) → ¬ (IsTooBig files script most_script_bytes)
@@ -158,6 +115,7 @@ no_big_when_good files (Program program limits) told big =
 no_big_when_good files (Guest guest) told big = big
 no_big_when_good files (Script program script limits) told big =
     no_big_file files program script limits told.both big
+no_big_when_good files (Pair pair) told big = no_big_when_told_pair files pair told.all big
 
 no_refusal_when_good : (files : Files) (needs : Needs) (fault : ElfFault) → TellsGoodFiles files needs
     → ¬ (IsRefusalOf files needs fault)
@@ -167,6 +125,7 @@ no_refusal_when_good files (Program program limits) fault told refused =
 no_refusal_when_good files (Guest guest) fault told refused = refused
 no_refusal_when_good files (Script program script limits) fault told refused =
     good_not_refused files program told.both.bytes limits fault told.both.told told.both.good refused
+no_refusal_when_good files (Pair pair) fault told refused = no_refusal_when_told_pair files pair fault told.all refused
 
 no_bad_line_when_good : (files : Files) (needs : Needs) (n : ℕ) → TellsGoodFiles files needs
     → ¬ (IsScriptRefusalOf files needs n)
@@ -176,12 +135,14 @@ no_bad_line_when_good files (Guest guest) n told refused = refused
 no_bad_line_when_good files (Script program script limits) n told refused =
     allowed_not_bad (setting_of told.both.image limits) told.both.lines told.log n told.run
     (same_first files program script limits n told.both refused)
+no_bad_line_when_good files (Pair pair) n told refused = no_line_when_good_pair files pair n told refused
 
 no_guest_when_good : (files : Files) (needs : Needs) (n : ℕ) → TellsGoodFiles files needs
     → ¬ (IsOutsideGuest needs n)
 no_guest_when_good files Nothing n told outside = outside
 no_guest_when_good files (Program program limits) n told outside = outside
 no_guest_when_good files (Script program script limits) n told outside = outside
+no_guest_when_good files (Pair pair) n told outside = outside
 no_guest_when_good files (Guest guest) n told outside = absurd (cc (sym told ∙ outside.0))
 
 -- a fault comes for a command's needs, for want of memory, or where there is no command
@@ -207,16 +168,6 @@ fault_when_good files command old new (fault.Script number) told unread cause =
     absurd (no_bad_line_when_good files (needs_of command) number told cause)
 
 -- what can't be where a faulty program is told
-faulty_fits : (files : Files) (name : List ℕ) (limits : Limits) → (told : TellsFaulty files name limits)
-    → ¬ (IsTooBig files name most_program_bytes)
-faulty_fits files name limits told =
-    not_big files name told.bytes most_program_bytes told.told told.faulty.fits
-
-faulty_program : (files : Files) (name : List ℕ) (limits : Limits) (image : Image)
-    → (told : TellsFaulty files name limits) → ¬ (IsProgram files name limits image)
-faulty_program files name limits image told =
-    faulty_not_taken files name told.bytes limits told.fault image told.told told.faulty
-
 faulty_big : (files : Files) (program script : List ℕ) (limits : Limits) → TellsFaulty files program limits
     → ¬ (IsTooBig files program most_program_bytes ⊎ IsBigScript files program script limits)
 faulty_big files program script limits told (inl big) = faulty_fits files program limits told big
@@ -230,6 +181,7 @@ no_big_when_faulty files (Program program limits) told big = faulty_fits files p
 no_big_when_faulty files (Guest guest) told big = absurd told
 no_big_when_faulty files (Script program script limits) told big =
     faulty_big files program script limits told big
+no_big_when_faulty files (Pair pair) told big = no_big_when_faulty_pair files pair told big
 
 no_bad_line_when_faulty : (files : Files) (needs : Needs) (n : ℕ) → TellsFaultyProgram files needs
     → ¬ (IsScriptRefusalOf files needs n)
@@ -238,6 +190,8 @@ no_bad_line_when_faulty files (Program program limits) n told refused = refused
 no_bad_line_when_faulty files (Guest guest) n told refused = absurd told
 no_bad_line_when_faulty files (Script program script limits) n told refused =
     faulty_program files program limits refused.image told refused.taken
+no_bad_line_when_faulty files (Pair pair) n told refused =
+    not_taken_when_faulty_pair files pair refused.one refused.two told refused.taken
 
 pub unused_when_faulty : (files : Files) (needs : Needs) → TellsFaultyProgram files needs
     → ¬ (AreUsed files needs)
@@ -247,6 +201,8 @@ unused_when_faulty files (Program program limits) told used =
 unused_when_faulty files (Guest guest) told used = absurd told
 unused_when_faulty files (Script program script limits) told used =
     faulty_program files program limits used.0 told used.3
+unused_when_faulty files (Pair pair) told used =
+    not_taken_when_faulty_pair files pair used.1.one used.1.two told used.1.taken
 
 no_guest_when_faulty : (files : Files) (needs : Needs) (n : ℕ) → TellsFaultyProgram files needs
     → ¬ (IsOutsideGuest needs n)
@@ -254,6 +210,7 @@ no_guest_when_faulty files Nothing n told outside = outside
 no_guest_when_faulty files (Program program limits) n told outside = outside
 no_guest_when_faulty files (Script program script limits) n told outside = outside
 no_guest_when_faulty files (Guest guest) n told outside = told
+no_guest_when_faulty files (Pair pair) n told outside = outside
 
 -- where a faulty program is told, it is refused
 pub fault_when_faulty : (files : Files) (command : Option words.Command) (old new : List ℕ → ℕ) (fault : Fault)
@@ -279,6 +236,7 @@ no_big_when_bad_line files (Program program limits) told big = absurd told
 no_big_when_bad_line files (Guest guest) told big = absurd told
 no_big_when_bad_line files (Script program script limits) told big =
     no_big_file files program script limits told.both big
+no_big_when_bad_line files (Pair pair) told big = no_big_when_told_pair files pair told.all big
 
 no_refusal_when_bad_line : (files : Files) (needs : Needs) (fault : ElfFault) → TellsBadScript files needs
     → ¬ (IsRefusalOf files needs fault)
@@ -287,6 +245,7 @@ no_refusal_when_bad_line files (Program program limits) fault told refused = abs
 no_refusal_when_bad_line files (Guest guest) fault told refused = absurd told
 no_refusal_when_bad_line files (Script program script limits) fault told refused =
     good_not_refused files program told.both.bytes limits fault told.both.told told.both.good refused
+no_refusal_when_bad_line files (Pair pair) fault told refused = no_refusal_when_told_pair files pair fault told.all refused
 
 pub unused_when_bad_line : (files : Files) (needs : Needs) → TellsBadScript files needs
     → ¬ (AreUsed files needs)
@@ -299,6 +258,7 @@ unused_when_bad_line files (Script program script limits) told used =
     (same_start files program script limits used.0 told.both used.3) used.5 in
     allowed_not_bad (setting_of told.both.image limits) told.both.lines used.2 told.number
     (subst (λ text. IsPlayedRun (setting_of told.both.image limits) text used.2) lines run) told.first
+unused_when_bad_line files (Pair pair) told used = unused_when_bad_line_of_pair files pair told used.0 used.1
 
 no_guest_when_bad_line : (files : Files) (needs : Needs) (n : ℕ) → TellsBadScript files needs
     → ¬ (IsOutsideGuest needs n)
@@ -306,6 +266,7 @@ no_guest_when_bad_line files Nothing n told outside = outside
 no_guest_when_bad_line files (Program program limits) n told outside = outside
 no_guest_when_bad_line files (Script program script limits) n told outside = outside
 no_guest_when_bad_line files (Guest guest) n told outside = told
+no_guest_when_bad_line files (Pair pair) n told outside = outside
 
 -- where a bad line is told, the script is refused
 pub fault_when_bad_line : (files : Files) (command : Option words.Command) (old new : List ℕ → ℕ) (fault : Fault)
@@ -324,21 +285,6 @@ fault_when_bad_line files command old new (fault.Guest number) told unread cause
 fault_when_bad_line files command old new (fault.Script number) told unread cause = inl refl
 
 -- what can't be where a file that is too big is told
-big_program : (files : Files) (name : List ℕ) (limits : Limits) (image : Image)
-    → (told : TellsBig files name most_program_bytes) → ¬ (IsProgram files name limits image)
-big_program files name limits image told = big_not_taken files name told.bytes limits image told.told told.big
-
-big_refused : (files : Files) (name : List ℕ) (limits : Limits) (fault : ElfFault)
-    → (told : TellsBig files name most_program_bytes) → ¬ (IsRefused files name limits fault)
-big_refused files name limits fault told =
-    big_not_refused files name told.bytes limits fault told.told told.big
-
-big_script_read : (files : Files) (script text : List ℕ) → TellsBig files script most_script_bytes
-    → IsReadAs files script text → most_script_bytes < length text
-big_script_read files script text told read =
-    subst (λ t. most_script_bytes < length t) (sym (read_as_told files script text told.bytes read told.told))
-    told.big
-
 no_run_when_big : (files : Files) (program script text : List ℕ) (limits : Limits) (image : Image)
     → (TellsBig files program most_program_bytes)
     ⊎ (TellsGood files program limits × TellsBig files script most_script_bytes)
@@ -358,6 +304,7 @@ no_refusal_when_big files (Script program script limits) fault (inl told) refuse
     big_refused files program limits fault told refused
 no_refusal_when_big files (Script program script limits) fault (inr told) refused =
     good_not_refused files program told.0.bytes limits fault told.0.told told.0.good refused
+no_refusal_when_big files (Pair pair) fault told refused = no_refusal_when_big_pair files pair fault told refused
 
 no_bad_line_when_big : (files : Files) (needs : Needs) (n : ℕ) → TellsBigFile files needs
     → ¬ (IsScriptRefusalOf files needs n)
@@ -367,6 +314,8 @@ no_bad_line_when_big files (Guest guest) n told refused = absurd told
 no_bad_line_when_big files (Script program script limits) n told refused =
     no_run_when_big files program script refused.lines limits refused.image told refused.taken
     refused.read.read refused.read.fits
+no_bad_line_when_big files (Pair pair) n told refused =
+    unused_when_big_pair files pair refused.one refused.two refused.lines told refused.taken refused.read
 
 pub unused_when_big : (files : Files) (needs : Needs) → TellsBigFile files needs → ¬ (AreUsed files needs)
 unused_when_big files Nothing told used = absurd told
@@ -374,6 +323,8 @@ unused_when_big files (Program program limits) told used = big_program files pro
 unused_when_big files (Guest guest) told used = absurd told
 unused_when_big files (Script program script limits) told used =
     no_run_when_big files program script used.1 limits used.0 told used.3 used.4.read used.4.fits
+unused_when_big files (Pair pair) told used =
+    unused_when_big_pair files pair used.1.one used.1.two used.1.lines told used.1.taken used.1.read
 
 no_guest_when_big : (files : Files) (needs : Needs) (n : ℕ) → TellsBigFile files needs
     → ¬ (IsOutsideGuest needs n)
@@ -381,6 +332,7 @@ no_guest_when_big files Nothing n told outside = outside
 no_guest_when_big files (Program program limits) n told outside = outside
 no_guest_when_big files (Script program script limits) n told outside = outside
 no_guest_when_big files (Guest guest) n told outside = told
+no_guest_when_big files (Pair pair) n told outside = outside
 
 -- where a file that is too big is told, that is said
 pub fault_when_big : (files : Files) (command : Option words.Command) (old new : List ℕ → ℕ) (fault : Fault)
@@ -404,12 +356,14 @@ unused_when_outside files Nothing n outside used = outside
 unused_when_outside files (Program program limits) n outside used = outside
 unused_when_outside files (Script program script limits) n outside used = outside
 unused_when_outside files (Guest guest) n outside used = absurd (cc (sym used ∙ outside.0))
+unused_when_outside files (Pair pair) n outside used = outside
 
 no_big_when_outside : (files : Files) (needs : Needs) (n : ℕ) → IsOutsideGuest needs n → ¬ (HasBigFile files needs)
 no_big_when_outside files Nothing n outside big = outside
 no_big_when_outside files (Program program limits) n outside big = outside
 no_big_when_outside files (Script program script limits) n outside big = outside
 no_big_when_outside files (Guest guest) n outside big = big
+no_big_when_outside files (Pair pair) n outside big = outside
 
 no_refusal_when_outside : (files : Files) (needs : Needs) (n : ℕ) (fault : ElfFault) → IsOutsideGuest needs n
     → ¬ (IsRefusalOf files needs fault)
@@ -417,6 +371,7 @@ no_refusal_when_outside files Nothing n fault outside refused = outside
 no_refusal_when_outside files (Program program limits) n fault outside refused = outside
 no_refusal_when_outside files (Script program script limits) n fault outside refused = outside
 no_refusal_when_outside files (Guest guest) n fault outside refused = refused
+no_refusal_when_outside files (Pair pair) n fault outside refused = outside
 
 no_bad_line_when_outside : (files : Files) (needs : Needs) (n line : ℕ) → IsOutsideGuest needs n
     → ¬ (IsScriptRefusalOf files needs line)
@@ -424,6 +379,7 @@ no_bad_line_when_outside files Nothing n line outside refused = outside
 no_bad_line_when_outside files (Program program limits) n line outside refused = outside
 no_bad_line_when_outside files (Script program script limits) n line outside refused = outside
 no_bad_line_when_outside files (Guest guest) n line outside refused = refused
+no_bad_line_when_outside files (Pair pair) n line outside refused = outside
 
 pub fault_when_outside : (files : Files) (command : Option words.Command) (old new : List ℕ → ℕ) (fault : Fault) (n : ℕ)
     → IsOutsideGuest (needs_of command) n → ¬ (ReadFailed files (needs_of command) old new)

@@ -19,14 +19,21 @@ use Rattle.command_words.specs.Commands as words
 use Rattle.explored_runs.specs.Explored.{IsExploredAs}
 use Rattle.explored_runs.specs.Text.{explored_text}
 use Rattle.outcomes.specs.Explorations.{apart_of, exploration_of}
-use Rattle.outcomes.specs.Needs.{Needs, Nothing, Program, Script, Guest, needs_by, needs_of}
+use Rattle.shared_procs.specs.Pairs.{PairSetting, pair_setting_of}
+use Rattle.shared_procs.specs.PairRuns.{PairSeen}
+use Rattle.outcomes.specs.Needs.{Needs, Nothing, Program, Script, Guest, Pair, needs_by, needs_of}
+use Rattle.outcomes.specs.PairFiles.{HasPairRun}
+use Rattle.outcomes.specs.PairText.{pair_output}
+use Rattle.outcomes.specs.PlayedPairs.{IsPlayedPair}
 use Rattle.outcomes.specs.Outputs.{IsDrawnAfter, IsOutputOf, IsPlainOutputOf, IsPlainRunOf, plain_text, setting_for}
 use Rattle.outcomes.specs.Programs.{Files, IsProgram, asks_of}
 use Rattle.outcomes.specs.Runs.{IsPlayedRun}
 use Rattle.outcomes.specs.Told.{AreTold, TellsGoodFiles}
 use Rattle.output_laws.proofs.Exclusions.{AreUsed, used_by_output}
 use Rattle.output_laws.proofs.OneExploration.{one_account}
+use Rattle.output_laws.proofs.OnePairRun.{one_played_pair}
 use Rattle.output_laws.proofs.PlainOutputs.{plain_output_of}
+use Rattle.output_laws.proofs.ReadLines.{same_asks}
 
 -- two readings of one told file are one
 one_reading : (o : Option (List ℕ)) (a b : List ℕ) → IsSome o → IfSome o (λ told. a ≡ told)
@@ -42,16 +49,6 @@ one_start files name limits a b told first second =
     let same = one_reading (files name) first.bytes second.bytes told first.read second.read in
     one_setting second.bytes a b limits (subst (λ (x : List ℕ). IsImage x a) same first.loaded)
     second.loaded
-
--- a script that can be read asks for one list of events
-same_asks : (xs ys : List Ask) → map Some xs ≡ map Some ys → xs ≡ ys
-same_asks [] [] same = refl
-same_asks [] (y ∷ ys) same = absurd cc
-same_asks (x ∷ xs) [] same = absurd cc
-same_asks (x ∷ xs) (y ∷ ys) same =
-    let first : x ≡ y = cc in
-    let rest : map Some xs ≡ map Some ys = cc in
-    ap₂ (λ z zs. z ∷ zs) first (same_asks xs ys rest)
 
 -- the program of a command that is told
 program_told : (files : Files) (program : List ℕ) (source : words.Source) (limits : Limits)
@@ -120,6 +117,21 @@ one_run files program (words.DrawnAfter name seed draws) limits s run other quie
     let is = second.made in
     cc
 
+-- a pair is run in one way
+one_pair : (files : Files) (pair : words.PairRun) (a b : PairSeen) → AreTold files (Pair pair) → HasPairRun files pair a
+    → HasPairRun files pair b → a ≡ b
+one_pair files pair a b told first second =
+    let one = one_start files pair.first pair.limits first.one second.one told.0 first.taken.first second.taken.first in
+    let two = one_start files pair.second pair.limits first.two second.two told.1 first.taken.second second.taken.second in
+    let start : pair_setting_of first.one first.two pair.limits ≡ pair_setting_of second.one second.two pair.limits =
+    λ i. record { first = (one i).program; second = (two i).program; limits = pair.limits } in
+    let text = one_reading (files pair.script) first.lines second.lines told.2 first.read.read second.read.read in
+    let run = subst (λ (s : PairSetting). IsPlayedPair s first.lines a.log) start first.run in
+    let log = one_played_pair (pair_setting_of second.one second.two pair.limits) second.lines a.log b.log
+    (subst (λ (t : List ℕ). IsPlayedPair (pair_setting_of second.one second.two pair.limits) t a.log) text run) second.run in
+    let setting = first.setting ∙ start ∙ sym second.setting in
+    λ i. record { setting = setting i; log = log i }
+
 one_plain : (files : Files) (command : Option words.Command) (a b : List ℕ) → words.hangs_on_turns command ≡ false
     → AreTold files (needs_of command)
     → IsPlainOutputOf files command a → IsPlainOutputOf files command b → a ≡ b
@@ -132,6 +144,8 @@ one_plain files (Some (words.Explores program settings)) a b quiet told first se
     second.account
     (subst (λ (s : Setting). IsExploredAs s (exploration_of settings) first.account) start first.told) second.told in
     first.text ∙ ap (explored_text (apart_of settings.apart)) account ∙ sym second.text
+one_plain files (Some (words.Pairs pair)) a b quiet told first second =
+    first.text ∙ ap pair_output (one_pair files pair first.seen second.seen told first.made second.made) ∙ sym second.text
 one_plain files (Some (words.Runs asked)) a b quiet told first second =
     let start = one_start files asked.program asked.limits first.image second.image
     (program_told files asked.program asked.source asked.limits told) first.taken second.taken in
@@ -178,6 +192,31 @@ used_are_good files (Script program script limits) some told used = record {
   log = used.2;
   run = used.5;
 }
+used_are_good files (Pair pair) some told used =
+    let made = used.1 in
+    record {
+      all = record {
+        first = record {
+          bytes = made.taken.first.bytes;
+          told = read_is_told (files pair.first) made.taken.first.bytes told.0 made.taken.first.read;
+          good = made.taken.first.good;
+        };
+        one = made.one;
+        first_loaded = made.taken.first.loaded;
+        second = record {
+          bytes = made.taken.second.bytes;
+          told = read_is_told (files pair.second) made.taken.second.bytes told.1 made.taken.second.read;
+          good = made.taken.second.good;
+        };
+        two = made.two;
+        second_loaded = made.taken.second.loaded;
+        lines = made.lines;
+        script_told = read_is_told (files pair.script) made.lines told.2 made.read.read;
+        fits = made.read.fits;
+      };
+      log = used.0.log;
+      run = made.run;
+    }
 
 -- each command needs something
 some_need : (program : List ℕ) (source : words.Source) (limits : Limits) → ¬ (needs_by program source limits ≡ Nothing)
@@ -194,6 +233,7 @@ needs_some files (Some (words.Runs run)) written output none = some_need run.pro
 needs_some files (Some (words.Makes guest)) written output none = absurd cc
 needs_some files (Some (words.Tries trial)) written output none = absurd cc
 needs_some files (Some (words.Explores program settings)) written output none = absurd cc
+needs_some files (Some (words.Pairs pair)) written output none = absurd cc
 
 pub good_files : (files : Files) (command : Option words.Command) (written : List ℕ)
     → AreTold files (needs_of command) → IsOutputOf files command written

@@ -10,7 +10,7 @@ use Rattle.block_model.proofs.Laws.{answers_itself, plain_makes, plain_solo_log,
 use Rattle.drawn_runs.specs.Manners.{manner_for}
 use Rattle.drawn_runs.specs.WholeRuns.{IsDrawnRun}
 use Rattle.command_words.specs.declared.table.Shown.{Shown}
-use Rattle.command_words.specs.Commands.{Command, Runs, Makes, Tries, Explores, Source, Rule, Script, Workers, Drawn, DrawnAfter}
+use Rattle.command_words.specs.Commands.{Command, Runs, Makes, Tries, Explores, Pairs, Source, Rule, Script, Workers, Drawn, DrawnAfter}
 use Rattle.outcomes.specs.Outputs.{IsDrawnAfter, IsLogOf, IsOutputOf, IsPlainOutputOf, IsPlainRunOf, IsPlainRunOver, plain_text}
 use Rattle.outcomes.specs.Outputs.{setting_for, shown_text, text_of}
 use Rattle.outcomes.specs.Guests.{setting_tried, trial_text, tried_text}
@@ -80,6 +80,7 @@ pub plain_output_of : (files : Files) (command : Option Command) (written : List
 plain_output_of files None written output = absurd output
 plain_output_of files (Some (Makes guest)) written output = output
 plain_output_of files (Some (Explores program settings)) written output = output
+plain_output_of files (Some (Pairs pair)) written output = output
 plain_output_of files (Some (Tries trial)) written output =
     let s = setting_tried trial output.image in
     let made = plain_makes s (script_of output.log) output.log

@@ -5,7 +5,7 @@ mod programs;
 mod shown;
 mod words;
 
-use command_words::{Command, Source, WordsError, read_words};
+use command_words::{Command, PairRun, Source, WordsError, read_words};
 use lines::push_line_fault;
 use outcomes::{FileRole, Reason};
 use programs::push_elf_fault;
@@ -58,8 +58,8 @@ pub fn explain(alloc: Global, reason: &Reason, at_hand: AtHand) -> Result<String
             let name = file_name(alloc, at_hand.words, *file)?;
             push_too_big(&mut text, name, *file)?;
         }
-        Reason::Elf { fault, about } => {
-            let name = file_name(alloc, at_hand.words, FileRole::Program)?;
+        Reason::Elf { file, fault, about } => {
+            let name = file_name(alloc, at_hand.words, *file)?;
             push_elf_fault(&mut text, name, *fault, *about)?;
         }
         Reason::Script { line, fault } => {
@@ -77,6 +77,7 @@ fn file_name(alloc: Global, words: &[String], role: FileRole) -> Result<&str, Al
     let run = match read_words(alloc, words) {
         Ok(Command::Runs(run)) => run,
         Ok(Command::Explores(explore)) => return Ok(explore.program),
+        Ok(Command::Pairs(pair)) => return Ok(name_in(&pair, role)),
         Ok(Command::Makes(_) | Command::Tries(_)) | Err(WordsError::Wrong(_)) => {
             return Ok("the file");
         }
@@ -86,7 +87,16 @@ fn file_name(alloc: Global, words: &[String], role: FileRole) -> Result<&str, Al
         (FileRole::Program, _) => Ok(run.program),
         (FileRole::Script, Source::Script(name)) => Ok(name),
         (FileRole::Script, Source::DrawnAfter { script, .. }) => Ok(script),
-        (FileRole::Script, _) => Ok("the file"),
+        (FileRole::Script | FileRole::SecondProgram, _) => Ok("the file"),
+    }
+}
+
+/// The name of the file of a pair that has this role.
+fn name_in<'a>(pair: &PairRun<'a>, role: FileRole) -> &'a str {
+    match role {
+        FileRole::Program => pair.first,
+        FileRole::SecondProgram => pair.second,
+        FileRole::Script => pair.script,
     }
 }
 
@@ -100,7 +110,8 @@ fn push_bad_size(
     let guest = match read_words(alloc, words) {
         Ok(Command::Makes(guest)) => guest,
         Ok(Command::Tries(trial)) => trial.guest,
-        Ok(Command::Runs(_) | Command::Explores(_)) | Err(WordsError::Wrong(_)) => {
+        Ok(Command::Runs(_) | Command::Explores(_) | Command::Pairs(_))
+        | Err(WordsError::Wrong(_)) => {
             return writeln!(text, "{number}: the guest doesn't take this size");
         }
         Err(WordsError::NoMemory) => return Err(AllocError),

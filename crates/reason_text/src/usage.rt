@@ -29,6 +29,7 @@ fn words_behind(kind: CommandKind) -> &'static str {
         CommandKind::Tries => "NAME N [--harts N] [--steps N] [--seed N]",
         CommandKind::Explores =>
             "FILE [--harts N] [--frames N] [--steps N] [--seed N] [--policy P] [--calm N] [--runs N] [--until K] [--by B] [--jobs N]",
+        CommandKind::Pairs => "FILE1 FILE2 SCRIPT [--harts N] [--frames N] [--steps N]",
     }
 }
 
@@ -82,6 +83,9 @@ fn push_about(text: &mut String, kind: CommandKind) -> Result<(), AllocError> {
         CommandKind::Makes => text.push_str("prints the file of the guest NAME for the size N\n"),
         CommandKind::Tries => text.push_str(
             "runs the guest NAME for the size N by rounds; prints its console, and how many acts of each form each hart made\n",
+        ),
+        CommandKind::Pairs => text.push_str(
+            "runs FILE1 and FILE2 together on the events of SCRIPT, with a segment of memory for both; prints both consoles, the log, and how both ended\n",
         ),
     }
 }

@@ -14,16 +14,16 @@ use Rattle.outcomes.specs.declared.reasons.FileRole.TheVariants as role
 use Rattle.outcomes.specs.declared.reasons.Reason.{Reason}
 use Rattle.outcomes.specs.declared.reasons.Reason.TheVariants.{Words, Unread, NoMemory, TooBig, Elf, Script, Guest, Unwritten}
 use Rattle.outcomes.specs.Causes.{HasBigFile, IsCause, IsRefusalOf, IsScriptRefusalOf, ReadFailed}
-use Rattle.outcomes.specs.Delivery.{IsFileReason, IsLoadReason, IsPlayReason}
+use Rattle.outcomes.specs.Delivery.{IsFileReason, IsLoadReason, IsPlayReason, IsTakeReason}
 use Rattle.outcomes.specs.ElfPlaces.{place_of}
 use Rattle.outcomes.specs.Needs as need
 use Rattle.outcomes.specs.Programs.{Files, IsProgram, IsReadAs, IsScript, IsTooBig, most_program_bytes}
 use Rattle.outcomes.specs.Programs.{most_script_bytes}
 use Rattle.outcomes.specs.Reasons.{IsBadLine, IsBig, IsReasonFor, IsReasonOf, IsRefusalAbout}
-use Rattle.outcomes.specs.Reasons.{IsScriptRefusalFor, IsUnread, fault_told}
+use Rattle.outcomes.specs.Reasons.{IsScriptRefusalFor, IsUnread, fault_told, most_bytes}
 
 -- a count that rose after it didn't fall rose
-rose_later : (old mid new : ℕ) → NeverFalls old mid → NeverFalls mid new → Rose mid new → Rose old new
+pub rose_later : (old mid new : ℕ) → NeverFalls old mid → NeverFalls mid new → Rose mid new → Rose old new
 rose_later old mid new first second rose = λ below. by_room (leb (2 ^ 64 - 1) mid) refl below
   where
     by_room : (b : Bool) → leb (2 ^ 64 - 1) mid ≡ b → old < 2 ^ 64 - 1 → old < new
@@ -32,44 +32,63 @@ rose_later old mid new first second rose = λ below. by_room (leb (2 ^ 64 - 1) m
     by_room false room below = let under = leb-false _ _ room in let more = rose under in
         omega (arith, more, first.0)
 
--- the program isn't read
-pub unread_program : (files : Files) (program : List ℕ) (limits : Limits) (old new : List ℕ → ℕ) (said : Option ErrorKind) (reason : Reason)
-    → IsFileReason files program role.Program old new said reason
-    → IsReasonFor files (need.Program program limits) old new said reason
-unread_program files program limits old new said (Words fault) why = absurd why
-unread_program files program limits old new said (Unread role.Program trouble) why =
-    record { unread = why.rose; trouble_told = why.trouble_told }
-unread_program files program limits old new said (Unread role.Script trouble) why = absurd (cc why.role)
-unread_program files program limits old new said NoMemory why = tt
-unread_program files program limits old new said (TooBig role.Program) why = why.1
-unread_program files program limits old new said (TooBig role.Script) why = absurd cc
-unread_program files program limits old new said (Elf fault about) why = absurd why
-unread_program files program limits old new said (Script number fault) why = absurd why
-unread_program files program limits old new said (Guest number) why = absurd why
-unread_program files program limits old new said (Unwritten trouble) why = absurd why
+-- a program isn't read
+pub unread_as : (files : Files) (name : List ℕ) (file : FileRole) (limits : Limits) (old new : List ℕ → ℕ) (said : Option ErrorKind)
+    (reason : Reason) → most_bytes file ≡ most_program_bytes → IsFileReason files name file old new said reason
+    → IsTakeReason files name file limits old new said reason
+unread_as files name file limits old new said (Words fault) most why = absurd why
+unread_as files name file limits old new said (Unread other trouble) most why = why
+unread_as files name file limits old new said NoMemory most why = tt
+unread_as files name file limits old new said (TooBig other) most why =
+    (why.0, subst (λ (n : ℕ). IsTooBig files name n) most why.1)
+unread_as files name file limits old new said (Elf other fault about) most why = absurd why
+unread_as files name file limits old new said (Script number fault) most why = absurd why
+unread_as files name file limits old new said (Guest number) most why = absurd why
+unread_as files name file limits old new said (Unwritten trouble) most why = absurd why
 
--- the program is read, and no image is taken from its bytes
-pub refused_program : (files : Files) (program bytes given : List ℕ) (limits : Limits) (old new : List ℕ → ℕ) (said : Option ErrorKind)
-    (reason : Reason) → given ≡ bytes → IsReadAs files program bytes → length bytes ≤ most_program_bytes
-    → IsLoadReason given limits reason → IsReasonFor files (need.Program program limits) old new said reason
-refused_program files program bytes given limits old new said (Words fault) same read fits why = absurd why
-refused_program files program bytes given limits old new said (Unread file trouble) same read fits why = absurd why
-refused_program files program bytes given limits old new said NoMemory same read fits why = tt
-refused_program files program bytes given limits old new said (TooBig file) same read fits why = absurd why
-refused_program files program bytes given limits old new said (Elf fault about) same read fits why = record {
-  refused = record {
-    bytes = bytes;
-    read = read;
-    faulty = record {
-      fits = fits;
-      due = subst (λ (b : List ℕ). first_fault b limits.frames ≡ Some fault) same why.0;
+-- it is read, and no image is taken from its bytes
+pub refused_as : (files : Files) (name bytes given : List ℕ) (file : FileRole) (limits : Limits) (old new : List ℕ → ℕ)
+    (said : Option ErrorKind) (reason : Reason) → given ≡ bytes → IsReadAs files name bytes → length bytes ≤ most_program_bytes
+    → IsLoadReason file given limits reason → IsTakeReason files name file limits old new said reason
+refused_as files name bytes given file limits old new said (Words fault) same read fits why = absurd why
+refused_as files name bytes given file limits old new said (Unread other trouble) same read fits why = absurd why
+refused_as files name bytes given file limits old new said NoMemory same read fits why = tt
+refused_as files name bytes given file limits old new said (TooBig other) same read fits why = absurd why
+refused_as files name bytes given file limits old new said (Elf other fault about) same read fits why = (
+  why.0,
+  record {
+    refused = record {
+      bytes = bytes;
+      read = read;
+      faulty = record {
+        fits = fits;
+        due = subst (λ (b : List ℕ). first_fault b limits.frames ≡ Some fault) same why.1;
+      };
     };
-  };
-  place = subst (λ (b : List ℕ). about ≡ place_of b limits fault) same why.1;
-}
-refused_program files program bytes given limits old new said (Script number fault) same read fits why = absurd why
-refused_program files program bytes given limits old new said (Guest number) same read fits why = absurd why
-refused_program files program bytes given limits old new said (Unwritten trouble) same read fits why = absurd why
+    place = subst (λ (b : List ℕ). about ≡ place_of b limits fault) same why.2;
+  },
+)
+refused_as files name bytes given file limits old new said (Script number fault) same read fits why = absurd why
+refused_as files name bytes given file limits old new said (Guest number) same read fits why = absurd why
+refused_as files name bytes given file limits old new said (Unwritten trouble) same read fits why = absurd why
+
+-- where it is the one that is needed, that is why
+pub untaken_program : (files : Files) (program : List ℕ) (limits : Limits) (old new : List ℕ → ℕ) (said : Option ErrorKind)
+    (reason : Reason) → IsTakeReason files program role.Program limits old new said reason
+    → IsReasonFor files (need.Program program limits) old new said reason
+untaken_program files program limits old new said (Words fault) why = absurd why
+untaken_program files program limits old new said (Unread role.Program trouble) why =
+    record { unread = why.rose; trouble_told = why.trouble_told }
+untaken_program files program limits old new said (Unread role.SecondProgram trouble) why = absurd (cc why.role)
+untaken_program files program limits old new said (Unread role.Script trouble) why = absurd (cc why.role)
+untaken_program files program limits old new said NoMemory why = tt
+untaken_program files program limits old new said (TooBig role.Program) why = why.1
+untaken_program files program limits old new said (TooBig role.SecondProgram) why = absurd (cc why.0)
+untaken_program files program limits old new said (TooBig role.Script) why = absurd (cc why.0)
+untaken_program files program limits old new said (Elf file fault about) why = why
+untaken_program files program limits old new said (Script number fault) why = absurd why
+untaken_program files program limits old new said (Guest number) why = absurd why
+untaken_program files program limits old new said (Unwritten trouble) why = absurd why
 
 -- what is said of a program is said of it beside a script too
 pub program_beside : (files : Files) (program script : List ℕ) (limits : Limits) (old new : List ℕ → ℕ) (said : Option ErrorKind)
@@ -78,11 +97,13 @@ pub program_beside : (files : Files) (program script : List ℕ) (limits : Limit
 program_beside files program script limits old new said (Words fault) why = absurd why
 program_beside files program script limits old new said (Unread role.Program trouble) why =
     record { unread = why.unread; trouble_told = why.trouble_told }
+program_beside files program script limits old new said (Unread role.SecondProgram trouble) why = absurd why.unread
 program_beside files program script limits old new said (Unread role.Script trouble) why = absurd why.unread
 program_beside files program script limits old new said NoMemory why = tt
 program_beside files program script limits old new said (TooBig role.Program) why = why
+program_beside files program script limits old new said (TooBig role.SecondProgram) why = absurd why
 program_beside files program script limits old new said (TooBig role.Script) why = absurd why
-program_beside files program script limits old new said (Elf fault about) why = why
+program_beside files program script limits old new said (Elf file fault about) why = why
 program_beside files program script limits old new said (Script number fault) why = absurd why
 program_beside files program script limits old new said (Guest number) why = absurd why
 program_beside files program script limits old new said (Unwritten trouble) why = absurd why
@@ -96,6 +117,8 @@ unread_script files same program script limits image old mid new said (Words fau
     absurd why
 unread_script files same program script limits image old mid new said (Unread role.Program trouble) is taken first second why =
     absurd (cc why.role)
+unread_script files same program script limits image old mid new said (Unread role.SecondProgram trouble) is taken first second why =
+    absurd (cc why.role)
 unread_script files same program script limits image old mid new said (Unread role.Script trouble) is taken first second why =
     record {
       unread = record {
@@ -107,14 +130,16 @@ unread_script files same program script limits image old mid new said (Unread ro
     }
 unread_script files same program script limits image old mid new said NoMemory is taken first second why = tt
 unread_script files same program script limits image old mid new said (TooBig role.Program) is taken first second why =
-    absurd cc
+    absurd (cc why.0)
+unread_script files same program script limits image old mid new said (TooBig role.SecondProgram) is taken first second why =
+    absurd (cc why.0)
 unread_script files same program script limits image old mid new said (TooBig role.Script) is taken first second why =
     record {
       image = image;
       taken = taken;
       big = subst (λ f. IsTooBig f script most_script_bytes) is why.1;
     }
-unread_script files same program script limits image old mid new said (Elf fault about) is taken first second why =
+unread_script files same program script limits image old mid new said (Elf file fault about) is taken first second why =
     absurd why
 unread_script files same program script limits image old mid new said (Script number fault) is taken first second why =
     absurd why
@@ -134,7 +159,7 @@ unplayed files same program script lines text limits image old new said (Unread 
 unplayed files same program script lines text limits image old new said NoMemory is equal taken read why = tt
 unplayed files same program script lines text limits image old new said (TooBig file) is equal taken read why =
     absurd why
-unplayed files same program script lines text limits image old new said (Elf fault about) is equal taken read why =
+unplayed files same program script lines text limits image old new said (Elf file fault about) is equal taken read why =
     absurd why
 unplayed files same program script lines text limits image old new said (Script number fault) is equal taken read why =
     let bad = subst (λ t. IsBadLine (setting_of image limits) t number fault) equal why in
@@ -167,27 +192,42 @@ cause_of files words old new said (Unread file trouble) why = by_needs (need.nee
         → ReadFailed files needs old new
     by_needs need.Nothing file why = absurd why
     by_needs (need.Program program limits) role.Program why = why
+    by_needs (need.Program program limits) role.SecondProgram why = absurd why
     by_needs (need.Program program limits) role.Script why = absurd why
     by_needs (need.Script program script limits) role.Program why = inl why
+    by_needs (need.Script program script limits) role.SecondProgram why = absurd why
     by_needs (need.Script program script limits) role.Script why = inr why
     by_needs (need.Guest guest) file why = absurd why
+    by_needs (need.Pair pair) role.Program why = inl why
+    by_needs (need.Pair pair) role.SecondProgram why = inr (inl why)
+    by_needs (need.Pair pair) role.Script why = inr (inr why)
 cause_of files words old new said NoMemory why = why
 cause_of files words old new said (TooBig file) why = by_needs (need.needs_in words) file why
   where
     by_needs : (needs : need.Needs) (file : FileRole) → IsBig files needs file → HasBigFile files needs
     by_needs need.Nothing file why = absurd why
     by_needs (need.Program program limits) role.Program why = why
+    by_needs (need.Program program limits) role.SecondProgram why = absurd why
     by_needs (need.Program program limits) role.Script why = absurd why
     by_needs (need.Script program script limits) role.Program why = inl why
+    by_needs (need.Script program script limits) role.SecondProgram why = absurd why
     by_needs (need.Script program script limits) role.Script why = inr why
     by_needs (need.Guest guest) file why = absurd why
-cause_of files words old new said (Elf fault about) why = by_needs (need.needs_in words) why
+    by_needs (need.Pair pair) role.Program why = inl why
+    by_needs (need.Pair pair) role.SecondProgram why = inr (inl why)
+    by_needs (need.Pair pair) role.Script why = inr (inr why)
+cause_of files words old new said (Elf file fault about) why = by_needs (need.needs_in words) file why
   where
-    by_needs : (needs : need.Needs) → IsRefusalAbout files needs fault about → IsRefusalOf files needs fault
-    by_needs need.Nothing why = absurd why
-    by_needs (need.Program program limits) why = why.refused
-    by_needs (need.Script program script limits) why = why.refused
-    by_needs (need.Guest guest) why = absurd why
+    by_needs : (needs : need.Needs) (file : FileRole) → IsRefusalAbout files needs file fault about
+        → IsRefusalOf files needs fault
+    by_needs need.Nothing file why = absurd why
+    by_needs (need.Program program limits) file why = why.1.refused
+    by_needs (need.Script program script limits) file why = why.1.refused
+    by_needs (need.Guest guest) file why = absurd why
+    by_needs (need.Pair pair) role.Program why = inl why.refused
+    by_needs (need.Pair pair) role.SecondProgram why =
+        inr (record { image = why.image; taken = why.taken; holds = why.holds.refused })
+    by_needs (need.Pair pair) role.Script why = absurd why
 cause_of files words old new said (Script number fault) why = by_needs (need.needs_in words) why
   where
     by_needs : (needs : need.Needs) → IsScriptRefusalFor files needs number fault
@@ -196,6 +236,7 @@ cause_of files words old new said (Script number fault) why = by_needs (need.nee
     by_needs (need.Program program limits) why = absurd why
     by_needs (need.Script program script limits) why = why.refused
     by_needs (need.Guest guest) why = absurd why
+    by_needs (need.Pair pair) why = why.refused
 cause_of files words old new said (Guest number) why = why
 cause_of files words old new said (Unwritten trouble) why = absurd why
 
@@ -206,7 +247,7 @@ is_told files words old new said (Words fault) why = refl
 is_told files words old new said (Unread file trouble) why = refl
 is_told files words old new said NoMemory why = refl
 is_told files words old new said (TooBig file) why = refl
-is_told files words old new said (Elf fault about) why = refl
+is_told files words old new said (Elf file fault about) why = refl
 is_told files words old new said (Script number fault) why = refl
 is_told files words old new said (Guest number) why = refl
 is_told files words old new said (Unwritten trouble) why = absurd why

@@ -43,8 +43,8 @@ outcome_of call said (Err NoMemory) status keeps why told_so =
     told_outcome call (Err told.Memory) status keeps (cause call said NoMemory why) told_so
 outcome_of call said (Err (TooBig file)) status keeps why told_so =
     told_outcome call (Err told.Big) status keeps (cause call said (TooBig file) why) told_so
-outcome_of call said (Err (Elf fault about)) status keeps why told_so =
-    told_outcome call (Err (told.Elf fault)) status keeps (cause call said (Elf fault about) why) told_so
+outcome_of call said (Err (Elf file fault about)) status keeps why told_so =
+    told_outcome call (Err (told.Elf fault)) status keeps (cause call said (Elf file fault about) why) told_so
 outcome_of call said (Err (Script number fault)) status keeps why told_so =
     told_outcome call (Err (told.Script number)) status keeps (cause call said (Script number fault) why) told_so
 outcome_of call said (Err (Guest number)) status keeps why told_so =
@@ -62,7 +62,7 @@ module _ (call : Call) (troubles : Troubles) where
   is_reason (Unread file trouble) why = why
   is_reason NoMemory why = why
   is_reason (TooBig file) why = why
-  is_reason (Elf fault about) why = why
+  is_reason (Elf file fault about) why = why
   is_reason (Script number fault) why = why
   is_reason (Guest number) why = why
   is_reason (Unwritten trouble) why = absurd why
@@ -77,7 +77,7 @@ module _ (call : Call) (troubles : Troubles) where
   not_six (Unread file trouble) why is = absurd cc
   not_six NoMemory why is = absurd cc
   not_six (TooBig file) why is = absurd cc
-  not_six (Elf fault about) why is = absurd cc
+  not_six (Elf file fault about) why is = absurd cc
   not_six (Script number fault) why is = absurd cc
   not_six (Guest number) why is = absurd cc
   not_six (Unwritten trouble) why is = absurd why
@@ -99,7 +99,7 @@ module _ (call : Call) (troubles : Troubles) where
   wrote_line (Unread file trouble) status is well told_so = line_of told.Read 5 status is well told_so
   wrote_line NoMemory status is well told_so = line_of told.Memory 7 status is well told_so
   wrote_line (TooBig file) status is well told_so = line_of told.Big 8 status is well told_so
-  wrote_line (Elf fault about) status is well told_so = line_of (told.Elf fault) 3 status is well told_so
+  wrote_line (Elf file fault about) status is well told_so = line_of (told.Elf fault) 3 status is well told_so
   wrote_line (Script number fault) status is well told_so = line_of (told.Script number) 4 status is well told_so
   wrote_line (Guest number) status is well told_so = line_of (told.Guest number) 9 status is well told_so
   wrote_line (Unwritten trouble) status is well told_so = tt
@@ -198,8 +198,8 @@ reason_for files words old new said command (Unread file trouble) is why =
 reason_for files words old new said command NoMemory is why = ap (λ (c : Option Command). is_some c) is
 reason_for files words old new said command (TooBig file) is why =
     subst (λ (c : Option Command). IsReasonFor files (needs_of c) old new said (TooBig file)) (sym is) why
-reason_for files words old new said command (Elf fault about) is why =
-    subst (λ (c : Option Command). IsReasonFor files (needs_of c) old new said (Elf fault about)) (sym is) why
+reason_for files words old new said command (Elf file fault about) is why =
+    subst (λ (c : Option Command). IsReasonFor files (needs_of c) old new said (Elf file fault about)) (sym is) why
 reason_for files words old new said command (Script number fault) is why =
     subst (λ (c : Option Command). IsReasonFor files (needs_of c) old new said (Script number fault)) (sym is) why
 reason_for files words old new said command (Guest number) is why =

@@ -3,6 +3,7 @@ mod ElfPlaces
 mod Explaining
 mod Explorations
 mod Outcomes
+mod PairCauses
 mod Taken
 mod Trials
 mod Wholes

@@ -163,7 +163,7 @@ fn needs_workers(command: &Command) -> bool
             Source::Rule | Source::Script(_) | Source::Drawn { .. } | Source::DrawnAfter { .. } =>
                 false,
         },
-        Command::Makes(_) | Command::Tries(_) => false,
+        Command::Makes(_) | Command::Tries(_) | Command::Pairs(_) => false,
         Command::Explores(explore) => !is_alone(explore.settings.jobs),
     }
 }

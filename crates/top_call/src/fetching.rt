@@ -1,12 +1,12 @@
-//! The files of a command: the program's image is taken, and the script is read.
+//! The files of a command: the images of its programs are taken, and its script is read.
 
 ghost use Rattle.std.specs.Prelude.{◌≡◌, ◌<◌, ◌≤◌, ◌⊎◌, All, Some, IfOk, IfErr, length};
 ghost use Rattle.elf_load.specs.Images.{IsBootable};
 ghost use Rattle.elf_load.specs.Faults.{first_fault};
 ghost use Rattle.outside.specs.Counts.{NoneFalls};
-ghost use Rattle.outcomes.specs.Delivery.{IsFileReason, IsLoadReason};
+ghost use Rattle.outcomes.specs.Delivery.{IsFileReason, IsLoadReason, IsTakeReason};
 ghost use Rattle.outcomes.specs.Needs.{Program as NeedsProgram};
-ghost use Rattle.outcomes.specs.Programs.{IsProgram, IsReadAs};
+ghost use Rattle.outcomes.specs.Programs.{IsProgram, IsReadAs, most_program_bytes};
 ghost use Rattle.outcomes.specs.Reasons.{IsReasonFor, most_bytes};
 
 use crate::elf_places::place_of;
@@ -36,22 +36,43 @@ pub(crate) fn taken<S: Shelf>(
     ensures files { S.file shelf.new ≡ S.file shelf.old }
     ensures counts { NoneFalls (S.faults shelf.old) (S.faults shelf.new) }
 {
-    let bytes = read_file(alloc, name, FileRole::Program, shelf)?;
+    taken_as(alloc, name, FileRole::Program, limits, shelf)
+}
+
+/// The image of the program of this name, which has this role.
+pub(crate) fn taken_as<S: Shelf>(
+    alloc: Global,
+    name: &str,
+    role: FileRole,
+    limits: &Limits,
+    shelf: &mut S,
+) -> Result<Image, Reason>
+    requires { most_bytes role ≡ most_program_bytes }
+    ensures taken { IfOk result (IsProgram (S.file shelf.old) name.now limits.now) }
+    ensures bootable { IfOk result (IsBootable limits.now.frames) }
+    ensures cause { IfErr result
+        (IsTakeReason (S.file shelf.old) name.now role limits.now (S.faults shelf.old) (S.faults shelf.new)
+        (S.last_trouble shelf.new)) }
+    ensures files { S.file shelf.new ≡ S.file shelf.old }
+    ensures counts { NoneFalls (S.faults shelf.old) (S.faults shelf.new) }
+{
+    let bytes = read_file(alloc, name, role, shelf)?;
     shows_bytes(&bytes);
     match load(alloc, &bytes, limits) {
         Ok(image) => Ok(image),
-        Err(fault) => Err(refusal(&bytes, limits, fault)),
+        Err(fault) => Err(refusal(role, &bytes, limits, fault)),
     }
 }
 
-/// Why the loader takes no image from these bytes, by its fault.
-fn refusal(bytes: &[u8], limits: &Limits, fault: ElfFault) -> Reason
+/// Why the loader takes no image from these bytes, which are those of a file of this role, by its fault.
+fn refusal(role: FileRole, bytes: &[u8], limits: &Limits, fault: ElfFault) -> Reason
     requires { (fault ≡ ElfFault.NoMemory) ⊎ (first_fault bytes.now limits.now.frames ≡ Some fault) }
-    ensures { IsLoadReason bytes.now limits.now result }
+    ensures { IsLoadReason role bytes.now limits.now result }
 {
     match fault {
         ElfFault::NoMemory => Reason::NoMemory,
         _ => Reason::Elf {
+            file: role,
             fault,
             about: place_of(bytes, limits, fault),
         },

@@ -6,6 +6,7 @@ mod delivery;
 mod elf_places;
 mod exploring;
 mod fetching;
+mod pairing;
 mod texts;
 
 pub use calls::{rseq_explained, rseq_quiet};

@@ -1,5 +1,6 @@
 //! The text of each command: its files are taken, the program is run, and what the command asks for is shown; its guest is made,
-//! or made and tried; or its runs are explored.
+//! or made and tried; its runs are explored; or two programs are
+//! run together.
 
 ghost use Rattle.std.specs.Prelude.{◌≡◌, IfErr, IfOk, Some, false, true};
 ghost use Rattle.mach_types.specs.Limits.{InRange};
@@ -17,6 +18,7 @@ ghost use Rattle.outcomes.specs.Reasons.{IsReasonFor};
 
 use crate::exploring::{explored_alone, explored_together};
 use crate::fetching::{read_file, taken};
+use crate::pairing::pair_text;
 use command_runs::{Output, play, run_rounds, run_solo, run_workers, shown_text, trial_text};
 use command_words::{Command, Draws, Guest, Run, Source, Trial};
 use drawn_machine::{draw_on, run_drawn};
@@ -62,6 +64,7 @@ pub(crate) fn quiet_text<S: Shelf, K: Sink>(
         Command::Makes(guest) => guest_output(alloc, *guest),
         Command::Tries(trial) => tried(alloc, trial),
         Command::Explores(explore) => explored_alone(alloc, explore, shelf, sink),
+        Command::Pairs(pair) => pair_text(alloc, pair, shelf),
     }
 }
 
@@ -86,7 +89,7 @@ pub(crate) fn workers_text<R: Threads + Wait + Sync, S: Shelf, K: Sink, G: Gate 
     match command {
         Command::Runs(run) => workers_run_text(alloc, rt, run, shelf, gate),
         Command::Explores(explore) => explored_together(alloc, rt, explore, shelf, sink),
-        Command::Makes(_) | Command::Tries(_) => unreachable!(),
+        Command::Makes(_) | Command::Tries(_) | Command::Pairs(_) => unreachable!(),
     }
 }
 

@@ -145,7 +145,7 @@ fn replay_differs<R: Print + Threads + Wait + Sync>(
     let Some(log) = log_of(text) else {
         return tell(rt, run, "rseq_main", "its text has no log");
     };
-    let files = shelf_files(alloc, run.row.file("F"), Some(log))?;
+    let files = shelf_files(alloc, run.row.file("F"), None, Some(log))?;
     let mut shelf = MemShelf::new(alloc, files, Vec::new(alloc))?;
     let mut sink = MemSink::new(alloc, ROOM, Vec::new(alloc))?;
     let words = words_of(alloc, play_line(alloc, limits)?.as_str())?;

@@ -30,7 +30,7 @@ macro_rules! unwritten {
 /// A program that is refused.
 macro_rules! no_elf {
     ($fault:ident) => {
-        Reason::Elf { fault: ElfFault::$fault, about: None }
+        Reason::Elf { file: FileRole::Program, fault: ElfFault::$fault, about: None }
     };
 }
 

@@ -6,12 +6,12 @@ use std::io::{self, ErrorKind};
 use std::rt::Files;
 use std::{fs, str};
 
-/// The files that a row may have: the program `F` and the script `S`, which its command lines may name; the
+/// The files that a row may have: the program `F`, a second one `G` and the script `S`, which its command lines may name; the
 /// command lines, and the calls of the devices that fail; the status and the text that are due; what standard
 /// error is to say; and whether two workers are to overlap. examples/README.md says what each holds.
-const NAMES: [&str; 12] = [
-    "F", "S", "words", "fails", "status", "stdout", "any-hart", "begins", "ends", "stderr", "told",
-    "meets",
+const NAMES: [&str; 13] = [
+    "F", "G", "S", "words", "fails", "status", "stdout", "any-hart", "begins", "ends", "stderr",
+    "told", "meets",
 ];
 
 /// A file of a row.
@@ -92,10 +92,11 @@ pub(crate) fn read_file<R: Files + AllocGlobal>(
 pub(crate) fn shelf_files(
     alloc: Global,
     program: Option<&[u8]>,
+    second: Option<&[u8]>,
     script: Option<&[u8]>,
 ) -> Result<Vec<(String, Vec<u8>)>, AllocError> {
     let mut files = Vec::new(alloc);
-    for (name, bytes) in [("F", program), ("S", script)] {
+    for (name, bytes) in [("F", program), ("G", second), ("S", script)] {
         if let Some(bytes) = bytes {
             files.push((String::from_str(alloc, name)?, bytes.to_vec(alloc)?))?;
         }

@@ -34,10 +34,11 @@ pub(crate) fn asked_of(alloc: Global, words: &[String]) -> Result<Asked, AllocEr
             by_workers: explore.settings.jobs != Some(1),
             logged: None,
         }),
-        Ok(Command::Makes(_) | Command::Tries(_)) | Err(WordsError::Wrong(_)) => Ok(Asked {
-            by_workers: false,
-            logged: None,
-        }),
+        Ok(Command::Makes(_) | Command::Tries(_) | Command::Pairs(_)) | Err(WordsError::Wrong(_)) =>
+            Ok(Asked {
+                by_workers: false,
+                logged: None,
+            }),
         Err(WordsError::NoMemory) => Err(AllocError),
     }
 }
@@ -77,7 +78,8 @@ impl Run<'_> {
     }
 
     fn files(&self, alloc: Global) -> Result<Vec<(String, Vec<u8>)>, AllocError> {
-        shelf_files(alloc, self.row.file("F"), self.row.file("S"))
+        let row = self.row;
+        shelf_files(alloc, row.file("F"), row.file("G"), row.file("S"))
     }
 }
 

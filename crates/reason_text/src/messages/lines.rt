@@ -30,6 +30,9 @@ pub(crate) fn push_line_fault(
             let cause = Cause(refused);
             write!(text, "this isn't allowed here: {cause}")?;
         }
+        LineFault::NoneGoesOn => {
+            text.push_str("this isn't allowed here: neither of the two processes goes on")?
+        }
         LineFault::Differs(entry) => push_difference(text, &entry)?,
     }
     text.push_str("\n    ")?;

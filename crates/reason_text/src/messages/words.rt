@@ -41,6 +41,7 @@ fn push_word(text: &mut String, fault: WordsFault, words: &[String]) -> Result<(
         WordsFault::NoCommand => return Ok(()),
         WordsFault::UnknownCommand
         | WordsFault::NoProgram
+        | WordsFault::NoSecondProgram
         | WordsFault::NoScript
         | WordsFault::NoGuest
         | WordsFault::NoSize => 1,
@@ -80,6 +81,9 @@ fn push_complaint(text: &mut String, fault: WordsFault, command: &str) -> Result
             text.push_str("its value is missing; a value doesn't begin with -\n")
         }
         WordsFault::NoProgram => text.push_str("the name of the program is missing\n"),
+        WordsFault::NoSecondProgram => {
+            text.push_str("the name of the second program is missing\n")
+        }
         WordsFault::NoScript => text.push_str("the name of the script is missing\n"),
         WordsFault::UnknownGuest(_) => writeln!(text, "there is no such guest; there are {GUESTS}"),
         WordsFault::UnknownPolicy(_) => {

@@ -1,4 +1,4 @@
-use Rattle.std.proofs.Common.{◌≡◌, ◌∙◌, ap₂, codes, List, ℕ, Option}
+use Rattle.std.proofs.Common.{◌≡◌, ◌∙◌, codes, List, ℕ, Option}
 use Rattle.std.specs.Prelude.{option_copied}
 use Rattle.clap.proofs.WalkLemmas.{first_value-rows}
 use Rattle.clap.specs.Words.{Row, found_of, first_of, rows_of}
@@ -9,7 +9,8 @@ use Rattle.command_words.specs.declared.arguments.Arguments.{Arguments}
 use Rattle.command_words.proofs.arguments.arguments_in.Goals as goal
 
 arguments_are : (rows : List Row) (kept : Arguments)
-    → names_kept kept.names ≡ names_found (first_of (codes "program") rows) (first_of (codes "script") rows)
+    → names_kept kept.names
+    ≡ names_found (first_of (codes "first") rows) (first_of (codes "second") rows) (first_of (codes "third") rows)
     → ((option : OptionName) → value_kept kept option ≡ first_of (long_name option) rows)
     → stated kept ≡ arguments_found rows
 arguments_are rows kept names value = λ i. record { names = names i; values = λ option. value option i }
@@ -44,23 +45,31 @@ returns c =
     let rows = rows_of (found_of c.args.matches.now) in
     let kept : Arguments = record {
       names = c.names_of.result;
-      harts = c.get_str-3.result;
-      frames = c.get_str-4.result;
-      steps = c.get_str-5.result;
-      seed = c.get_str-6.result;
-      policy = c.get_str-7.result;
-      calm = c.get_str-8.result;
-      after = c.get_str-9.result;
-      run_count = c.get_str-10.result;
-      until = c.get_str-11.result;
-      by = c.get_str-12.result;
-      jobs = c.get_str-13.result;
+      harts = c.get_str-4.result;
+      frames = c.get_str-5.result;
+      steps = c.get_str-6.result;
+      seed = c.get_str-7.result;
+      policy = c.get_str-8.result;
+      calm = c.get_str-9.result;
+      after = c.get_str-10.result;
+      run_count = c.get_str-11.result;
+      until = c.get_str-12.result;
+      by = c.get_str-13.result;
+      jobs = c.get_str-14.result;
     } in
+    let one = c.get_str.ensures ∙ at (codes "first") in
+    let two = c.get_str-2.ensures ∙ at (codes "second") in
+    let three = c.get_str-3.ensures ∙ at (codes "third") in
     arguments_are rows kept
-    (c.names_of.ensures ∙ ap₂ names_found (c.get_str.ensures ∙ at (codes "program")) (c.get_str-2.ensures
-    ∙ at (codes "script")))
-    (values_are rows kept (c.get_str-3.ensures ∙ at (codes "harts")) (c.get_str-4.ensures ∙ at (codes "frames"))
-    (c.get_str-5.ensures ∙ at (codes "steps")) (c.get_str-6.ensures ∙ at (codes "seed"))
-    (c.get_str-7.ensures ∙ at (codes "policy")) (c.get_str-8.ensures ∙ at (codes "calm"))
-    (c.get_str-9.ensures ∙ at (codes "after")) (c.get_str-10.ensures ∙ at (codes "runs"))
-    (c.get_str-11.ensures ∙ at (codes "until")) (c.get_str-12.ensures ∙ at (codes "by")) (c.get_str-13.ensures ∙ at (codes "jobs")))
+    (c.names_of.ensures ∙ (λ i. names_found (one i) (two i) (three i)))
+    (values_are rows kept (c.get_str-4.ensures ∙ at (codes "harts"))
+    (c.get_str-5.ensures ∙ at (codes "frames"))
+    (c.get_str-6.ensures ∙ at (codes "steps"))
+    (c.get_str-7.ensures ∙ at (codes "seed"))
+    (c.get_str-8.ensures ∙ at (codes "policy"))
+    (c.get_str-9.ensures ∙ at (codes "calm"))
+    (c.get_str-10.ensures ∙ at (codes "after"))
+    (c.get_str-11.ensures ∙ at (codes "runs"))
+    (c.get_str-12.ensures ∙ at (codes "until"))
+    (c.get_str-13.ensures ∙ at (codes "by"))
+    (c.get_str-14.ensures ∙ at (codes "jobs")))
