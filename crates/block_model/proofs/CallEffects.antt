@@ -80,7 +80,7 @@ pub data TableStep (here : Here) (t number : ℕ) (entered : List Write) : Kerne
       → TableStep here t number entered (restricted t set here.kernel)
   MovesOff : (set : ℕ) → set < 2 ^ here.setting.limits.harts → set ≢ 0
       → TableStep here t number entered (left t (restricted t set here.kernel))
-  Registers : (area : Area) → area_here here t ≡ None
+  Registers : (area : Area) → here.beside ≡ None → area_here here t ≡ None
       → entered ≡ words_written area (words_on here.hart (id_of t here.kernel.ids))
       → TableStep here t number entered (registered t area here.kernel)
   Unregisters : TableStep here t number entered (unregistered t here.kernel)

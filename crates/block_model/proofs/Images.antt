@@ -12,7 +12,7 @@ use Rattle.block_model.specs.Setting.{setting_of}
 use Rattle.std.proofs.lemmas.Bool.{cases_eq}
 use Rattle.std.proofs.lemmas.List.{length-map}
 use Rattle.mach_types.specs.Kernel.Pages.{pages_of, permission_of, can_read, is_in, permission_at}
-use Rattle.mach_types.specs.declared.address_space.TheConstants.{FIRST_MAPPING_PAGE, MAPPING_START, PAGE_SIZE}
+use Rattle.mach_types.specs.declared.address_space.TheConstants.{FIRST_MAPPING_PAGE, FIRST_STACK_PAGE, MAPPING_START, PAGE_SIZE, RETURN_PAGE, STACK_PAGES}
 use Rattle.elf_load.specs.Start.{image_run, program_of, return_run, stack_run, start_runs, Program, image_byte, loaded_byte, page_of, return_byte, return_words, start_byte, start_stores}
 use Rattle.block_model.specs.Layouts.{IsLaidOut}
 use Rattle.block_model.proofs.Pages.{outside_above, outside_below}
@@ -186,6 +186,13 @@ loaded_is_laid_out frames image is =
       low = omega (arith, end, most);
       clear = λ n from to. clear_at pages n is.rising (omega (arith, end, from)) to;
     }
+
+-- and none of its pages lies between the stack and the page that signal handlers return to
+pub none_in_gap : (frames : ℕ) (image : Image) → IsBootable frames image → (n : ℕ) → FIRST_STACK_PAGE + STACK_PAGES ≤ n → n < RETURN_PAGE
+    → permission_of (start_runs image.pages.items) n ≡ None
+none_in_gap frames image is n from to =
+    rw (outside_above stack_run n (omega arith), outside_below return_run n (omega arith))
+    (none_mapped image.pages.items n (λ k d lt. let low = is.below k d lt in omega (arith, low)))
 
 -- each byte of these pages is below 256
 abbrev pub HaveBytes : List ImagePage → Type 0

@@ -54,9 +54,11 @@ use Rattle.block_model.proofs.FixedRule as rules
 use Rattle.block_model.proofs.Runs as run_laws
 use Rattle.block_model.proofs.Whole.{allowed_is_whole}
 pub use Rattle.block_model.proofs.TablesOfCalls.{IsAgreed, agreed_called}
+pub use Rattle.block_model.proofs.AreasBeside.{no_area_after}
+pub use Rattle.block_model.proofs.Pages.{IsPaged, paged_start}
 pub use Rattle.block_model.proofs.Barriers.Requests.{IsAwaited, IsAwaitedBy, alone_awaits, alone_requests, asked_below}
 pub use Rattle.block_model.proofs.Barriers.Events.{IsAtOthers, IsBegun, IsFitBarriers, IsStill}
-pub use Rattle.block_model.proofs.Images.{HaveBytes, image_bytes}
+pub use Rattle.block_model.proofs.Images.{HaveBytes, image_bytes, loaded_is_laid_out, none_in_gap}
 pub use Rattle.block_model.proofs.CallEffects.EachCall.{called_begins_none}
 pub use Rattle.block_model.proofs.Choosing.{no_call_held, none_of_both, some_hart_goes_on}
 pub use Rattle.block_model.proofs.EventEffects.{IsNext as IsNextInstruction}

@@ -2,6 +2,7 @@ mod ActExamples
 mod Addresses
 mod AddressesOfCalls
 mod AllowedHarts
+mod AreasBeside
 mod BarrierExamples
 mod Barriers
 mod CallEffects

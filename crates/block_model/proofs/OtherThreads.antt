@@ -171,7 +171,7 @@ module _ (here : Here) (t number : ℕ) where
   beside_step (MovesOff set below some) =
       let k = restricted t set here.kernel in
       beside_after t here.kernel k (left t k) (alike t here.kernel k refl refl) (beside_left t t k)
-  beside_step (Registers area none writes) = beside_registered t area here.kernel
+  beside_step (Registers area alone none writes) = beside_registered t area here.kernel
   beside_step Unregisters = beside_unregistered t here.kernel
   beside_step (Signalled g keeps stand heeds calm) = beside_signalled t g here.kernel
   beside_step step = alike t here.kernel _ refl refl

@@ -55,18 +55,18 @@ pub data IsAreaCalled (here : Here) (t : ℕ) (entered : List Write) (after : Ke
       → entered ≡ words_written area (words_on here.hart (id_of t here.kernel.ids))
       → IsAreaCalled here t entered after
 
-areas_woken : (n at : ℕ) (k : Kernel) → (wake n at k).kernel.areas ≡ k.areas
+pub areas_woken : (n at : ℕ) (k : Kernel) → (wake n at k).kernel.areas ≡ k.areas
 areas_woken = wake_keeps (λ before after. after.areas ≡ before.areas) (λ k. refl)
     (λ u k after waiting same. same)
 
-areas_cleared : (b : Bool) (t at : ℕ) (k : Kernel) → (cond b (cleared t at k) k).areas ≡ k.areas
+pub areas_cleared : (b : Bool) (t at : ℕ) (k : Kernel) → (cond b (cleared t at k) k).areas ≡ k.areas
 areas_cleared true t at k = refl
 areas_cleared false t at k = refl
 
 module _ (here : Here) (t number : ℕ) where
   area_step : {entered : List Write} {k : Kernel} → TableStep here t number entered k
       → IsAreaCalled here t entered k
-  area_step (Registers area none writes) =
+  area_step (Registers area alone none writes) =
       area_new area (area_of-with_area_same t area here.kernel.areas none) writes
   area_step Unregisters = area_gone (area_of-without_area_same t here.kernel.areas)
   area_step step = area_kept refl

@@ -72,10 +72,11 @@ pub record IsPaged (s : Setting) (p : Pages) : Type 0 where
   pub clear : (n : ℕ) → pages_of p.break_at ≤ n → n < FIRST_MAPPING_PAGE → permission_of p.runs n ≡ None
   pub code : (n : ℕ) → can_execute (permission_of p.runs n) ≡ can_execute (start_permission s n)
   pub same : (n : ℕ) → can_execute (start_permission s n) ≡ true → permission_of p.runs n ≡ start_permission s n
+  pub upper : (n : ℕ) → FIRST_STACK_PAGE ≤ n → start_permission s n ≡ None → permission_of p.runs n ≡ None
   pub frames : p.free + mapped_pages p ≡ (first_kernel s).pages.free + mapped_pages (first_kernel s).pages
 
 pub paged_start : (s : Setting) → IsLaidOut s.program → IsPaged s (first_kernel s).pages
-paged_start s laid = record { laid = laid; high = laid.low; clear = laid.clear; code = λ n. refl; same = λ n is. refl; frames = refl }
+paged_start s laid = record { laid = laid; high = laid.low; clear = laid.clear; code = λ n. refl; same = λ n is. refl; upper = λ n from none. none; frames = refl }
 
 -- pages are counted alike by tests that agree on them
 count_same : (t u : ℕ → Bool) (first count : ℕ) → ((k : ℕ) → first ≤ k → k < first + count → t k ≡ u k) → count_pages t first count ≡ count_pages u first count
@@ -152,6 +153,7 @@ module _ (s : Setting) (p : Pages) (is : IsPaged s p) (r : PageRun) (free break_
     (over : (n : ℕ) → r.first ≤ n → n < r.first + r.count → can_execute (permission_of p.runs n) ≡ false)
     (high : break_at ≤ MAPPING_START)
     (clear : (n : ℕ) → pages_of break_at ≤ n → n < FIRST_MAPPING_PAGE → permission_of (r ∷ p.runs) n ≡ None)
+    (upper : (n : ℕ) → FIRST_STACK_PAGE ≤ n → permission_of p.runs n ≡ None → permission_of (r ∷ p.runs) n ≡ None)
     (fits : (r.count ≡ 0) ⊎ (r.first + r.count ≤ USER_END / PAGE_SIZE))
     (frames : free + mapped_count (permission_of (r ∷ p.runs)) r.first r.count ≡ p.free + mapped_count (permission_of p.runs) r.first r.count)
   where
@@ -197,6 +199,7 @@ module _ (s : Setting) (p : Pages) (is : IsPaged s p) (r : PageRun) (free break_
       clear = clear;
       code = λ n. code_over n ∙ is.code n;
       same = same_over;
+      upper = λ n from none. upper n from (is.upper n from none);
       frames = frames_over;
     }
 
@@ -224,12 +227,18 @@ module _ (s : Setting) (p : Pages) (is : IsPaged s p) (first count : ℕ) (fits 
     gone_inside : (n : ℕ) → first ≤ n → n < first + count → permission_of (run first count None ∷ p.runs) n ≡ None
     gone_inside n low high = rw (inside_is (run first count None) n low high) refl
 
+    upper_without : (n : ℕ) → FIRST_STACK_PAGE ≤ n → permission_of p.runs n ≡ None → permission_of (run first count None ∷ p.runs) n ≡ None
+    upper_without n from none = elim (over_by (run first count None) p.runs n (is_in (run first count None) n) refl) [
+      | inl inside ↦ inside.0
+      | inr same ↦ same ∙ none
+    ]
+
     pub paged_without : (break_at : ℕ) → break_at ≤ MAPPING_START
         → ((n : ℕ) → pages_of break_at ≤ n → n < FIRST_MAPPING_PAGE → permission_of (run first count None ∷ p.runs) n ≡ None)
         → IsPaged s (record { runs = run first count None ∷ p.runs; free = p.free + mapped_count (permission_of p.runs) first count; break_at = break_at })
     paged_without break_at high clear =
         let none = count_pages-none (λ n. is_some (permission_of (run first count None ∷ p.runs) n)) first count (λ k low to. ap (λ (o : Option ℕ). is_some o) (gone_inside k low to)) in
-        paged_over s p is (run first count None) (p.free + mapped_count (permission_of p.runs) first count) break_at refl bare high clear (inr fits) (omega (arith, none))
+        paged_over s p is (run first count None) (p.free + mapped_count (permission_of p.runs) first count) break_at refl bare high clear upper_without (inr fits) (omega (arith, none))
 
     clear_without : (n : ℕ) → pages_of p.break_at ≤ n → n < FIRST_MAPPING_PAGE → permission_of (run first count None ∷ p.runs) n ≡ None
     clear_without n low high = elim (over_by (run first count None) p.runs n (is_in (run first count None) n) refl) [
@@ -264,13 +273,19 @@ module _ (s : Setting) (p : Pages) (is : IsPaged s p) (first count permission : 
   all_given = count_all (λ n. is_some (permission_of (r ∷ p.runs) n)) first count (λ k low high. ap (λ (o : Option ℕ). is_some o) (given_inside k low high))
 
   pub paged_given : (break_at : ℕ) → ((n : ℕ) → first ≤ n → n < first + count → permission_of p.runs n ≡ None)
-      → count ≤ p.free → break_at ≤ MAPPING_START → first + count ≤ USER_END / PAGE_SIZE
+      → count ≤ p.free → break_at ≤ MAPPING_START → first + count ≤ FIRST_STACK_PAGE
       → ((n : ℕ) → pages_of break_at ≤ n → n < FIRST_MAPPING_PAGE → permission_of (r ∷ p.runs) n ≡ None)
       → IsPaged s (record { runs = r ∷ p.runs; free = p.free - count; break_at = break_at })
   paged_given break_at hole room high fits clear =
       let none = count_pages-none (λ n. is_some (permission_of p.runs n)) first count (λ k low to. ap (λ (o : Option ℕ). is_some o) (hole k low to)) in
       let all = all_given in
-      paged_over s p is r (p.free - count) break_at bare (λ n low to. ap can_execute (hole n low to)) high clear (inr fits) (omega (arith, none, all))
+      paged_over s p is r (p.free - count) break_at bare (λ n low to. ap can_execute (hole n low to)) high clear upper (inr (omega (arith, fits))) (omega (arith, none, all))
+    where
+      upper : (n : ℕ) → FIRST_STACK_PAGE ≤ n → permission_of p.runs n ≡ None → permission_of (r ∷ p.runs) n ≡ None
+      upper n from none = elim (over_by r p.runs n (is_in r n) refl) [
+        | inl inside ↦ let past = inside.1.1 in absurd (omega (arith, fits))
+        | inr same ↦ same ∙ none
+      ]
 
   pub paged_kept : ((n : ℕ) → first ≤ n → n < first + count → is_some (permission_of p.runs n) ≡ true)
       → ((n : ℕ) → first ≤ n → n < first + count → can_execute (permission_of p.runs n) ≡ false)
@@ -279,8 +294,14 @@ module _ (s : Setting) (p : Pages) (is : IsPaged s p) (first count permission : 
   paged_kept mapped without fits =
       let were = count_all (λ n. is_some (permission_of p.runs n)) first count mapped in
       let all = all_given in
-      paged_over s p is r p.free p.break_at bare without is.high clear fits (omega (arith, were, all))
+      paged_over s p is r p.free p.break_at bare without is.high clear upper fits (omega (arith, were, all))
     where
+      upper : (n : ℕ) → FIRST_STACK_PAGE ≤ n → permission_of p.runs n ≡ None → permission_of (r ∷ p.runs) n ≡ None
+      upper n from none = elim (over_by r p.runs n (is_in r n) refl) [
+        | inl inside ↦ absurd (false≢true (sym (ap (λ (o : Option ℕ). is_some o) none) ∙ mapped n inside.1.0 inside.1.1))
+        | inr same ↦ same ∙ none
+      ]
+
       clear : (n : ℕ) → pages_of p.break_at ≤ n → n < FIRST_MAPPING_PAGE → permission_of (r ∷ p.runs) n ≡ None
       clear n low high = elim (over_by r p.runs n (is_in r n) refl) [
         | inl inside ↦ absurd (false≢true (sym (ap (λ (o : Option ℕ). is_some o) (is.clear n low high)) ∙ mapped n inside.1.0 inside.1.1))

@@ -93,7 +93,7 @@ module _ (here : Here) (t number harts : ℕ) (at : runs here ≡ Some t) (is : 
       agreed_of harts _ (tables_waited harts here.hart t p now.threads now.scheduling is.tables at) (held_waited 9 t p now held)
   agreed_step (Stays set below some) = agreed_restricted harts t set now is
   agreed_step (MovesOff set below some) = agreed_left harts here.hart t (restricted t set now) at (agreed_restricted harts t set now is)
-  agreed_step (Registers area none writes) = agreed_of harts _ is.tables (held_registered 9 t area now lives none held)
+  agreed_step (Registers area alone none writes) = agreed_of harts _ is.tables (held_registered 9 t area now lives none held)
   agreed_step Unregisters = agreed_of harts _ is.tables (held_unregistered 9 t now held)
   agreed_step (Signalled g keeps stand heeds calm) = agreed_of harts _ is.tables (held_signalled 9 g now keeps held)
   agreed_step (EnrolsFor r) = agreed_of harts _ is.tables (held_for_barriers 9 r now held)

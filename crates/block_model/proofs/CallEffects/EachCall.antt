@@ -46,7 +46,7 @@ deed_call_of here t number =
     either (eqb number 222) (λ is. at_number here t number 222 _ is (deed_mmap here t)) (λ _.
     either (eqb number 226) (λ is. at_number here t number 226 _ is (deed_mprotect here t)) (λ _.
     either (eqb number 283) (λ is. deed_barrier_call here t number (eqb-true number 283 is) here.beside refl) (λ _.
-    either (eqb number 293) (λ _. deed_sequence_call here t number here.beside) (λ _.
+    either (eqb number 293) (λ _. deed_sequence_call here t number here.beside refl) (λ _.
     Says _))))))))))))))))))))))))
 
 pub deed_called : (here : Here) (t : ℕ) → CallDeed here t (call_number here t) (called here t)

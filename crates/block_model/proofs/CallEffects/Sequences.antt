@@ -34,13 +34,13 @@ registers_first old at len flags sig area is = go (eqb flags 0) is
     go false is = cc
 
 module _ (here : Here) (t number : ℕ) where
-  deed_registers : (x : Result Area Errno) → ((area : Area) → x ≡ Ok area → area_here here t ≡ None)
+  deed_registers : here.beside ≡ None → (x : Result Area Errno) → ((area : Area) → x ≡ Ok area → area_here here t ≡ None)
       → CallDeed here t number (registers_or_refused here t x)
-  deed_registers (Err e) first = Says _
-  deed_registers (Ok area) first =
+  deed_registers alone (Err e) first = Says _
+  deed_registers alone (Ok area) first =
       either (are_words_writable (is_writable here) area)
       (λ may. answers_0 _ _ (area_writable (is_writable here) area (words_on here.hart (id_of t here.kernel.ids)) may)
-      (Registers area (first area refl) refl)) (λ _. deed_killed)
+      (Registers area alone (first area refl) refl)) (λ _. deed_killed)
 
   deed_unregisters : (old : Option Area) → CallDeed here t number (unregisters here t old)
   deed_unregisters None = Says _
@@ -53,16 +53,16 @@ module _ (here : Here) (t number : ℕ) where
   deed_unregisters_or (Err e) = Says _
   deed_unregisters_or (Ok done) = deed_unregisters (area_here here t)
 
-  deed_rseq : CallDeed here t number (rseq here t)
-  deed_rseq =
+  deed_rseq : here.beside ≡ None → CallDeed here t number (rseq here t)
+  deed_rseq alone =
       let at = argument here t 0 in
       let len = int_argument here t 1 in
       let flags = int_argument here t 2 in
       let sig = int_argument here t 3 in
       let old = area_here here t in
       either (eqb (flags % 2) 1) (λ _. deed_unregisters_or (unregistration old at len flags sig))
-      (λ _. deed_registers (registration old at len flags sig) (registers_first old at len flags sig))
+      (λ _. deed_registers alone (registration old at len flags sig) (registers_first old at len flags sig))
 
-  pub deed_sequence_call : (o : Option Neighbour) → CallDeed here t number (sequence_call o here t)
-  deed_sequence_call None = deed_rseq
-  deed_sequence_call (Some other) = Says _
+  pub deed_sequence_call : (o : Option Neighbour) → here.beside ≡ o → CallDeed here t number (sequence_call o here t)
+  deed_sequence_call None is = deed_rseq is
+  deed_sequence_call (Some other) is = Says _

@@ -69,7 +69,7 @@ module _ (here : Here) (t number : ℕ) (good : IsGoodHere here) (at : runs here
       let k = restricted t set now in
       let kept = kept_restricted s t set now good.kernel below some in
       moving n entered _ (moved_after s h now k (left t k) kept (moved_left s h t k kept.sound (kept.running h ∙ at)))
-  fit_step n entered (Registers area none writes) =
+  fit_step n entered (Registers area alone none writes) =
       keeping n entered _ (kept_tables s now (registered t area now) good.kernel refl refl refl refl (held_registered s.limits.harts t area now (running_lives here t good at) none))
   fit_step n entered Unregisters = keeping n entered _ (kept_tables s now (unregistered t now) good.kernel refl refl refl refl (held_unregistered s.limits.harts t now))
   fit_step n entered (Signalled g keeps stand heeds calm) = keeping n entered _ (kept_signalled s g now good.kernel keeps)
