@@ -20,6 +20,7 @@ HERE = pathlib.Path(__file__).resolve().parent
 ROOT = HERE.parent
 BUILT = ROOT / 'crates' / 'rseq_run' / 'out' / 'rseq_run'
 EXAMPLES = ROOT / 'examples'
+RING = EXAMPLES / 'segment_ring'
 WANT = 7, b'fault memory\n'
 NO_WORDS = 7, b''
 
@@ -37,6 +38,8 @@ LINES = [
     ['draw', EXAMPLES / 'peterson' / 'peterson.elf', '--seed', '2'],
     ['explore', EXAMPLES / 'peterson' / 'peterson.elf', '--runs', '20', '--jobs', '1'],
     ['explore', EXAMPLES / 'peterson' / 'peterson.elf', '--runs', '20', '--jobs', '2'],
+    ['pair', RING / 'producer.elf', RING / 'consumer.elf', RING / 'found.script'],
+    ['pair', RING / 'producer.elf', RING / 'consumer.elf', RING / 'not_taken.script'],
     ['run', EXAMPLES / 'hello' / 'hello.elf', '--harts', '1'],
     ['solo', EXAMPLES / 'check.py'],
     ['make', 'counter', '1000'],

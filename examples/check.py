@@ -4,7 +4,7 @@
     examples/check.py [PROGRAM [NAME..]]
 
 PROGRAM is crates/rseq_run/out/rseq_run where it isn't given: `rt ci` leaves it there. Where names are given, those alone are run: a
-name of an example, `blocks`, `headers`, or of a group of worked runs (barriers/), or of one of them (barriers/taken_by_an_idle_hart).
+name of an example, `pairs`, `blocks`, `headers`, or of a group of worked runs (barriers/), or of one of them (barriers/taken_by_an_idle_hart).
 
 For each example NAME:
 - `solo` prints the console of console.expected and the end of end.expected;
@@ -27,6 +27,10 @@ For each example NAME:
   *.end beside it (else the example's), where they hang on the interleaving (a *.pattern there is a regular expression for the
   whole console); and the log lines that it prints, played on as many harts, give the same text;
 - `draw`, with each of DRAWN_SEEDS on as many harts, does so too, and prints the same text at a second call.
+
+For each NAME/*.pair `pair` on the two programs that it names, with the *.script beside it, gives the *.output beside that (with status 4
+where it is a fault line). The log lines that it prints, played by `pair`, give the same text, and TAKE_PAIR_SCRIPT, the README's line of
+sed for such a text, takes exactly these.
 
 For each of GUESTS the file that `make` prints runs so by `run` and by `draw`, with its number on the console, and `trial` on so many
 harts has that console too, and prints the same text at a second call. The guest urcu has one outcome in many drawn runs, and more than
@@ -79,6 +83,7 @@ void block(void) {
 SECONDS = 120
 DONE, SCRIPT_REFUSED, UNREAD = 0, 4, 5
 TAKE_SCRIPT = r"sed -n '/^log /{h;d;};$!H;${g;s/^log [0-9]*\n//p;}'"
+TAKE_PAIR_SCRIPT = r"sed -n '/^log /{h;d;};/^process /d;$!H;${g;s/^log [0-9]*\n//p;}'"
 LOOKS_LIKE_A_LOG = b'console 54\nlog 1\n\x00\xfflog 2\nlog 1\n0 run 1 00000000000100b0\nend open\n\nlog 1\n1 run 1 00000000000100b0\nend open\n'
 
 
@@ -90,18 +95,29 @@ class Output:
     """The parts of an output text: `console N`, N bytes, `log M`, M lines, and the end."""
 
     def __init__(self, text):
-        first, rest = self.split_line(text)
-        length = self.count(first, b'console ')
-        self.console, after = rest[:length], rest[length:]
-        if len(self.console) != length or not after.startswith(b'\n'):
+        self.console, rest = self.split_console(text)
+        self.log, (self.end,) = self.split_log(rest, [b'end '])
+
+    @classmethod
+    def split_console(cls, text):
+        first, rest = cls.split_line(text)
+        length = cls.count(first, b'console ')
+        console, after = rest[:length], rest[length:]
+        if len(console) != length or not after.startswith(b'\n'):
             raise Difference(f'{length} console bytes and a newline are announced, and {len(rest)} bytes follow')
-        first, rest = self.split_line(after[1:])
+        return console, after[1:]
+
+    @classmethod
+    def split_log(cls, text, endings):
+        """The lines of a log, and the lines behind it, which begin so."""
+        first, rest = cls.split_line(text)
         lines = rest.splitlines(keepends=True)
-        length = self.count(first, b'log ')
-        self.log, ending = lines[:length], lines[length:]
-        if len(ending) != 1 or not ending[0].startswith(b'end ') or not ending[0].endswith(b'\n'):
-            raise Difference(f'{length} log lines and an end are announced, and {len(lines)} lines follow')
-        self.end = ending[0]
+        length = cls.count(first, b'log ')
+        log, ending = lines[:length], lines[length:]
+        are_due = len(ending) == len(endings) and all(line.startswith(word) for line, word in zip(ending, endings))
+        if not are_due or not rest.endswith(b'\n'):
+            raise Difference(f'{length} log lines and {len(endings)} more are announced, and {len(lines)} lines follow')
+        return log, ending
 
     @staticmethod
     def split_line(text):
@@ -116,6 +132,16 @@ class Output:
         if not line.startswith(word) or not number.isdigit():
             raise Difference(f'a line {word.decode()}N is due, and {line[:60]!r} came')
         return int(number)
+
+
+class PairOutput(Output):
+    """The parts of an output text of `pair`: two consoles, the log, how each process stands, and the end."""
+
+    def __init__(self, text):
+        first, rest = self.split_console(text)
+        second, rest = self.split_console(rest)
+        self.consoles = first, second
+        self.log, (*self.states, self.end) = self.split_log(rest, [b'process 1 ', b'process 2 ', b'end '])
 
 
 def run(program, *words, folder=None):
@@ -151,10 +177,15 @@ def want(what, found, wanted):
 
 def on_script(program, command, elf, script, harts):
     """The status and the text of a command on the bytes of a script."""
+    return on_programs(program, command, [elf], script, harts)
+
+
+def on_programs(program, command, elves, script, harts):
+    """The same of a command that takes so many programs before its script."""
     with tempfile.NamedTemporaryFile(suffix='.script') as file:
         file.write(script)
         file.flush()
-        return run(program, command, elf, file.name, '--harts', harts, '--steps', STEPS)
+        return run(program, command, *elves, file.name, '--harts', harts, '--steps', STEPS)
 
 
 def expect_play(program, elf, script, harts, status, text):
@@ -190,10 +221,10 @@ def own_lines(log, hart):
     return b''.join(line for line in log if line.startswith(b'%d ' % hart))
 
 
-def check_taken(text):
+def check_taken(text, command=TAKE_SCRIPT, parts=Output):
     """The README's line of sed takes exactly the log lines of a text."""
-    ran = subprocess.run(['sh', '-c', TAKE_SCRIPT], input=text, capture_output=True, timeout=SECONDS)
-    want('what sed takes', ran.stdout + ran.stderr, b''.join(Output(text).log))
+    ran = subprocess.run(['sh', '-c', command], input=text, capture_output=True, timeout=SECONDS)
+    want('what sed takes', ran.stdout + ran.stderr, b''.join(parts(text).log))
 
 
 def check_solo(program, folder, elf):
@@ -241,6 +272,20 @@ def check_script(program, elf, script):
     check_gathered(program, elf, script, text)
     check_place(program, elf, lines, Output(text).end)
     check_place(program, elf, lines[:len(lines) // 2], b'end open\n')
+
+
+def check_pair(program, pair):
+    """A script on two programs gives the text beside it, and so do the log lines of that text."""
+    elves = [pair.parent / name for name in pair.read_text().split()]
+    script, text = pair.with_suffix('.script').read_bytes(), pair.with_suffix('.output').read_bytes()
+    if text.startswith(b'fault script '):
+        want('what comes of it', on_programs(program, 'pair', elves, script, '2'), (SCRIPT_REFUSED, text))
+        return
+    status, found = on_programs(program, 'pair', elves, script, '2')
+    want('its status', status, DONE)
+    want('its text', found, text)
+    want('the text of its log lines', on_programs(program, 'pair', elves, b''.join(PairOutput(text).log), '2'), (DONE, text))
+    check_taken(text, TAKE_PAIR_SCRIPT, PairOutput)
 
 
 def asked(line):
@@ -517,6 +562,14 @@ def check_order(headers):
     want('what the compiler says', ran.stdout + ran.stderr, b'')
 
 
+def check_pairs(program, names):
+    """How many scripts on two programs fail, and how many there are."""
+    pairs = [pair for pair in sorted(HERE.glob('*/*.pair')) if not names or 'pairs' in names or pair.parent.name in names]
+    failed = sum(not passes(f'{pair.parent.name}/{pair.stem}', [('pair', lambda: check_pair(program, pair))]) for pair in pairs)
+    print(f'{len(pairs) - failed} pairs passed' + (f', {failed} failed' if failed else ''))
+    return failed, len(pairs)
+
+
 def check_headers(names):
     """How many orders of the headers of common/ fail, of those with each of them first; says so where they can't be compiled."""
     if names and 'headers' not in names:
@@ -555,6 +608,7 @@ def main():
     folders = sorted(it.parent for it in HERE.glob('*/console.expected') if not names or it.parent.name in names)
     failed = sum(not passes(folder.name, checks(program, folder)) for folder in folders)
     print(f'{len(folders) - failed} examples passed' + (f', {failed} failed' if failed else ''))
+    unpaired, pairs = check_pairs(program, names)
     guests = [guest for guest in GUESTS if not names or guest in names]
     broken = sum(not passes(guest, checks_of_guest(program, guest)) for guest in guests)
     print(f'{len(guests) - broken} guests passed' + (f', {broken} failed' if broken else ''))
@@ -564,8 +618,8 @@ def main():
     with ThreadPoolExecutor(os.cpu_count()) as workers:
         differ = sum(not is_well for is_well in workers.map(lambda row: row_passes(program, row), worked))
     print(f'{len(worked) - differ} worked runs passed' + (f', {differ} failed' if differ else ''))
-    some = folders or guests or worked or 'blocks' in names or 'headers' in names
-    sys.exit(1 if failed or broken or changed or differ or not is_listed or not some or not (names or worked) else 0)
+    some = folders or pairs or guests or worked or 'blocks' in names or 'headers' in names
+    sys.exit(1 if failed or unpaired or broken or changed or differ or not is_listed or not some or not (names or worked) else 0)
 
 
 main()

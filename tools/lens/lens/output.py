@@ -131,6 +131,8 @@ class Reader:
         return console
 
     def log(self) -> list[bytes]:
+        if self.rest.startswith(b'console '):
+            raise self.fault('it is an output of `pair`, and lens shows the run of one process')
         length = self.number('log')
         lines = self.rest.split(b'\n', length)
         if len(lines) <= length:

@@ -29,6 +29,15 @@ OBJDUMP = '2.40'
 """The one whose words the kept listings have (binutils of Debian 12); later ones write `addi` for `add`."""
 
 
+def kept_runs() -> list[tuple[Path, Path]]:
+    """The output texts of the examples that show a run of one process, each with its program."""
+    return [
+        (run, run.parent / f'{run.parent.name}.elf')
+        for run in sorted(EXAMPLES.glob('*/*.output'))
+        if not run.with_suffix('.pair').exists() and not run.read_bytes().startswith(b'fault ')
+    ]
+
+
 def objdump_version() -> str:
     """The version of the objdump that `lens` calls."""
     ran = subprocess.run([find_objdump() or 'objdump', '--version'], capture_output=True, text=True)

@@ -8,7 +8,7 @@ from lens.faults import LensFault
 from lens.picture import CELL, NAMESPACE, PER_ROW, choose_span, draw_run
 from lens.program import Program
 
-from .common import EXAMPLES, FOUND, PETERSON, ROOT, found, history, lens
+from .common import FOUND, PETERSON, ROOT, found, history, kept_runs, lens
 
 TAG = f'{{{NAMESPACE}}}'
 
@@ -67,11 +67,9 @@ class Pictures(unittest.TestCase):
             choose_span(100_000, 1, 100_000)
 
     def test_every_example_has_a_picture(self):
-        for run in sorted(EXAMPLES.glob('*/*.output')):
-            elf = run.parent / f'{run.parent.name}.elf'
-            if not run.read_bytes().startswith(b'fault '):
-                with self.subTest(run=run.name):
-                    xml.fromstring(draw_run(history(run, elf)))
+        for run, elf in kept_runs():
+            with self.subTest(run=run.name):
+                xml.fromstring(draw_run(history(run, elf)))
 
     def test_the_picture_of_the_page(self):
         with tempfile.TemporaryDirectory() as folder:

@@ -9,7 +9,7 @@ from pathlib import Path
 from lens.program import HANDLER_RETURN
 from lens.trace import make_trace
 
-from .common import EXAMPLES, FOUND, PETERSON, START, assemble, found, history, lens, output_text
+from .common import FOUND, PETERSON, START, assemble, found, history, kept_runs, lens, output_text
 
 REQUIRED = {
     'X': {'name', 'cat', 'pid', 'tid', 'ts', 'dur'},
@@ -71,10 +71,9 @@ class Traces(unittest.TestCase):
         )
 
     def test_every_example(self):
-        for run in sorted(EXAMPLES.glob('*/*.output')):
-            if not run.read_bytes().startswith(b'fault '):
-                with self.subTest(run=run.name):
-                    self.check(make_trace(history(run, run.parent / f'{run.parent.name}.elf')))
+        for run, elf in kept_runs():
+            with self.subTest(run=run.name):
+                self.check(make_trace(history(run, elf)))
 
     def test_command(self):
         with tempfile.TemporaryDirectory() as folder:
