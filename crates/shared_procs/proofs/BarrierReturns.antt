@@ -1,33 +1,19 @@
 -- In a pair run a barrier returns only where each hart that it is about is passed (membarrier(2)): what the hart stored before the call, of
 -- either process, is in memory. While a thread waits in its barrier, each hart that the barrier is about is left or passed.
 use Rattle.std.proofs.Common.{◌≡◌, ℕ, ◌+◌, ◌≤◌, ◌⊎◌, List, [], ◌∷◌, ◌++◌, length, fold, eqb, Bool, true, false, not, cond, ◌&&◌, inl, inr, Option, Some, None, refl, sym, ap, ◌∙◌, subst, arith}
-use Rattle.std.specs.Option.{option_map, option_or}
-use Rattle.std.proofs.lemmas.Bool.{cases_eq, eqb-true, false≢true}
-use Rattle.std.proofs.lemmas.List.Sums.{fold-append}
 use Rattle.std.proofs.lemmas.Nat.Bits.{bit_at-zero}
-use Rattle.mach_types.specs.Events.{choice_of, choice_with}
-use Rattle.mach_types.specs.Kernel.Scheduling.{has_hart}
-use Rattle.mach_types.specs.declared.events.Choice.{Choice}
 use Rattle.mach_types.specs.declared.events.Choice.TheVariants as asked
-use Rattle.mach_types.specs.declared.events.Entry.{Entry}
 use Rattle.mach_types.specs.declared.events.Kind.TheVariants as kind
-use Rattle.mach_types.specs.declared.events.Why.TheVariants.{Targets}
-use Rattle.mach_types.specs.declared.limits.End.{End}
-use Rattle.mach_types.specs.declared.user_memory.Store.{Store}
-use Rattle.block_model.specs.Events.{refusal_of}
-use Rattle.block_model.specs.Events.Finish.{refusal_done_by, refusal_return}
-use Rattle.block_model.specs.Here.{Barrier, Done, Here, runs}
-use Rattle.block_model.specs.Plain.{Plain, apply}
+use Rattle.block_model.specs.Events.Finish.{refusal_return}
 use Rattle.block_model.specs.Requests.{awaits_of_own, without_hart}
 use Rattle.block_model.proofs.Laws.{without_hart-other}
-use Rattle.shared_procs.specs.ReturningBarriers.{PairBegun, begun_by, begun_or, is_by, is_of_process, returning}
-use Rattle.shared_procs.specs.PairRuns.{IsPairRun, IsPairRunHistory, PairEvent, PairHistory, event_two, pair_after, pair_history}
-use Rattle.shared_procs.specs.Pairs.{Pair, PairSetting, acting, apply_two, done_two, ended_if, half, here_two, on_hart, own_choice}
-use Rattle.shared_procs.specs.StoresEntered.{entered, executed, is_on}
-use Rattle.shared_procs.proofs.HartsApart.{apart, other_idle}
-use Rattle.shared_procs.proofs.Settled.{decided, own_free}
+use Rattle.shared_procs.specs.ReturningBarriers.{begun_or, is_by}
+use Rattle.shared_procs.specs.StoresEntered.{is_on}
+use Rattle.shared_procs.proofs.Common.{acting, apply, apply_two, Barrier, begun_by, cases_eq, Choice, choice_of, choice_with, Done, End, ended_if, entered, Entry, eqb-true, event_two, executed, false≢true, fold-append, half, has_hart, Here, here_two, is_of_process, IsPairRun, IsPairRunHistory, on_hart, option_map, option_or, own_choice, Pair, pair_after, pair_history, PairBegun, PairEvent, PairHistory, PairSetting, Plain, refusal_done_by, refusal_of, returning, runs, Store, Targets}
+use Rattle.shared_procs.proofs.EventFacts.{takes_where_none_waits}
+use Rattle.shared_procs.proofs.Halves.{waits_by_half}
+use Rattle.shared_procs.proofs.HartsApart.{apart, event_of}
 use Rattle.shared_procs.proofs.Sums.{sum_is}
-use Rattle.shared_procs.proofs.TakesAlone.{takes_where_none_waits}
 
 -- WHAT ENTERED STAYS SO
 
@@ -78,46 +64,21 @@ is_called p h (e ∷ before) b is = by_event (is_by p h e) refl (λ older. calle
     by_event true own older is = by_barrier e.done.barrier refl own older is
     by_event false other older is = older is
 
--- no hart had executed more stores there
-behind : (k : ℕ) (since : PairHistory) (e : PairEvent) (call : PairHistory) → executed k call ≤ executed k (since ++ e ∷ call)
-behind k [] e call = executed_more k e call
-behind k (x ∷ since) e call =
-    let more = executed_more k x (since ++ e ∷ call) in
-    let was = behind k since e call in
-    omega arith
-
-called_earlier : (p : Bool) (h : ℕ) (before : PairHistory) (b : PairBegun) (k : ℕ) → begun_by p h before ≡ Some b → executed k b.call ≤ executed k before
-called_earlier p h before b k is =
-    let at = is_called p h before b is in
-    subst (λ (x : PairHistory). executed k b.call ≤ executed k x) (sym at.2) (behind k at.0 at.1 b.call)
-
 -- A HART THAT TAKES REQUESTS IS PASSED
-
-none_of_both : (m : Pair) (p : Bool) (h : ℕ) → (half p m).waiting h ≡ [] → (half (not p) m).waiting h ≡ []
-    → length (m.first.waiting h) + length (m.second.waiting h) ≡ 0
-none_of_both m true h own other =
-    let a : length (m.first.waiting h) ≡ 0 = ap (λ (ws : List Store). length ws) other in
-    let b : length (m.second.waiting h) ≡ 0 = ap (λ (ws : List Store). length ws) own in
-    omega arith
-none_of_both m false h own other =
-    let a : length (m.first.waiting h) ≡ 0 = ap (λ (ws : List Store). length ws) own in
-    let b : length (m.second.waiting h) ≡ 0 = ap (λ (ws : List Store). length ws) other in
-    omega arith
 
 took_passed : (s : PairSetting) (e : PairEvent) (before : PairHistory) → IsPairRunHistory s (e ∷ before) → e.done.took ≡ true
     → executed e.entry.hart.0 before ≤ entered s e.entry.hart.0 before
 took_passed s e before run took =
     let m = pair_after s before in
+    let p = e.process in
     let h = e.entry.hart.0 in
-    let c = choice_of e.entry in
-    let p = acting m h c in
-    let comes = decided s m h c e.entry run.1 in
-    let takes : (done_two s m h c).took ≡ true = sym (ap (λ (x : PairEvent). x.done.took) run.2) ∙ took in
+    let its = event_of s e before run in
     let are = apart s before run.0 in
-    let own = takes_where_none_waits (here_two s m p h) (own_choice c) (own_free s m h c comes.over comes.free).free takes in
-    let other = are.none (not p) h (other_idle s m h c (are.one h) comes.free) in
-    let none = none_of_both m p h own other in
+    let own = takes_where_none_waits (here_two s m p h) (own_choice (choice_of e.entry)) its.free (sym its.took_is ∙ took) in
+    let none : length ((half p m).waiting h) ≡ 0 = ap (λ (ws : List Store). length ws) own in
+    let no_other : length ((half (not p) m).waiting h) ≡ 0 = ap (λ (ws : List Store). length ws) (are.none (not p) h (its.alone (are.one h))) in
     let all = sum_is s before h run.0 in
+    let both = waits_by_half p m h in
     omega arith
 
 -- WHILE A THREAD WAITS IN ITS BARRIER
@@ -141,6 +102,7 @@ module _ (h g left : ℕ) (d : Done) (m : Pair) where
 record IsPassedSoFar (s : PairSetting) (before : PairHistory) (p : Bool) (h left : ℕ) : Type 0 where
   begun : PairBegun
   newest : begun_by p h before ≡ Some begun
+  earlier : (k : ℕ) → executed k begun.call ≤ executed k before
   passed : (k : ℕ) → has_hart begun.barrier.targets k ≡ true → has_hart left k ≡ false → executed k begun.call ≤ entered s k before
 
 module _ (s : PairSetting) (e : PairEvent) (before : PairHistory) (run : IsPairRunHistory s (e ∷ before)) (p : Bool) (h left : ℕ)
@@ -151,13 +113,16 @@ module _ (s : PairSetting) (e : PairEvent) (before : PairHistory) (run : IsPairR
   abbrev now : PairHistory
   now = e ∷ before
 
+  -- the newest one, where the event is one of its process and hart, or isn't
+  abbrev newest_if : Bool → Option PairBegun
+  newest_if b = cond b (begun_or (begun_by p h before) before e.done.barrier) (begun_by p h before)
+
   -- one that begins: each hart that it is about is left
   begins_now : (barrier : Barrier) → is_by p h e ≡ true → e.done.barrier ≡ Some barrier → barrier.targets ≡ left → IsPassedSoFar s now p h left
   begins_now barrier own is all = record {
     begun = record { call = before; barrier = barrier };
-    newest =
-        ap (λ b. cond b (begun_or (begun_by p h before) before e.done.barrier) (begun_by p h before)) own
-        ∙ ap (begun_or (begun_by p h before) before) is;
+    newest = ap newest_if own ∙ ap (begun_or (begun_by p h before) before) is;
+    earlier = λ k. executed_more k e before;
     passed = λ k about none. absurd (false≢true (sym none ∙ ap (λ set. has_hart set k) (sym all) ∙ about));
   }
 
@@ -169,11 +134,12 @@ module _ (s : PairSetting) (e : PairEvent) (before : PairHistory) (run : IsPairR
       record {
         begun = old.begun;
         newest = same ∙ old.newest;
+        earlier = λ k. let was_earlier = old.earlier k in let more = executed_more k e before in omega arith;
         passed = λ k about none.
             let more = entered_more s k e before in
             elim (passed k none) [
               | inl out ↦ let entered = old.passed k about out in omega arith
-              | inr taken ↦ let earlier = called_earlier p h before old.begun k old.newest in omega arith
+              | inr taken ↦ let earlier = old.earlier k in omega arith
             ];
       }
 
@@ -182,12 +148,7 @@ module _ (s : PairSetting) (e : PairEvent) (before : PairHistory) (run : IsPairR
   by_own true barrier own its is = absurd cc
   by_own false (Some barrier) own its is = begins_now barrier own its cc
   by_own false None own its is =
-      waits_on left is
-      (ap (λ b. cond b (begun_or (begun_by p h before) before e.done.barrier) (begun_by p h before)) own ∙ ap (begun_or (begun_by p h before) before) its)
-      (λ k none. inl none)
-
-  other_newest : is_by p h e ≡ false → begun_by p h now ≡ begun_by p h before
-  other_newest other = ap (λ b. cond b (begun_or (begun_by p h before) before e.done.barrier) (begun_by p h before)) other
+      waits_on left is (ap newest_if own ∙ ap (begun_or (begun_by p h before) before) its) (λ k none. inl none)
 
   -- a hart that took its requests is passed
   taken : (all k : ℕ) → without_hart e.entry.hart.0 all ≡ left → e.done.took ≡ true → has_hart left k ≡ false
@@ -199,15 +160,12 @@ module _ (s : PairSetting) (e : PairEvent) (before : PairHistory) (run : IsPairR
 
   by_other : (took : Bool) (o : Option ℕ) → is_by p h e ≡ false → e.done.took ≡ took → awaits ≡ o
       → cond took (option_map (without_hart e.entry.hart.0) o) o ≡ Some left → IsPassedSoFar s now p h left
-  by_other took None other its waits is = by took is
-    where
-      by : (b : Bool) → cond b (option_map (without_hart e.entry.hart.0) None) None ≡ Some left → IsPassedSoFar s now p h left
-      by true is = absurd cc
-      by false is = absurd cc
-  by_other false (Some all) other its waits is = waits_on left (waits ∙ is) (other_newest other) (λ k none. inl none)
+  by_other true None other its waits is = absurd cc
+  by_other false None other its waits is = absurd cc
+  by_other false (Some all) other its waits is = waits_on left (waits ∙ is) (ap newest_if other) (λ k none. inl none)
   by_other true (Some all) other its waits is =
       let less : without_hart e.entry.hart.0 all ≡ left = cc in
-      waits_on all waits (other_newest other) (λ k none. taken all k less its none)
+      waits_on all waits (ap newest_if other) (λ k none. taken all k less its none)
 
   so_far_by : (own : Bool) → is_by p h e ≡ own
       → cond own (awaits_of_own e.done awaits) (cond e.done.took (option_map (without_hart e.entry.hart.0) awaits) awaits) ≡ Some left
@@ -240,21 +198,9 @@ done_where : (here : Here) (r : Option ℕ) → refusal_done_by here r ≡ None 
 done_where here None free = cc
 done_where here (Some t) free = waits_for_none here.awaits free
 
-returned_by : (s : PairSetting) (e : PairEvent) (before : PairHistory) → IsPairRunHistory s (e ∷ before) → e.entry.kind ≡ kind.Done
-    → IsPassedSoFar s before (on_hart (pair_after s before) e.entry.hart.0) e.entry.hart.0 0
-returned_by s e before run is =
-    let m = pair_after s before in
-    let h = e.entry.hart.0 in
-    let choice : choice_of e.entry ≡ asked.Done = ap (λ k. choice_with k e.entry) is in
-    let comes = decided s m h (choice_of e.entry) e.entry run.1 in
-    let free = (own_free s m h (choice_of e.entry) comes.over comes.free).free in
-    let done : refusal_of asked.Done (here_two s m (on_hart m h) h) ≡ None =
-    subst (λ (c : Choice). refusal_of (own_choice c) (here_two s m (acting m h c) h) ≡ None) choice free in
-    so_far s before (on_hart m h) h 0 run.0 (done_where (here_two s m (on_hart m h) h) (runs (here_two s m (on_hart m h) h)) done)
-
 -- AT ITS PLACE IN A LOG
 
-run_before : (s : PairSetting) (later : List Entry) (past : PairHistory)
+pub run_before : (s : PairSetting) (later : List Entry) (past : PairHistory)
     → IsPairRunHistory s (fold (λ (before : PairHistory) (e : Entry). event_two s before e ∷ before) past later) → IsPairRunHistory s past
 run_before s [] past run = run
 run_before s (e ∷ later) past run = (run_before s later (event_two s past e ∷ past) run).0
@@ -283,13 +229,21 @@ module _ (s : PairSetting) (earlier later : List Entry) (entry : Entry) (run : I
   abbrev before : PairHistory
   before = pair_history s earlier
 
-  returned_at : IsPassedSoFar s before (on_hart (pair_after s before) entry.hart.0) entry.hart.0 0
-  returned_at = returned_by s (event_two s before entry) before (run_to s earlier later entry run) is
+  abbrev m : Pair
+  m = pair_after s before
+
+  returned_at : IsPassedSoFar s before (on_hart m entry.hart.0) entry.hart.0 0
+  returned_at =
+      let h = entry.hart.0 in
+      let now = run_to s earlier later entry run in
+      let choice : choice_of entry ≡ asked.Done = ap (λ k. choice_with k entry) is in
+      let done : refusal_of asked.Done (here_two s m (on_hart m h) h) ≡ None =
+      subst (λ (c : Choice). refusal_of (own_choice c) (here_two s m (acting m h c) h) ≡ None) choice (event_of s (event_two s before entry) before now).free in
+      so_far s before (on_hart m h) h 0 now.0 (done_where (here_two s m (on_hart m h) h) (runs (here_two s m (on_hart m h) h)) done)
 
   pub returns : (b : PairBegun) × (returning s earlier entry.hart.0 ≡ Some b)
   returns = (returned_at.begun, returned_at.newest)
 
   pub stores_entered : (b : PairBegun) (k : ℕ) → returning s earlier entry.hart.0 ≡ Some b → has_hart b.barrier.targets k ≡ true
       → executed k b.call ≤ entered s k (pair_history s earlier)
-  stores_entered b k newest about =
-      all_passed s before (on_hart (pair_after s before) entry.hart.0) entry.hart.0 b k returned_at newest about
+  stores_entered b k newest about = all_passed s before (on_hart m entry.hart.0) entry.hart.0 b k returned_at newest about

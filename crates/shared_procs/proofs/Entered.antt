@@ -1,33 +1,11 @@
 -- Stores of instructions that enter memory: one, none, and several, one after the other; and a process beside them.
-use Rattle.std.proofs.Common.{◌≡◌, ℕ, ◌+◌, ◌<◌, ◌≤◌, ◌++◌, ◌/◌, ◌||◌, Bool, true, false, cond, inl, inr, List, [], ◌∷◌, length, drop, append_assoc, append-nil, Option, Some, None, IfSome, slice_get, refl, sym, ap, ◌∙◌, subst, arith}
-use Rattle.std.proofs.Math.Path.{fun_ext}
-use Rattle.std.specs.List.{AllByRecursion, filter}
-use Rattle.std.proofs.lemmas.Bool.{cases_lt}
-use Rattle.mach_types.specs.Bytes.{IsAccessSize, after_write, all_stored, byte_over, each_byte, written}
-use Rattle.mach_types.specs.Kernel.Pages.{can_read, can_write}
-use Rattle.mach_types.specs.declared.user_memory.Store.{Store}
-use Rattle.mach_types.specs.declared.user_memory.Write.{Write}
-use Rattle.mach_types.specs.declared.user_memory.Write.TheVariants.{Stored}
-use Rattle.block_model.specs.Beside.{is_in_segment}
-use Rattle.block_model.specs.Here.{Done}
-use Rattle.block_model.specs.History.{lost_after}
-use Rattle.block_model.specs.Plain.{Plain}
-use Rattle.block_model.specs.Setting.{Setting}
-use Rattle.block_model.specs.Stands.{aside}
-use Rattle.page_map.specs.Map.{IsAlike, Map, can_write_in, may_write, permission_in}
-use Rattle.page_map.specs.Mapping.{IsGap}
-use Rattle.page_map.proofs.Laws.{over-high, over-low}
-use Rattle.process.specs.Refinement.{IsReadable, IsTied}
-use Rattle.process.specs.declared.parts.Parts.{Parts}
+use Rattle.std.proofs.Common.{◌≡◌, ℕ, ◌<◌, ◌++◌, ◌/◌, ◌||◌, Bool, true, false, List, [], ◌∷◌, length, drop, append_assoc, append-nil, Option, Some, None, IfSome, slice_get, refl, sym, ap, ◌∙◌, subst, arith}
+use Rattle.std.proofs.lemmas.List.Elements.{filter-append}
+use Rattle.mach_types.specs.Kernel.Pages.{can_read}
+use Rattle.process.specs.Refinement.{IsReadable}
 use Rattle.process.proofs.PairLaws as losses
-use Rattle.sys_calls.specs.Made.{HoldsPages}
-use Rattle.shared_procs.specs.Entering.{AreEntering, AreStorable, HaveEntered, HaveLost, HoldsShared}
-use Rattle.shared_procs.specs.Pairs.{is_shared}
-use Rattle.shared_procs.specs.Segments.{lies_within, reached_in, shared_in, storable_in}
-use Rattle.shared_procs.proofs.PairWrites.{pages_beside, pages_on, shared_stored}
-use Rattle.shared_procs.proofs.Segments.{bytes_inside, outside}
-use Rattle.shared_procs.proofs.TiedAlike.{quiet_done, quietly_aside}
-use Rattle.shared_procs.proofs.Windows.{few_bytes, not_inside, writable_outside}
+use Rattle.shared_procs.proofs.Common.{all_stored, AllByRecursion, AreEntering, AreStorable, aside, can_write, Done, each_byte, filter, fun_ext, HaveEntered, HaveLost, here_in_plain, HoldsPages, is_in_segment, is_shared, IsTied, lost_after, Map, may_write, nothing, Parts, permission_in, Plain, Setting, storable_in, Store, Stored, Write, written}
+use Rattle.shared_procs.proofs.TiedAlike.{quietly_aside}
 
 -- LISTS OF STORES
 
@@ -39,13 +17,8 @@ pub stored_app : (ss ts : List Store) → all_stored (ss ++ ts) ≡ all_stored s
 stored_app [] ts = refl
 stored_app (s ∷ ss) ts = ap (λ (ws : List Write). Stored s ∷ ws) (stored_app ss ts)
 
-one_shared : (b : Bool) (w : Write) (us vs both : List Write) → both ≡ us ++ vs → cond b (w ∷ both) both ≡ cond b (w ∷ us) us ++ vs
-one_shared true w us vs both is = ap (λ (ws : List Write). w ∷ ws) is
-one_shared false w us vs both is = is
-
 pub shared_both : (ws vs : List Write) → filter is_shared (ws ++ vs) ≡ filter is_shared ws ++ filter is_shared vs
-shared_both [] vs = refl
-shared_both (w ∷ ws) vs = one_shared (is_shared w) w (filter is_shared ws) (filter is_shared vs) (filter is_shared (ws ++ vs)) (shared_both ws vs)
+shared_both ws vs = filter-append is_shared ws vs
 
 pub shared_app : (ss ts : List Store) → filter is_shared (all_stored (ss ++ ts)) ≡ filter is_shared (all_stored ss) ++ filter is_shared (all_stored ts)
 shared_app ss ts = ap (filter is_shared) (stored_app ss ts) ∙ shared_both (all_stored ss) (all_stored ts)
@@ -72,70 +45,6 @@ entered_app ss ts m m1 m2 segment segment1 segment2 first then = record {
       ∙ ap (λ (ws : List Write). written ws a (shared a)) (sym (shared_app ss ts));
   permissions = λ n. then.permissions n ∙ first.permissions n;
 }
-
--- one
-some_bytes : (n : ℕ) → IsAccessSize n → 0 < n
-some_bytes n (inl e) = omega arith
-some_bytes n (inr (inl e)) = omega arith
-some_bytes n (inr (inr (inl e))) = omega arith
-some_bytes n (inr (inr (inr e))) = omega arith
-
-untouched : (w : Store) (a below : ℕ) → (w.at ≤ a → a < w.at + w.size → ⊥) → byte_over w a below ≡ below
-untouched w a below not =
-    elim (cases_lt a w.at) [
-      | inl low ↦ over-low w.at w.size w.value a below low
-      | inr from ↦
-          elim (cases_lt a (w.at + w.size)) [
-            | inl to ↦ absurd (not from to)
-            | inr high ↦ over-high w.at w.size w.value a below high
-          ]
-    ]
-
-module _ (m m' : Map) (segment segment' : List ℕ) (w : Store) (size : IsAccessSize w.size)
-    (storable : each_byte (storable_in m) w.at w.size ≡ true) (gap : (n : ℕ) → IsGap n → permission_in m n ≡ None) (alike : IsAlike m m')
-    (bytes : (a : ℕ) → reached_in segment' m' a ≡ after_write true w (reached_in segment m) a)
-  where
-    abbrev seen : Bool → (ℕ → ℕ) → ℕ → ℕ
-    seen b shared a = written (cond b (Stored w ∷ []) []) a (shared a)
-
-    inside : lies_within w.at w.size ≡ true → HaveEntered (w ∷ []) m segment m' segment'
-    inside within =
-        let positive = some_bytes w.size size in
-        let start : w.at + 0 ≡ w.at = omega arith in
-        let first : is_in_segment w.at ≡ true = ap is_in_segment (sym start) ∙ bytes_inside w.at w.size 0 within positive in
-        record {
-          pages = λ ps lowest byte holds. pages_beside segment segment' m m' w alike gap bytes ps lowest byte holds within;
-          shared = λ shared holds a is.
-              shared_stored segment segment' m m' w alike gap bytes shared holds a is ∙ ap (λ b. seen b shared a) (sym first);
-          permissions = alike.permissions;
-        }
-
-    beside : lies_within w.at w.size ≡ false → HaveEntered (w ∷ []) m segment m' segment'
-    beside without =
-        let positive = some_bytes w.size size in
-        let out = outside w.at w.size (few_bytes w.size size) without in
-        let may : each_byte (can_write_in m) w.at w.size ≡ true = writable_outside m gap w.at w.size out ∙ storable in
-        let none : is_in_segment w.at ≡ true → ⊥ =
-        λ is. not_inside m gap w.at w.size w.at out may is (omega arith) (omega arith) in
-        record {
-          pages = λ ps lowest byte holds. pages_on segment segment' m m' w alike gap bytes ps lowest byte holds may;
-          shared = λ shared holds a is.
-              shared_stored segment segment' m m' w alike gap bytes shared holds a is
-              ∙ untouched w a (shared a) (λ from to. not_inside m gap w.at w.size a out may is from to)
-              ∙ ap (λ b. seen b shared a) (sym (is_not (is_in_segment w.at) none));
-          permissions = alike.permissions;
-        }
-      where
-        is_not : (b : Bool) → (b ≡ true → ⊥) → b ≡ false
-        is_not true never = absurd (never refl)
-        is_not false never = refl
-
-    pub one_entered : HaveEntered (w ∷ []) m segment m' segment'
-    one_entered = by (lies_within w.at w.size) refl
-      where
-        by : (b : Bool) → lies_within w.at w.size ≡ b → HaveEntered (w ∷ []) m segment m' segment'
-        by true is = inside is
-        by false is = beside is
 
 -- WHAT MAY STILL ENTER
 
@@ -168,7 +77,7 @@ pub lost_shown : (h : ℕ) (ws : List Store) (other other' : Parts)
     → IsTied s (aside h d (filter is_shared (all_stored ws)) y) other')
     → HaveLost ws other other'
 lost_shown h ws other other' shown s y tied =
-    quietly_aside s y other' h (filter is_shared (all_stored ws)) (shown s y (quiet_done y.kernel) tied refl refl)
+    quietly_aside s y other' h (filter is_shared (all_stored ws)) (shown s y (nothing (here_in_plain s y h)) tied refl refl)
 
 pub lost_app : (ss ts : List Store) (m m1 m2 : Parts) → HaveLost ss m m1 → HaveLost ts m1 m2 → HaveLost (ss ++ ts) m m2
 lost_app ss ts m m1 m2 first then s y tied =
@@ -189,10 +98,6 @@ entering_start waited m segment other may = record {
   lost = λ s y tied. tied;
   storable = may;
 }
-
-pub first_may : (m : Map) (left : List Store) (w : Store) → AreStorable m left → Some w ≡ slice_get left 0 → each_byte (storable_in m) w.at w.size ≡ true
-first_may m [] w may at = cc
-first_may m (v ∷ left) w may at = let same : w ≡ v = cc in subst (λ (u : Store). each_byte (storable_in m) u.at u.size ≡ true) (sym same) may.0
 
 pub entering_more : (waited left : List Store) (w : Store) (m m1 m2 : Map) (segment segment1 segment2 : List ℕ) (other other1 other2 : Parts)
     → AreEntering waited left m segment other m1 segment1 other1 → Some w ≡ slice_get left 0
@@ -218,15 +123,10 @@ none_left [] at = refl
 none_left (v ∷ left) at = cc
 
 -- until none is left
-pub record HaveLeft (waited : List Store) (m : Map) (segment : List ℕ) (other : Parts) (m' : Map) (segment' : List ℕ) (other' : Parts) : Type 0 where
-  pub entered : HaveEntered waited m segment m' segment'
-  pub lost : HaveLost waited other other'
-
 pub entering_end : (waited left : List Store) (m m' : Map) (segment segment' : List ℕ) (other other' : Parts)
-    → AreEntering waited left m segment other m' segment' other' → None ≡ slice_get left 0 → HaveLeft waited m segment other m' segment' other'
+    → AreEntering waited left m segment other m' segment' other' → None ≡ slice_get left 0 → HaveEntered waited m segment m' segment' × HaveLost waited other other'
 entering_end waited left m m' segment segment' other other' so at =
-    let all : so.gone ≡ waited = sym (append-nil so.gone) ∙ ap (λ (ws : List Store). so.gone ++ ws) (sym (none_left left at)) ∙ so.all in
-    record {
-      entered = subst (λ (ws : List Store). HaveEntered ws m segment m' segment') all so.entered;
-      lost = subst (λ (ws : List Store). HaveLost ws other other') all so.lost;
-    }
+    let all : so.gone ≡ waited = sym (append-nil so.gone) ∙ ap (λ (ws : List Store). so.gone ++ ws) (sym (none_left left at)) ∙ so.all in (
+      subst (λ (ws : List Store). HaveEntered ws m segment m' segment') all so.entered,
+      subst (λ (ws : List Store). HaveLost ws other other') all so.lost,
+    )

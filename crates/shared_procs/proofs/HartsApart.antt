@@ -1,26 +1,15 @@
 -- A hart runs threads of one process alone; and where it runs none of a process, no store of the process waits there.
 use Rattle.std.proofs.Common.{◌≡◌, ◌≢◌, ◌⊎◌, inl, inr, ℕ, ◌<◌, ◌&&◌, ◌||◌, List, [], ◌∷◌, Bool, true, false, not, cond, Option, None, Some, is_none, is_some, length, find, nat_le, refl, sym, ap, ◌∙◌, subst}
 use Rattle.std.specs.List.{list_any}
-use Rattle.std.specs.Option.{option_map, option_or}
-use Rattle.std.proofs.lemmas.Bool.{cases_eq}
-use Rattle.mach_types.specs.Events.{choice_of}
-use Rattle.mach_types.specs.Kernel.Threads.{Thread, Threads, goes_on as thread_goes_on, is_on, is_running_on, is_stuck, is_waiting_state, running_on}
-use Rattle.mach_types.specs.declared.events.Choice.{Choice}
+use Rattle.mach_types.specs.Kernel.Threads.{goes_on as thread_goes_on, is_running_on, is_waiting_state}
 use Rattle.mach_types.specs.declared.events.Choice.TheVariants as asked
-use Rattle.mach_types.specs.declared.events.Why.{Why}
-use Rattle.mach_types.specs.declared.events.Why.TheVariants.{Busy, NotReady}
-use Rattle.mach_types.specs.declared.limits.End.{End}
 use Rattle.mach_types.specs.declared.limits.End.TheVariants as over
-use Rattle.mach_types.specs.declared.threads.ThreadState.{ThreadState}
 use Rattle.mach_types.specs.declared.threads.ThreadState.TheVariants.{Ready, Running, Waiting}
-use Rattle.block_model.specs.Deciding.{final}
-use Rattle.block_model.specs.Events.{refusal_of}
-use Rattle.block_model.specs.Here.{Done}
-use Rattle.block_model.specs.Plain.{Plain, apply, plain_over}
-use Rattle.block_model.proofs.Laws.{IsFit, stand_next}
-use Rattle.shared_procs.specs.Pairs.{Pair, PairSetting, acting, apply_two, done_two, ended_if, goes_on, half, here_two, is_of_second, is_over, neighbour, on_hart, own_choice, refusal_begins, refusal_two, runs_in, stand}
-use Rattle.shared_procs.specs.PairRuns.{IsPairRunHistory, PairEvent, PairHistory, pair_after}
-use Rattle.shared_procs.proofs.Settled.{AreStanding, decided, done_fit, over_lt, own_free, settled, standing_of}
+use Rattle.shared_procs.proofs.Common.{acting, apply, apply_two, cases_eq, Choice, choice_of, Done, End, ended_if, final, goes_on, half, here_two, is_of_second, is_on, is_stuck, is_take, IsFit, IsPairRunHistory, Neighbour, neighbour, on_hart, option_map, option_or, own_choice, Pair, pair_after, PairEvent, PairHistory, PairSetting, Plain, plain_over, refusal_of, refusal_two, running_on, runs_in, stand, stand_next, Thread, Threads, ThreadState}
+use Rattle.shared_procs.proofs.EventFacts.{does_so}
+use Rattle.shared_procs.proofs.Halves.{each_half}
+use Rattle.shared_procs.proofs.Refusals.{begins}
+use Rattle.shared_procs.proofs.Settled.{decided, done_fit, over_lt, own_free, settled}
 
 -- one process runs no thread on a hart
 abbrev pub RunsOne : Pair → ℕ → Type 0
@@ -90,24 +79,40 @@ rest_idle m h one = by (runs_in m true h) (runs_in m false h) (goes_on m false) 
     by None None true second first one = second
     by None None false second first one = first
 
-begins_alone : (m : Pair) (p : Bool) (h : ℕ) (why : Option Why) → refusal_begins m p h why ≡ None → runs_in m (not p) h ≡ None
-begins_alone m p h why free = by (runs_in m (not p) h) refl free
-  where
-    by : (o : Option ℕ) → runs_in m (not p) h ≡ o → cond (is_some o) (Some Busy) (cond (goes_on m p) why (Some NotReady)) ≡ None
-        → runs_in m (not p) h ≡ None
-    by None is free = is
-    by (Some t) is free = cc
-
 -- where an event may come, no thread of the other process runs on its hart
-pub other_idle : (s : PairSetting) (m : Pair) (h : ℕ) (c : Choice) → RunsOne m h → refusal_two s m h c ≡ None → runs_in m (not (acting m h c)) h ≡ None
-other_idle s m h asked.Exec one free = rest_idle m h one
-other_idle s m h asked.Drain one free = rest_idle m h one
-other_idle s m h asked.Take one free = rest_idle m h one
-other_idle s m h asked.Done one free = rest_idle m h one
-other_idle s m h asked.Preempt one free = rest_idle m h one
+other_idle : (s : PairSetting) (m : Pair) (h : ℕ) (c : Choice) → RunsOne m h → refusal_two s m h c ≡ None → runs_in m (not (acting m h c)) h ≡ None
 other_idle s m h (asked.Run t) one free =
-    begins_alone m (is_of_second t.0) h (refusal_of (own_choice (asked.Run t)) (here_two s m (is_of_second t.0) h)) free
-other_idle s m h asked.Signal one free = rest_idle m h one
+    (begins m (is_of_second t.0) h (refusal_of (own_choice (asked.Run t)) (here_two s m (is_of_second t.0) h)) free).0
+other_idle s m h c one free = rest_idle m h one
+
+-- an event of a pair run, by the numbers of its process
+pub record IsEvent (s : PairSetting) (before : PairHistory) (e : PairEvent) : Type 0 where
+  pub lt : e.entry.hart.0 < s.limits.harts
+  pub goes : goes_on (pair_after s before) e.process ≡ true
+  pub free : refusal_of (own_choice (choice_of e.entry)) (here_two s (pair_after s before) e.process e.entry.hart.0) ≡ None
+  pub alone : RunsOne (pair_after s before) e.entry.hart.0 → runs_in (pair_after s before) (not e.process) e.entry.hart.0 ≡ None
+  pub fit : IsFit (here_two s (pair_after s before) e.process e.entry.hart.0) e.done
+  pub took_is : e.done.took ≡ is_take (own_choice (choice_of e.entry))
+  pub quietly : (end : End) → e.done.ended ≡ Some end → (e.done.executed ≡ []) × (e.done.drained ≡ 0)
+
+pub event_of : (s : PairSetting) (e : PairEvent) (before : PairHistory) → IsPairRunHistory s (e ∷ before) → IsEvent s before e
+event_of s e before run =
+    let m = pair_after s before in
+    let h = e.entry.hart.0 in
+    let c = choice_of e.entry in
+    let comes = decided s m h c e.entry run.1 in
+    let lt = over_lt s.limits.harts h comes.hart in
+    let own = own_free s m h c comes.over comes.free in
+    let does = does_so (here_two s m (acting m h c) h) (own_choice c) in
+    subst (IsEvent s before) (sym run.2) (record {
+      lt = lt;
+      goes = own.goes;
+      free = own.free;
+      alone = λ one. other_idle s m h c one comes.free;
+      fit = done_fit s m h c (settled s before run.0) lt comes.over comes.free;
+      took_is = does.took_is;
+      quietly = does.quietly;
+    })
 
 -- AN EVENT KEEPS BOTH
 
@@ -124,55 +129,56 @@ threads_after : (o : Option End) (h k : ℕ) (d : Done) (x : Plain) → running_
 threads_after None h k d x = refl
 threads_after (Some e) h k d x = refl
 
-module _ (s : PairSetting) (m : Pair) (h : ℕ) (c : Choice) (are : AreStanding s m) (lt : h < s.limits.harts) (live_on : is_over m ≡ false) (free : refusal_two s m h c ≡ None) where
+-- the thread of a process that runs on a hart, where the process stands so
+abbrev idle_in : Plain → ℕ → Type 0
+idle_in x k = cond (is_none (plain_over x)) (running_on k x.kernel.threads) None ≡ None
+
+module _ (s : PairSetting) (e : PairEvent) (before : PairHistory) (run : IsPairRunHistory s (e ∷ before)) where
+  abbrev m : Pair
+  m = pair_after s before
+
+  abbrev p : Bool
+  p = e.process
+
+  abbrev h : ℕ
+  h = e.entry.hart.0
+
   abbrev d : Done
-  d = done_two s m h c
+  d = e.done
 
-  its_fit : (p : Bool) → acting m h c ≡ p → IsFit (here_two s m p h) d
-  its_fit p is = subst (λ q. IsFit (here_two s m q h) d) is (done_fit s m h c are lt live_on free)
+  its : IsEvent s before e
+  its = event_of s e before run
 
-  its_goes : (p : Bool) → acting m h c ≡ p → goes_on m p ≡ true
-  its_goes p is = ap (goes_on m) (sym is) ∙ (own_free s m h c live_on free).goes
+  -- other harts run the threads of both that they ran
+  stays_idle : (k : ℕ) → k ≢ h → (q : Bool) → runs_in m q k ≡ None → runs_in (apply_two h p d m) q k ≡ None
+  stays_idle k other =
+      each_half (λ q x. runs_in m q k ≡ None → idle_in x k) h p d m
+      (λ none.
+      idle_either (is_none (plain_over (ended_if d.ended (apply h d (half p m))))) (running_on k (ended_if d.ended (apply h d (half p m))).kernel.threads)
+      (threads_after d.ended h k d (half p m) ∙ its.fit.others k other ∙ was_idle (goes_on m p) (running_on k (half p m).kernel.threads) its.goes none))
+      (λ none. none)
 
-  -- other harts run the threads of the process that they ran
-  own_stays : (p : Bool) (k : ℕ) (x : Plain) → acting m h c ≡ p → x ≡ ended_if d.ended (apply h d (half p m)) → k ≢ h → runs_in m p k ≡ None
-      → cond (is_none (plain_over x)) (running_on k x.kernel.threads) None ≡ None
-  own_stays p k x is same other none =
-      idle_either (is_none (plain_over x)) (running_on k x.kernel.threads)
-      (ap (λ (y : Plain). running_on k y.kernel.threads) same ∙ threads_after d.ended h k d (half p m) ∙ (its_fit p is).others k other
-      ∙ was_idle (goes_on m p) (running_on k (half p m).kernel.threads) (its_goes p is) none)
-
-  one_by : (p : Bool) (k : ℕ) → acting m h c ≡ p → k ≢ h → RunsOne m k → RunsOne (apply_two h p d m) k
-  one_by true k is other (inl none) = inl (own_stays true k (half true (apply_two h true d m)) is refl other none)
-  one_by true k is other (inr none) = inr none
-  one_by false k is other (inl none) = inl none
-  one_by false k is other (inr none) = inr (own_stays false k (half false (apply_two h false d m)) is refl other none)
-
-  one_here : (p : Bool) → runs_in m (not p) h ≡ None → RunsOne (apply_two h p d m) h
+  one_here : (q : Bool) → runs_in m (not q) h ≡ None → RunsOne (apply_two h q d m) h
   one_here true none = inr none
   one_here false none = inl none
 
-  one_next : (p : Bool) (k : ℕ) → acting m h c ≡ p → RunsOne m h → RunsOne m k → RunsOne (apply_two h p d m) k
-  one_next p k is here there = elim (cases_eq k h) [
-    | inl same ↦ subst (RunsOne (apply_two h p d m)) (sym same) (one_here p (ap (λ q. runs_in m (not q) h) (sym is) ∙ other_idle s m h c here free))
-    | inr other ↦ one_by p k is other there
+  one_next : (k : ℕ) → RunsOne m h → RunsOne m k → RunsOne (apply_two h p d m) k
+  one_next k here there = elim (cases_eq k h) [
+    | inl same ↦ subst (RunsOne (apply_two h p d m)) (sym same) (one_here p (its.alone here))
+    | inr other ↦ elim there [ inl none ↦ inl (stays_idle k other true none) | inr none ↦ inr (stays_idle k other false none) ]
   ]
 
   -- a process that an event ended has no waiting store; and on a hart that is idle after any other one none waits
-  own_holds : (p : Bool) (k : ℕ) (m' : Pair) (o : Option End) → acting m h c ≡ p → d.ended ≡ o
-      → cond (is_none (plain_over (ended_if o (apply h d (half p m))))) (running_on k (ended_if o (apply h d (half p m))).kernel.threads) None ≡ None
-      → (ended_if o (apply h d (half p m))).waiting k ≡ []
-  own_holds p k m' (Some e) is its none = refl
-  own_holds p k m' None is its none =
-      let next = stand_next (stand s m p) h d (Some (neighbour s m' p)) (λ can. refl) lt (standing_of s m p are (its_goes p is)) (its_fit p is) in
-      let unended : (apply h d (half p m)).ended ≡ None = ap (λ o. option_or o (half p m).ended) its ∙ open_of (half p m) (its_goes p is) in
-      (next.good h lt).idle k (idle_of (apply h d (half p m)) k unended none)
+  own_holds : (k : ℕ) (o : Option End) → d.ended ≡ o → idle_in (ended_if o (apply h d (half p m))) k → (ended_if o (apply h d (half p m))).waiting k ≡ []
+  own_holds k (Some end) is none = refl
+  own_holds k None is none =
+      let beside : Option Neighbour = Some (neighbour s m p) in
+      let next = stand_next (stand s m p) h d beside (λ can. refl) its.lt (settled s before run.0 p its.goes) its.fit in
+      let unended : (apply h d (half p m)).ended ≡ None = ap (λ o. option_or o (half p m).ended) is ∙ open_of (half p m) its.goes in
+      (next.good h its.lt).idle k (idle_of (apply h d (half p m)) k unended none)
 
-  holds_by : (p q : Bool) (k : ℕ) → acting m h c ≡ p → HoldsNone m q k → HoldsNone (apply_two h p d m) q k
-  holds_by true true k is was none = own_holds true k (apply_two h true d m) d.ended is refl none
-  holds_by true false k is was none = was none
-  holds_by false true k is was none = was none
-  holds_by false false k is was none = own_holds false k (apply_two h false d m) d.ended is refl none
+  holds_next : (k : ℕ) → ((q : Bool) → HoldsNone m q k) → (q : Bool) → HoldsNone (apply_two h p d m) q k
+  holds_next k was = each_half (λ q x. idle_in x k → x.waiting k ≡ []) h p d m (own_holds k d.ended refl) (was (not p))
 
 -- so it is at each place of a pair run
 pub record AreApart (m : Pair) : Type 0 where
@@ -186,20 +192,11 @@ start_none s false k none = refl
 pub apart : (s : PairSetting) (before : PairHistory) → IsPairRunHistory s before → AreApart (pair_after s before)
 apart s [] run = record { one = λ k. inl refl; none = start_none s }
 apart s (e ∷ before) run =
-    let m = pair_after s before in
-    let h = e.entry.hart.0 in
-    let c = choice_of e.entry in
-    let p = acting m h c in
     let was = apart s before run.0 in
-    let are = settled s before run.0 in
-    let comes = decided s m h c e.entry run.1 in
-    let lt : h < s.limits.harts = over_lt s.limits.harts h comes.hart in
-    let next : AreApart (apply_two h p (done_two s m h c) m) =
     record {
-      one = λ k. one_next s m h c are lt comes.over comes.free p k refl (was.one h) (was.one k);
-      none = λ q k. holds_by s m h c are lt comes.over comes.free p q k refl (was.none q k);
-    } in
-    subst (λ (x : PairEvent). AreApart (apply_two x.entry.hart.0 x.process x.done m)) (sym run.2) next
+      one = λ k. one_next s e before run k (was.one e.entry.hart.0) (was.one k);
+      none = λ q k. holds_next s e before run k (λ r. was.none r k) q;
+    }
 
 -- the stores that wait on a hart are of one process
 pub of_one_process : (m : Pair) (h : ℕ) → AreApart m → (m.first.waiting h ≡ []) ⊎ (m.second.waiting h ≡ [])

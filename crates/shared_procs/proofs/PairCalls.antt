@@ -1,52 +1,22 @@
 -- A call of a thread of a process of a pair that isn't answered as where the process is alone; and one that is.
-use Rattle.std.proofs.Common.{◌≡◌, ◌≢◌, ◌⊎◌, inl, inr, ℕ, ℤ, ◌+◌, ◌%◌, ◌^◌, ◌<◌, ◌≤◌, Bool, true, false, not, List, [], ◌∷◌, Option, Some, None, get_or, length, w32, to_z, of_z, refl, sym, ap, ◌∙◌, subst, arith}
-use Rattle.std.specs.List.{filter}
-use Rattle.std.specs.Option.{option_map_or}
-use Rattle.std.proofs.lemmas.Bool.{false≢true}
+use Rattle.std.proofs.Common.{◌≡◌, ◌≢◌, ◌⊎◌, inl, inr, ℕ, ℤ, ◌%◌, ◌^◌, ◌<◌, Bool, true, false, [], Option, Some, None, get_or, w32, to_z, of_z, refl, sym, ap, ◌∙◌, arith}
 use Rattle.std.proofs.lemmas.Int.{of_z-to_z}
-use Rattle.mach_types.specs.Kernel.Barriers.{asked, refusal, registered_after, targets}
-use Rattle.mach_types.specs.Kernel.PairBarriers.{command_two, concerned}
-use Rattle.mach_types.specs.Kernel.Threads.{Threads, runs as runs_in}
+use Rattle.mach_types.specs.Kernel.Barriers.{registered_after}
+use Rattle.mach_types.specs.Kernel.PairBarriers.{command_two}
+use Rattle.mach_types.specs.Kernel.Threads.{runs as runs_in}
 use Rattle.mach_types.specs.Registers.{register}
-use Rattle.mach_types.specs.declared.barriers.Answer.{Answer}
-use Rattle.mach_types.specs.declared.barriers.Answer.TheVariants.{Value, Begin}
-use Rattle.mach_types.specs.declared.barriers.BarrierCommand.{BarrierCommand}
-use Rattle.mach_types.specs.declared.barriers.Registered.{Registered}
-use Rattle.mach_types.specs.declared.errors.Errno.{Errno}
-use Rattle.mach_types.specs.declared.errors.TheConstants.{ENOSYS}
 use Rattle.mach_types.specs.declared.events.Choice.TheVariants as asked_for
-use Rattle.mach_types.specs.declared.events.Hart.{Hart}
-use Rattle.mach_types.specs.declared.threads.Saved.{Saved}
-use Rattle.mach_types.specs.declared.user_memory.Write.{Write}
-use Rattle.rv_inst.specs.Class.{is_call}
-use Rattle.rv_inst.specs.Words.{signed_32}
-use Rattle.rv_inst.specs.declared.effects.Effect.{Effect}
 use Rattle.rv_inst.specs.declared.effects.Effect.TheVariants as effect
-use Rattle.hart_state.specs.declared.hart.HartState.{HartState}
-use Rattle.block_model.specs.Calls.{call_of, called}
-use Rattle.block_model.specs.Calls.Answers.{CallDone, argument, call_number, int_argument, killed_in_call, negative, refused, returned}
-use Rattle.block_model.specs.Calls.Barriers.{answers, running_harts}
-use Rattle.block_model.specs.Events.{done_of}
-use Rattle.block_model.specs.Events.Exec.{by_call, by_effect, called_here, done_exec_by, next_effect}
-use Rattle.block_model.specs.Here.{Done, Here, runs}
-use Rattle.block_model.specs.History.{file_among}
+use Rattle.block_model.specs.Calls.Answers.{negative, returned}
 use Rattle.block_model.specs.Kernel.{for_barriers}
-use Rattle.block_model.specs.Sequences.{is_inside_here}
-use Rattle.block_model.specs.Stands.{Stand, here_at}
-use Rattle.block_model.proofs.Laws.{call_writes, called_begins_none}
-use Rattle.page_map.specs.Mapping.{IsGap}
-use Rattle.page_map.specs.Map.{permission_in}
+use Rattle.block_model.proofs.Laws.{called_begins_none}
 use Rattle.process.specs.Called.{IsCalled}
-use Rattle.process.specs.Harts.{file_on}
-use Rattle.process.specs.Planned.{IsPlanned}
-use Rattle.process.specs.Refinement.{IsPlace}
-use Rattle.process.specs.declared.parts.Parts.{Parts}
-use Rattle.process.proofs.PairLaws.{caller_at, done_call, done_inside, hart_is}
+use Rattle.process.proofs.PairLaws.{caller_at, done_call, done_inside}
 use Rattle.sys_calls.specs.Made.{IsAnswer, IsOwnCall, StandsSo, barrier_of, gives_up, process_end}
 use Rattle.sys_calls.specs.declared.calling.CallEnd.{CallEnd}
 use Rattle.sys_calls.proofs.CallLaws.{argument_is, begins_only_beside, int_argument_is, made_answers, made_refused}
-use Rattle.shared_procs.specs.PairPlaces.{IsOutsideCall, IsStep, call_next}
-use Rattle.shared_procs.specs.Pairs.{Pair, PairSetting, half, here_two, is_shared, neighbour, stand}
+use Rattle.shared_procs.specs.PairPlaces.{IsOutsideCall}
+use Rattle.shared_procs.proofs.Common.{Answer, answers, argument, asked, BarrierCommand, Begin, by_call, by_effect, call_next, call_number, call_of, call_writes, called, called_here, concerned, Done, done_exec_by, done_of, Effect, ENOSYS, file_among, file_on, filter, Hart, hart_is, HartState, Here, here_at, here_two, int_argument, is_call, is_inside_here, is_shared, IsGap, IsPlace, IsPlanned, IsStep, neighbour, next_effect, Pair, PairSetting, Parts, permission_in, refused, Registered, running_harts, runs, Saved, signed_32, Stand, stand, targets, Threads, Value}
 use Rattle.shared_procs.proofs.PairEvents.{hidden_writes}
 
 -- 32 bits that are read as a signed number, written and read again
@@ -60,6 +30,18 @@ answers_silent : (here : Here) (t : ℕ) (a : Answer) → (answers here t a).ent
 answers_silent here t (Value n) = refl
 answers_silent here t (Begin targets restart) = refl
 
+-- the registers of the thread on a hart
+file_at : (v : Stand) (m : Parts) (h : ℕ) (x : HartState) (saved : Saved) (t : ℕ) → IsPlace v m h → x ≡ get_or m.harts.items h x
+    → saved ≡ record { file = x.file; pc = x.pc } → runs (here_at v h) ≡ Some t → saved ≡ (here_at v h).file t
+file_at v m h x saved t place value saved_is at =
+    saved_is
+    ∙ ap (λ (y : HartState). let f : Saved = record { file = y.file; pc = y.pc } in f) (hart_is v m h x place value)
+    ∙ ap (file_on (here_at v h)) at
+
+pub number_read : (v : Stand) (m : Parts) (h : ℕ) (x : HartState) (saved : Saved) (n t : ℕ) → IsPlace v m h → x ≡ get_or m.harts.items h x
+    → saved ≡ record { file = x.file; pc = x.pc } → n ≡ register saved.file 17 → runs (here_at v h) ≡ Some t → n ≡ call_number (here_at v h) t
+number_read v m h x saved n t place value saved_is is at = is ∙ ap (λ (f : Saved). register f.file 17) (file_at v m h x saved t place value saved_is at)
+
 module _ (s : PairSetting) (m : Pair) (p : Bool) (h : Hart) (mine other : Parts) (step : IsStep s m p h.0 call_next mine other) where
   abbrev here : Here
   here = here_two s m p h.0
@@ -69,13 +51,6 @@ module _ (s : PairSetting) (m : Pair) (p : Bool) (h : Hart) (mine other : Parts)
 
   abbrev harts : ℕ
   harts = s.limits.harts
-
-  -- its registers
-  file_is : (x : HartState) (saved : Saved) → x ≡ get_or mine.harts.items h.0 x → saved ≡ record { file = x.file; pc = x.pc } → saved ≡ here.file t
-  file_is x saved value is =
-      is
-      ∙ ap (λ (y : HartState). let f : Saved = record { file = y.file; pc = y.pc } in f) (hart_is (stand s m p) mine h.0 x step.place value)
-      ∙ ap (file_on here) step.at
 
   -- outside sequences
   done_outside : is_inside_here here t ≡ false → done_of asked_for.Exec here ≡ by_call here (called here t)
@@ -111,7 +86,7 @@ module _ (s : PairSetting) (m : Pair) (p : Bool) (h : Hart) (mine other : Parts)
       (running_is : running ≡ running_harts here.kernel.threads harts) (beside_is : beside ≡ (neighbour s m p).running) (many_is : many ≡ harts)
     where
       file : saved ≡ here.file t
-      file = file_is x saved value saved_is
+      file = file_at (stand s m p) mine h.0 x saved t step.place value saved_is step.at
 
       cmd_same : to_z w32 (of_z w32 cmd) ≡ cmd_asked
       cmd_same = again cmd (argument here t 0) (cmd_is ∙ ap signed_32 (argument_is here t saved file 0))
@@ -182,7 +157,7 @@ module _ (s : PairSetting) (m : Pair) (p : Bool) (h : Hart) (mine other : Parts)
         done = done_outside call.0 ∙ ap (λ n. by_call here (call_of n here t)) call.1;
         made =
             made_refused here t h.0 mine.kernel mine.pages saved saved' ENOSYS end (refused here t ENOSYS) refl step.place.tied.tables step.place.tied.pages
-            (file_is x saved value saved_is) (caller_at (stand s m p) mine h t step.place step.at) refl after stays runs_on none ends answered;
+            (file_at (stand s m p) mine h.0 x saved t step.place value saved_is step.at) (caller_at (stand s m p) mine h t step.place step.at) refl after stays runs_on none ends answered;
         table = step.place.tied.table;
         written = refl;
         harts = refl;
@@ -212,15 +187,9 @@ module _ (s : PairSetting) (m : Pair) (p : Bool) (h : Hart) (mine other : Parts)
       either (inr out) = inr (inr (out.1, out.2))
 
   -- it begins no barrier
-  pub record IsUnseen (d : Done) : Type 0 where
-    pub untaken : d.took ≡ false
-    pub none_begun : d.barrier ≡ None
-
-  pub own_unseen : IsOwn → IsUnseen (done_of asked_for.Exec here)
-  own_unseen (inl inside) =
-      subst IsUnseen (sym (done_inside here t step.at (sym step.fault) (sym step.effect) inside)) (record { untaken = refl; none_begun = refl })
-  own_unseen (inr out) =
-      subst IsUnseen (sym (done_outside out.0)) (record { untaken = refl; none_begun = called_begins_none here t out.1 })
+  pub own_begins_none : IsOwn → (done_of asked_for.Exec here).barrier ≡ None
+  own_begins_none (inl inside) = ap (λ (d : Done). d.barrier) (done_inside here t step.at (sym step.fault) (sym step.effect) inside)
+  own_begins_none (inr out) = ap (λ (d : Done). d.barrier) (done_outside out.0) ∙ called_begins_none here t out.1
 
   -- and the kernel writes to pages alone
   pub own_hidden : ((n : ℕ) → IsGap n → permission_in mine.pages n ≡ None) → filter is_shared (done_of asked_for.Exec here).entered ≡ []
@@ -233,13 +202,3 @@ module _ (s : PairSetting) (m : Pair) (p : Bool) (h : Hart) (mine other : Parts)
           ap (done_exec_by here) step.at
           ∙ ap (λ (o : Option ℕ). by_effect here t o (next_effect here t)) (sym step.fault)
           ∙ ap (by_effect here t None) (sym step.effect)
-
--- the number that a thread's registers have
-pub number_read : (v : Stand) (m : Parts) (h : ℕ) (x : HartState) (saved : Saved) (n t : ℕ) → IsPlace v m h → x ≡ get_or m.harts.items h x
-    → saved ≡ record { file = x.file; pc = x.pc } → n ≡ register saved.file 17 → runs (here_at v h) ≡ Some t → n ≡ call_number (here_at v h) t
-number_read v m h x saved n t place value saved_is is at =
-    is
-    ∙ ap (λ (f : Saved). register f.file 17)
-    (saved_is
-    ∙ ap (λ (y : HartState). let f : Saved = record { file = y.file; pc = y.pc } in f) (hart_is v m h x place value)
-    ∙ ap (file_on (here_at v h)) at)

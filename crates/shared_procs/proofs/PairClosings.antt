@@ -1,45 +1,17 @@
 -- Both processes of a pair, and the segment, after an event: where it ended its process, with what waited on the process's harts.
-use Rattle.std.proofs.Common.{◌≡◌, ◌≢◌, ℕ, zero, suc, ◌+◌, ◌<◌, ◌≤◌, ◌++◌, ◌||◌, Bool, true, false, not, cond, eqb, ltb, inl, inr, List, [], ◌∷◌, drop, length, append-nil, get_or, set, Option, Some, None, is_some, slice_get, refl, sym, ap, ◌∙◌, subst, arith}
-use Rattle.std.proofs.Math.Path.{fun_ext}
-use Rattle.std.specs.List.{AllByRecursion, filter}
-use Rattle.std.specs.Option.{option_map_or, option_or}
-use Rattle.std.proofs.lemmas.Bool.{cases_eq, cases_lt, le-ltb, lt-ltb}
+use Rattle.std.proofs.Common.{◌≡◌, ◌≢◌, ℕ, zero, suc, ◌<◌, ◌≤◌, ◌++◌, ◌||◌, Bool, true, false, not, cond, eqb, ltb, inl, inr, List, [], drop, length, append-nil, get_or, set, Option, Some, None, is_some, slice_get, refl, sym, ap, ◌∙◌, subst, arith}
 use Rattle.std.proofs.lemmas.List.{length-set}
 use Rattle.std.proofs.lemmas.Option.{slice_get_past}
-use Rattle.mach_types.specs.Bytes.{all_stored, each_byte, written}
-use Rattle.mach_types.specs.Kernel.Threads.{is_stuck}
-use Rattle.mach_types.specs.declared.events.Choice.{Choice}
-use Rattle.mach_types.specs.declared.limits.End.{End}
 use Rattle.mach_types.specs.declared.limits.End.TheVariants as over
-use Rattle.mach_types.specs.declared.user_memory.Store.{Store}
-use Rattle.mach_types.specs.declared.user_memory.Write.{Write}
-use Rattle.hart_state.specs.declared.hart.HartState.{HartState}
-use Rattle.block_model.specs.Beside.{Neighbour, is_in_segment, or_in_segment}
-use Rattle.block_model.specs.Events.{done_of, refusal_of}
-use Rattle.block_model.specs.Here.{Done, writable_in}
-use Rattle.block_model.specs.History.{lost_after}
-use Rattle.block_model.specs.Plain.{Plain, apply, plain_over}
-use Rattle.block_model.specs.Setting.{Setting}
-use Rattle.block_model.specs.Stands.{Stand, aside}
-use Rattle.block_model.proofs.Laws.{IsStanding, ends_by_process, stand_next}
-use Rattle.page_map.specs.Map.{can_write_in, permission_in}
-use Rattle.process.specs.Harts.{credit_of, hart_at}
-use Rattle.process.specs.Refinement.{IsCounted, IsPlace, IsTied}
-use Rattle.process.specs.declared.parts.Parts.{Parts}
-use Rattle.process.proofs.Laws.{get_set_other, get_set_same, hart_tied, writable_held}
-use Rattle.process.proofs.PairLaws.{fit_at}
+use Rattle.block_model.specs.Here.{writable_in}
+use Rattle.process.proofs.Laws.{get_set_other, get_set_same}
 use Rattle.process.proofs.PairLaws as losses
-use Rattle.sys_calls.specs.Made.{HoldsPages}
-use Rattle.shared_procs.specs.Entering.{AreStorable, HaveEntered, HaveLost, HoldsShared, MayEmpty}
-use Rattle.shared_procs.specs.PairPlaces.{AreBoth, AreEmptied, AreMade, IsActing, emptied}
-use Rattle.shared_procs.specs.PairRuns.{has_ended}
-use Rattle.shared_procs.specs.Pairs.{Pair, PairSetting, apply_two, closing, done_as, ended_if, half, here_two, is_shared, neighbour, setting, stand, waiting_below}
-use Rattle.shared_procs.specs.Segments.{storable_in}
-use Rattle.shared_procs.specs.declared.half.Half.{Half}
+use Rattle.shared_procs.specs.PairPlaces.{emptied}
+use Rattle.shared_procs.proofs.Common.{all_stored, AllByRecursion, apply, apply_two, AreBoth, AreEmptied, AreStorable, aside, can_write_in, cases_eq, cases_lt, Choice, closing, credit_of, Done, done_as, done_of, each_byte, End, ended_if, ends_by_process, filter, fit_at, fun_ext, Half, half, hart_at, hart_tied, HartState, has_ended, HaveEntered, HaveLost, here_two, HoldsPages, HoldsShared, is_in_segment, is_shared, is_stuck, IsCounted, IsPlace, IsStanding, IsTied, IsUncounted, le-ltb, lost_after, lt-ltb, MayEmpty, Neighbour, neighbour, option_map_or, option_or, or_in_segment, Pair, PairSetting, Parts, permission_in, Plain, refusal_of, Setting, setting, stand, stand_next, Store, waiting_below, writable_held, Write, written}
 use Rattle.shared_procs.proofs.Entered.{readable_kept, shared_app, shared_both, storable_kept, stored_app, written_app}
+use Rattle.shared_procs.proofs.EventFacts.{does_so}
 use Rattle.shared_procs.proofs.PairEnds.{ended_tells}
-use Rattle.shared_procs.proofs.Sums.{ends_quietly}
-use Rattle.shared_procs.proofs.TiedAlike.{AreHartsSo, tied_as}
+use Rattle.shared_procs.proofs.TiedAlike.{tied_as}
 
 -- WHAT WAITS MAY ENTER MEMORY
 
@@ -68,12 +40,6 @@ may_empty s x o m stands tied k z at =
 
 -- A HART
 
-lt_suc_same : (n : ℕ) → ltb n (suc n) ≡ true
-lt_suc_same n = lt-ltb n (suc n) (omega arith)
-
-lt_same : (n : ℕ) → ltb n n ≡ false
-lt_same n = le-ltb n n (omega arith)
-
 lt_suc_other : (k n : ℕ) → k ≢ n → ltb k (suc n) ≡ ltb k n
 lt_suc_other k n ne =
     elim (cases_lt k n) [
@@ -87,27 +53,22 @@ listed : (s : Setting) (x : Plain) (k c : ℕ) (ys : List HartState) → slice_g
 listed s x k c ys at =
     at ∙ ap (λ n. Some (hart_at s x k n)) (sym (ap (λ o. option_map_or (λ (y : HartState). y.credit) o 0) at))
 
--- a process whose harts hold nothing
+-- a hart that holds nothing, where it is one of the first
+abbrev by_place : Setting → Plain → ℕ → ℕ → Bool → HartState
+by_place s x k c b = record (hart_at s x k c) { buffer = cond b [] (x.waiting k); reserved = cond b None (x.reserved k); waits = cond b None (x.awaits k) }
+
+abbrev so_far : ℕ → Plain → Plain
+so_far n x = record (emptied n x) { byte = λ a. written (all_stored (waiting_below x n)) a (x.byte a) }
+
+-- a process of which no hart does
 emptied_start : (s : PairSetting) (p : Bool) (x y : Plain) (shared : ℕ → ℕ) (mine other : Parts) (segment : List ℕ) → IsTied (setting s p) x mine
     → IsTied (setting s (not p)) y other → HoldsShared shared segment → AreEmptied s p 0 x y shared mine other segment
 emptied_start s p x y shared mine other segment tied others holds = record {
   own =
-      tied_as (setting s p) x mine (λ k. cond (ltb k 0) [] (x.waiting k)) (λ k. cond (ltb k 0) None (x.reserved k)) x.requests x.restart
-      (λ k. cond (ltb k 0) None (x.awaits k)) x.byte x.made tied
-      (record {
-        waits = λ k lt. ap (λ b. cond b [] (x.waiting k)) (sym (none_below k));
-        holds = λ k lt. ap (λ b. cond b None (x.reserved k)) (sym (none_below k));
-        asked = λ k lt. refl;
-        anew = λ k lt. refl;
-        calls = λ k lt. ap (λ b. cond b None (x.awaits k)) (sym (none_below k));
-      })
-      refl;
+      tied_as (setting s p) x (so_far 0 x) mine tied (λ k c lt. ap (by_place (setting s p) x k c) (sym (le-ltb k 0 (omega arith)))) refl refl refl refl;
   beside = others;
   holds = holds;
 }
-  where
-    none_below : (k : ℕ) → ltb k 0 ≡ false
-    none_below k = le-ltb k 0 (omega arith)
 
 -- one hart more
 module _ (s : PairSetting) (p : Bool) (n : ℕ) (x y : Plain) (shared : ℕ → ℕ) (mine mine' other other' : Parts) (segment segment' : List ℕ) (z : HartState)
@@ -116,62 +77,51 @@ module _ (s : PairSetting) (p : Bool) (n : ℕ) (x y : Plain) (shared : ℕ → 
     (harts : mine'.harts.items ≡ set mine.harts.items n (record z { buffer = []; reserved = None; waits = None }))
     (kernel : mine'.kernel ≡ mine.kernel) (ended : mine'.ended ≡ mine.ended)
   where
-    abbrev so_far : ℕ → Plain
-    so_far n = record (emptied n x) { byte = λ a. written (all_stored (waiting_below x n)) a (x.byte a) }
-
     abbrev credit : ℕ → ℕ
     credit k = credit_of mine.harts.items k
 
     own_lt : n < s.limits.harts
     own_lt = let all = was.own.all_harts in omega (arith, all, in_list)
 
-    own : z ≡ hart_at (setting s p) (so_far n) n (credit n)
-    own = hart_tied (setting s p) (so_far n) mine n z was.own own_lt value
+    own : z ≡ hart_at (setting s p) (so_far n x) n (credit n)
+    own = hart_tied (setting s p) (so_far n x) mine n z was.own own_lt value
 
     buffer : z.buffer ≡ x.waiting n
-    buffer = ap (λ (w : HartState). w.buffer) own ∙ ap (λ b. cond b [] (x.waiting n)) (lt_same n)
+    buffer = ap (λ (w : HartState). w.buffer) own ∙ ap (λ b. cond b [] (x.waiting n)) (le-ltb n n (omega arith))
 
-    -- a hart by whether it is one of the first
-    abbrev by_place : ℕ → Bool → HartState
-    by_place k b = record (hart_at (setting s p) (so_far n) k (credit k)) {
-      buffer = cond b [] (x.waiting k);
-      reserved = cond b None (x.reserved k);
-      waits = cond b None (x.awaits k);
-    }
-
-    own_next : slice_get mine'.harts.items n ≡ Some (hart_at (setting s p) (so_far (suc n)) n (credit n))
+    own_next : slice_get mine'.harts.items n ≡ Some (hart_at (setting s p) (so_far (suc n) x) n (credit n))
     own_next =
         ap (λ (xs : List HartState). slice_get xs n) harts
-        ∙ get_set_same mine.harts.items n (hart_at (setting s p) (so_far n) n (credit n)) (record z { buffer = []; reserved = None; waits = None })
+        ∙ get_set_same mine.harts.items n (hart_at (setting s p) (so_far n x) n (credit n)) (record z { buffer = []; reserved = None; waits = None })
         (was.own.harts n own_lt)
         ∙ ap (λ (w : HartState). Some (record w { buffer = []; reserved = None; waits = None })) own
-        ∙ ap (λ b. Some (by_place n b)) (sym (lt_suc_same n))
+        ∙ ap (λ b. Some (by_place (setting s p) x n (credit n) b)) (sym (lt-ltb n (suc n) (omega arith)))
 
-    other_next : (k : ℕ) → k < s.limits.harts → k ≢ n → slice_get mine'.harts.items k ≡ Some (hart_at (setting s p) (so_far (suc n)) k (credit k))
+    other_next : (k : ℕ) → k < s.limits.harts → k ≢ n → slice_get mine'.harts.items k ≡ Some (hart_at (setting s p) (so_far (suc n) x) k (credit k))
     other_next k lt ne =
         ap (λ (xs : List HartState). slice_get xs k) harts
         ∙ get_set_other mine.harts.items n k (record z { buffer = []; reserved = None; waits = None }) ne
         ∙ was.own.harts k lt
-        ∙ ap (λ b. Some (by_place k b)) (sym (lt_suc_other k n ne))
+        ∙ ap (λ b. Some (by_place (setting s p) x k (credit k) b)) (sym (lt_suc_other k n ne))
 
-    each_next : (k : ℕ) → k < s.limits.harts → slice_get mine'.harts.items k ≡ Some (hart_at (setting s p) (so_far (suc n)) k (credit k))
+    each_next : (k : ℕ) → k < s.limits.harts → slice_get mine'.harts.items k ≡ Some (hart_at (setting s p) (so_far (suc n) x) k (credit k))
     each_next k lt = elim (cases_eq k n) [
       | inl same ↦
-          subst (λ j. slice_get mine'.harts.items j ≡ Some (hart_at (setting s p) (so_far (suc n)) j (credit j))) (sym same) own_next
+          subst (λ j. slice_get mine'.harts.items j ≡ Some (hart_at (setting s p) (so_far (suc n) x) j (credit j))) (sym same) own_next
       | inr ne ↦ other_next k lt ne
     ]
 
-    tied_next : IsTied (setting s p) (so_far (suc n)) mine'
+    tied_next : IsTied (setting s p) (so_far (suc n) x) mine'
     tied_next = record {
       all_harts = ap length harts ∙ length-set mine.harts.items n (record z { buffer = []; reserved = None; waits = None }) ∙ was.own.all_harts;
-      harts = λ k lt. listed (setting s p) (so_far (suc n)) k (credit k) mine'.harts.items (each_next k lt);
+      harts = λ k lt. listed (setting s p) (so_far (suc n) x) k (credit k) mine'.harts.items (each_next k lt);
       pages =
           subst (λ (f : ℕ → ℕ). HoldsPages x.kernel.pages (setting s p).program.break_at f mine'.pages)
           (fun_ext (λ a.
           written_app (all_stored (waiting_below x n)) (all_stored z.buffer) a (x.byte a)
           ∙ ap (λ (ws : List Write). written ws a (x.byte a)) (sym (stored_app (waiting_below x n) z.buffer))
           ∙ ap (λ (ws : List Store). written (all_stored (waiting_below x n ++ ws)) a (x.byte a)) buffer))
-          (entered.pages x.kernel.pages (setting s p).program.break_at (so_far n).byte was.own.pages);
+          (entered.pages x.kernel.pages (setting s p).program.break_at (so_far n x).byte was.own.pages);
       readable = readable_kept mine.pages mine'.pages entered.permissions was.own.readable;
       tables = rw kernel was.own.tables;
       table = rw kernel was.own.table;
@@ -182,21 +132,21 @@ module _ (s : PairSetting) (p : Bool) (n : ℕ) (x y : Plain) (shared : ℕ → 
     abbrev seen : List Store → List Write
     seen ws = filter is_shared (all_stored ws)
 
+    seen_more : seen (waiting_below x n) ++ seen z.buffer ≡ seen (waiting_below x (suc n))
+    seen_more = sym (shared_app (waiting_below x n) z.buffer) ∙ ap (λ (ws : List Store). seen (waiting_below x n ++ ws)) buffer
+
     pub emptied_next : AreEmptied s p (suc n) x y shared mine' other' segment'
     emptied_next = record {
       own = tied_next;
       beside =
           subst (λ (r : ℕ → Option ℕ). IsTied (setting s (not p)) (record y { reserved = r }) other')
           (fun_ext (λ k.
-          losses.lost_app (seen (waiting_below x n)) (seen z.buffer) (y.reserved k)
-          ∙ ap (λ (ws : List Write). lost_after ws (y.reserved k)) (sym (shared_app (waiting_below x n) z.buffer))
-          ∙ ap (λ (ws : List Store). lost_after (seen (waiting_below x n ++ ws)) (y.reserved k)) buffer))
+          losses.lost_app (seen (waiting_below x n)) (seen z.buffer) (y.reserved k) ∙ ap (λ (ws : List Write). lost_after ws (y.reserved k)) seen_more))
           (lost (setting s (not p)) (record y { reserved = λ k. lost_after (seen (waiting_below x n)) (y.reserved k) }) was.beside);
       holds = λ a is.
           entered.shared (λ b. written (seen (waiting_below x n)) b (shared b)) was.holds a is
           ∙ written_app (seen (waiting_below x n)) (seen z.buffer) a (shared a)
-          ∙ ap (λ (ws : List Write). written ws a (shared a)) (sym (shared_app (waiting_below x n) z.buffer))
-          ∙ ap (λ (ws : List Store). written (seen (waiting_below x n ++ ws)) a (shared a)) buffer;
+          ∙ ap (λ (ws : List Write). written ws a (shared a)) seen_more;
     }
 
 -- and what waits on the harts behind it may enter memory as before
@@ -240,23 +190,21 @@ open_so_far : (o rest : Option End) → option_or o rest ≡ None → o ≡ None
 open_so_far None rest goes = refl
 open_so_far (Some e) rest goes = cc
 
--- halves of the pair after an event
-own_half : (h : ℕ) (p : Bool) (d : Done) (m : Pair) → half p (apply_two h p d m) ≡ ended_if d.ended (apply h d (half p m))
-own_half h true d m = refl
-own_half h false d m = refl
-
-other_half : (h : ℕ) (p : Bool) (d : Done) (m : Pair) → half (not p) (apply_two h p d m) ≡ aside h d (filter is_shared d.entered) (half (not p) m)
-other_half h true d m = refl
-other_half h false d m = refl
-
 below_same : (x y : Plain) → ((k : ℕ) → x.waiting k ≡ y.waiting k) → (n : ℕ) → waiting_below x n ≡ waiting_below y n
 below_same x y same zero = refl
 below_same x y same (suc n) = λ i. below_same x y same n i ++ same n i
 
-module _ (s : PairSetting) (m : Pair) (p : Bool) (h : ℕ) (c : Choice) (mine other mine1 other1 mine3 other3 : Half) (mine2 : Parts) (segment segment1 segment3 : List ℕ)
-    (place : IsPlace (stand s m p) mine.parts h) (free : refusal_of c (here_two s m p h) ≡ None)
-    (made : AreMade s m p h (done_of c (here_two s m p h)) mine other mine1 other1 segment1)
-    (counted : IsCounted h mine1.parts mine2)
+-- both after an event
+both_after : (s : PairSetting) (m : Pair) (p : Bool) (h : ℕ) (d : Done) (mine other : Half) (segment : List ℕ)
+    → IsTied (setting s p) (ended_if d.ended (apply h d (half p m))) mine.parts
+    → IsTied (setting s (not p)) (aside h d (filter is_shared d.entered) (half (not p) m)) other.parts
+    → HoldsShared (λ a. written (filter is_shared d.entered) a (m.shared a)) segment → AreBoth s (apply_two h p d m) p mine other segment
+both_after s m true h d mine other segment own beside holds = record { own = own; beside = beside; holds = holds }
+both_after s m false h d mine other segment own beside holds = record { own = own; beside = beside; holds = holds }
+
+module _ (s : PairSetting) (m : Pair) (p : Bool) (h : ℕ) (c : Choice) (mine mine1 mine2 : Parts) (place : IsPlace (stand s m p) mine h)
+    (free : refusal_of c (here_two s m p h) ≡ None) (own : IsUncounted (stand s m p) h (done_of c (here_two s m p h)) mine mine1)
+    (counted : IsCounted h mine1 mine2)
   where
     abbrev d : Done
     d = done_of c (here_two s m p h)
@@ -267,20 +215,14 @@ module _ (s : PairSetting) (m : Pair) (p : Bool) (h : ℕ) (c : Choice) (mine ot
     abbrev x : Plain
     x = apply h d q
 
-    abbrev y : Plain
-    y = aside h d (filter is_shared d.entered) (half (not p) m)
-
-    abbrev shared : ℕ → ℕ
-    shared a = written (filter is_shared d.entered) a (m.shared a)
-
-    pub tied_then : IsTied (setting s p) x mine2
-    tied_then = (made.seen.own.after mine2 counted).tied
+    tied_then : IsTied (setting s p) x mine2
+    tied_then = (own.after mine2 counted).tied
 
     -- what waits then may enter memory
     pub may_then : MayEmpty mine2
     may_then =
         may_empty (setting s p) x (neighbour s m p) mine2
-        (stand_next (stand s m p) h d (Some (neighbour s m p)) (λ can. refl) place.lt place.stands (fit_at (stand s m p) mine.parts h c place free)) tied_then
+        (stand_next (stand s m p) h d (Some (neighbour s m p)) (λ can. refl) place.lt place.stands (fit_at (stand s m p) mine h c place free)) tied_then
 
     pub few_then : length mine2.harts.items ≤ 8
     few_then = let all = tied_then.all_harts in let few = place.limits.eight_harts in omega (arith, all, few)
@@ -291,98 +233,78 @@ module _ (s : PairSetting) (m : Pair) (p : Bool) (h : ℕ) (c : Choice) (mine ot
         ∙ tells d.ended q.ended (is_stuck d.kernel.threads) (open_so_far q.ended (cond (is_stuck q.kernel.threads) (Some over.Stuck) None) place.goes)
         (ends_by_process (here_two s m p h) c).1
 
-    abbrev deed : Option End → Done
-    deed o = record d { entered = d.entered ++ all_stored (closing s.limits.harts q o) }
-
-    -- it goes on
-    none_ended : (o : Option End) → is_some o ≡ false → o ≡ None
-    none_ended None is = refl
-    none_ended (Some e) is = cc
-
-    after_none : has_ended mine2.ended ≡ false → mine3.parts ≡ mine2 → other3.parts ≡ other1.parts → segment3 ≡ segment1
-        → AreBoth s (apply_two h p (done_as s m p h c) m) p mine3 other3 segment3
-    after_none lives mine_is other_is segment_is =
-        let none : d.ended ≡ None = none_ended d.ended (sym ended_is ∙ lives) in
-        let same : done_as s m p h c ≡ d = ap deed none ∙ ap (λ (ws : List Write). record d { entered = ws }) (append-nil d.entered) in
-        subst (λ (e : Done). AreBoth s (apply_two h p e m) p mine3 other3 segment3) (sym same) (record {
-          own =
-              subst (λ (z : Plain). IsTied (setting s p) z mine3.parts)
-              (sym (own_half h p d m ∙ ap (λ o. ended_if o x) none))
-              (subst (IsTied (setting s p) x) (sym mine_is) tied_then);
-          beside =
-              subst (λ (z : Plain). IsTied (setting s (not p)) z other3.parts) (sym (other_half h p d m))
-              (subst (IsTied (setting s (not p)) y) (sym other_is) made.seen.beside);
-          holds = subst (HoldsShared shared) (sym segment_is) made.holds;
-        })
-
-    -- or it ended
-    emptied_then : AreEmptied s p 0 x y shared mine2 other1.parts segment1
-    emptied_then = emptied_start s p x y shared mine2 other1.parts segment1 tied_then made.seen.beside made.holds
-
-    some_ended : (o : Option End) → is_some o ≡ true → (e : End) × (o ≡ Some e)
-    some_ended None is = cc
-    some_ended (Some e) is = (e, refl)
-
-    waits_same : d.executed ≡ [] → d.drained ≡ 0 → (k : ℕ) → x.waiting k ≡ q.waiting k
-    waits_same none few k = by (eqb h k)
+    module _ (other1 : Parts) (mine3 other3 : Half) (segment1 segment3 : List ℕ)
+        (beside : IsTied (setting s (not p)) (aside h d (filter is_shared d.entered) (half (not p) m)) other1)
+        (holds : HoldsShared (λ a. written (filter is_shared d.entered) a (m.shared a)) segment1)
       where
-        by : (b : Bool) → cond b (drop d.drained (q.waiting k ++ d.executed)) (q.waiting k) ≡ q.waiting k
-        by true =
-            ap (λ n. drop n (q.waiting k ++ d.executed)) few
-            ∙ ap (λ (ws : List Store). q.waiting k ++ ws) none
-            ∙ append-nil (q.waiting k)
-        by false = refl
+        abbrev y : Plain
+        y = aside h d (filter is_shared d.entered) (half (not p) m)
 
-    after_end : has_ended mine2.ended ≡ true → AreEmptied s p (length mine2.harts.items) x y shared mine3.parts other3.parts segment3
-        → AreBoth s (apply_two h p (done_as s m p h c) m) p mine3 other3 segment3
-    after_end over_is emptied_all =
-        let some = some_ended d.ended (sym ended_is ∙ over_is) in
-        let e = some.0 in
-        let is : d.ended ≡ Some e = some.1 in
-        let quietly = ends_quietly (here_two s m p h) c e is in
-        let left = below_same x q (waits_same quietly.0 quietly.1) in
-        let harts = s.limits.harts in
-        let now : AreEmptied s p harts x y shared mine3.parts other3.parts segment3 =
-        subst (λ n. AreEmptied s p n x y shared mine3.parts other3.parts segment3) tied_then.all_harts emptied_all in
-        let same : done_as s m p h c ≡ deed (Some e) = ap deed is in
-        subst (λ (f : Done). AreBoth s (apply_two h p f m) p mine3 other3 segment3) (sym same) (record {
-          own =
-              subst (λ (z : Plain). IsTied (setting s p) z mine3.parts)
-              (sym (own_half h p (deed (Some e)) m ∙ ap (λ o. ended_if o (apply h (deed (Some e)) q)) is))
-              (tied_as (setting s p) (record (emptied harts x) { byte = λ a. written (all_stored (waiting_below x harts)) a (x.byte a) }) mine3.parts
-              (λ k. []) (λ k. None) x.requests x.restart (λ k. None) (λ a. written (deed (Some e)).entered a (q.byte a)) x.made now.own
-              (record {
-                waits = λ k lt. ap (λ b. cond b [] (x.waiting k)) (lt-ltb k harts lt);
-                holds = λ k lt. ap (λ b. cond b None (x.reserved k)) (lt-ltb k harts lt);
-                asked = λ k lt. refl;
-                anew = λ k lt. refl;
-                calls = λ k lt. ap (λ b. cond b None (x.awaits k)) (lt-ltb k harts lt);
-              })
-              (fun_ext (λ a.
-              written_app d.entered (all_stored (waiting_below x harts)) a (q.byte a)
-              ∙ ap (λ (ws : List Store). written (d.entered ++ all_stored ws) a (q.byte a)) (left harts))));
-          beside =
-              subst (λ (z : Plain). IsTied (setting s (not p)) z other3.parts) (sym (other_half h p (deed (Some e)) m))
-              (subst (λ (r : ℕ → Option ℕ). IsTied (setting s (not p)) (record y { reserved = r }) other3.parts)
-              (fun_ext (λ k.
-              losses.lost_app (filter is_shared d.entered) (filter is_shared (all_stored (waiting_below x harts))) ((half (not p) m).reserved k)
-              ∙ ap (λ (ws : List Write). lost_after ws ((half (not p) m).reserved k))
-              (sym (shared_both d.entered (all_stored (waiting_below x harts))))
-              ∙ ap (λ (ws : List Store). lost_after (filter is_shared (d.entered ++ all_stored ws)) ((half (not p) m).reserved k)) (left harts)))
-              now.beside);
-          holds = λ a inside.
-              now.holds a inside
-              ∙ written_app (filter is_shared d.entered) (filter is_shared (all_stored (waiting_below x harts))) a (m.shared a)
-              ∙ ap (λ (ws : List Write). written ws a (m.shared a)) (sym (shared_both d.entered (all_stored (waiting_below x harts))))
-              ∙ ap (λ (ws : List Store). written (filter is_shared (d.entered ++ all_stored ws)) a (m.shared a)) (left harts);
-        })
+        abbrev shared : ℕ → ℕ
+        shared a = written (filter is_shared d.entered) a (m.shared a)
 
-    pub after_any : (has_ended mine2.ended ≡ false → (mine3.parts ≡ mine2) × (other3.parts ≡ other1.parts) × (segment3 ≡ segment1))
-        → (has_ended mine2.ended ≡ true → AreEmptied s p 0 x y shared mine2 other1.parts segment1
-        → AreEmptied s p (length mine2.harts.items) x y shared mine3.parts other3.parts segment3)
-        → AreBoth s (apply_two h p (done_as s m p h c) m) p mine3 other3 segment3
-    after_any lives ends = by (has_ended mine2.ended) refl
-      where
-        by : (b : Bool) → has_ended mine2.ended ≡ b → AreBoth s (apply_two h p (done_as s m p h c) m) p mine3 other3 segment3
-        by true is = after_end is (ends is emptied_then)
-        by false is = let all = lives is in after_none is all.0 all.1 all.2
+        abbrev deed : Option End → Done
+        deed o = record d { entered = d.entered ++ all_stored (closing s.limits.harts q o) }
+
+        -- it goes on
+        after_none : d.ended ≡ None → mine3.parts ≡ mine2 → other3.parts ≡ other1 → segment3 ≡ segment1
+            → AreBoth s (apply_two h p (done_as s m p h c) m) p mine3 other3 segment3
+        after_none none mine_is other_is segment_is =
+            let same : done_as s m p h c ≡ d = ap deed none ∙ ap (λ (ws : List Write). record d { entered = ws }) (append-nil d.entered) in
+            subst (λ (e : Done). AreBoth s (apply_two h p e m) p mine3 other3 segment3) (sym same)
+            (both_after s m p h d mine3 other3 segment3
+            (subst (λ (o : Option End). IsTied (setting s p) (ended_if o x) mine3.parts) (sym none) (subst (IsTied (setting s p) x) (sym mine_is) tied_then))
+            (subst (IsTied (setting s (not p)) y) (sym other_is) beside) (subst (HoldsShared shared) (sym segment_is) holds))
+
+        -- or it ended, and what waited on its harts is as before the event
+        waits_same : d.executed ≡ [] → d.drained ≡ 0 → (k : ℕ) → x.waiting k ≡ q.waiting k
+        waits_same none few k = by (eqb h k)
+          where
+            by : (b : Bool) → cond b (drop d.drained (q.waiting k ++ d.executed)) (q.waiting k) ≡ q.waiting k
+            by true =
+                ap (λ n. drop n (q.waiting k ++ d.executed)) few
+                ∙ ap (λ (ws : List Store). q.waiting k ++ ws) none
+                ∙ append-nil (q.waiting k)
+            by false = refl
+
+        after_end : (e : End) → d.ended ≡ Some e → AreEmptied s p (length mine2.harts.items) x y shared mine3.parts other3.parts segment3
+            → AreBoth s (apply_two h p (done_as s m p h c) m) p mine3 other3 segment3
+        after_end e is emptied_all =
+            let quietly = (does_so (here_two s m p h) c).quietly e is in
+            let harts = s.limits.harts in
+            let left = below_same x q (waits_same quietly.0 quietly.1) harts in
+            let now : AreEmptied s p harts x y shared mine3.parts other3.parts segment3 =
+            subst (λ n. AreEmptied s p n x y shared mine3.parts other3.parts segment3) tied_then.all_harts emptied_all in
+            let both = deed (Some e) in
+            let after : Plain = ended_if (Some e) (apply h both q) in
+            let seen : filter is_shared d.entered ++ filter is_shared (all_stored (waiting_below x harts)) ≡ filter is_shared both.entered =
+            sym (shared_both d.entered (all_stored (waiting_below x harts))) ∙ ap (λ (ws : List Store). filter is_shared (d.entered ++ all_stored ws)) left in
+            subst (λ (f : Done). AreBoth s (apply_two h p f m) p mine3 other3 segment3) (sym (ap deed is))
+            (both_after s m p h both mine3 other3 segment3
+            (subst (λ (o : Option End). IsTied (setting s p) (ended_if o (apply h both q)) mine3.parts) (sym is)
+            (tied_as (setting s p) (so_far harts x) after mine3.parts now.own (λ k c lt. ap (by_place (setting s p) x k c) (lt-ltb k harts lt)) refl refl refl
+            (fun_ext (λ a.
+            written_app d.entered (all_stored (waiting_below x harts)) a (q.byte a)
+            ∙ ap (λ (ws : List Store). written (d.entered ++ all_stored ws) a (q.byte a)) left))))
+            (subst (λ (r : ℕ → Option ℕ). IsTied (setting s (not p)) (record y { reserved = r }) other3.parts)
+            (fun_ext (λ k.
+            losses.lost_app (filter is_shared d.entered) (filter is_shared (all_stored (waiting_below x harts))) ((half (not p) m).reserved k)
+            ∙ ap (λ (ws : List Write). lost_after ws ((half (not p) m).reserved k)) seen))
+            now.beside)
+            (λ a inside.
+            now.holds a inside
+            ∙ written_app (filter is_shared d.entered) (filter is_shared (all_stored (waiting_below x harts))) a (m.shared a)
+            ∙ ap (λ (ws : List Write). written ws a (m.shared a)) seen))
+
+        pub after_any : (has_ended mine2.ended ≡ false → (mine3.parts ≡ mine2) × (other3.parts ≡ other1) × (segment3 ≡ segment1))
+            → (has_ended mine2.ended ≡ true → AreEmptied s p 0 x y shared mine2 other1 segment1
+            → AreEmptied s p (length mine2.harts.items) x y shared mine3.parts other3.parts segment3)
+            → AreBoth s (apply_two h p (done_as s m p h c) m) p mine3 other3 segment3
+        after_any lives ends = by d.ended refl
+          where
+            by : (o : Option End) → d.ended ≡ o → AreBoth s (apply_two h p (done_as s m p h c) m) p mine3 other3 segment3
+            by None is = let all = lives (ended_is ∙ ap (λ (o : Option End). is_some o) is) in after_none is all.0 all.1 all.2
+            by (Some e) is =
+                after_end e is
+                (ends (ended_is ∙ ap (λ (o : Option End). is_some o) is)
+                (emptied_start s p x y shared mine2 other1 segment1 tied_then beside holds))

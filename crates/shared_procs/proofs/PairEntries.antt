@@ -1,26 +1,13 @@
 -- The entry of an event of a process of a pair, and the number by which it names a thread.
-use Rattle.std.proofs.Common.{◌≡◌, ℕ, ◌+◌, ◌<◌, ◌≤◌, ◌^◌, Bool, true, false, cond, eqb, List, [], ◌∷◌, All, Option, Some, None, find, is_some, option_map, refl, sym, ap, ◌∙◌, subst, arith}
-use Rattle.std.specs.Option.{option_map_or}
-use Rattle.std.proofs.lemmas.Bool.{eqb-true}
+use Rattle.std.proofs.Common.{◌≡◌, ℕ, ◌+◌, ◌<◌, ◌≤◌, ◌^◌, Bool, true, false, cond, List, [], ◌∷◌, All, Option, Some, None, find, is_some, option_map, refl, sym, ap, ◌∙◌, subst, arith}
 use Rattle.std.proofs.lemmas.List.Elements.{All-head, All-tail}
-use Rattle.mach_types.specs.Events.{kind_of}
-use Rattle.mach_types.specs.Kernel.Scheduling.{affinity_of, has_hart}
-use Rattle.mach_types.specs.Kernel.Threads.{Thread, Threads, is_ready, is_ready_state, is_on, is_thread, numbers, running_on, state_of}
-use Rattle.mach_types.specs.declared.events.Choice.{Choice}
+use Rattle.mach_types.specs.Kernel.Scheduling.{affinity_of}
+use Rattle.mach_types.specs.Kernel.Threads.{is_ready, is_ready_state, is_thread, numbers}
 use Rattle.mach_types.specs.declared.events.Choice.TheVariants as asked
-use Rattle.mach_types.specs.declared.events.Entry.{Entry}
-use Rattle.mach_types.specs.declared.events.Why.{Why}
-use Rattle.mach_types.specs.declared.events.Why.TheVariants.{NotAllowed, NotReady}
-use Rattle.mach_types.specs.declared.threads.ThreadState.{ThreadState}
-use Rattle.block_model.specs.Deciding.{number_of, pc_in, thread_in}
-use Rattle.block_model.specs.Events.{refusal_of}
+use Rattle.mach_types.specs.declared.events.Why.TheVariants.{NotAllowed}
+use Rattle.block_model.specs.Deciding.{pc_in}
 use Rattle.block_model.specs.Events.Run.{refusal_run_by}
-use Rattle.block_model.specs.Here.{Here, runs}
-use Rattle.block_model.specs.Stands.{Stand, here_at}
-use Rattle.process.specs.Refinement.{IsPlace}
-use Rattle.process.specs.declared.parts.Parts.{Parts}
-use Rattle.shared_procs.specs.PairRuns.{entry_as}
-use Rattle.shared_procs.specs.Pairs.{Pair, PairSetting, SECOND_THREADS, here_two, number_in_log}
+use Rattle.shared_procs.proofs.Common.{Choice, Entry, entry_as, eqb-true, has_hart, Here, here_at, here_two, is_on, IsPlace, kind_of, NotReady, number_in_log, number_of, option_map_or, Pair, PairSetting, Parts, refusal_of, runs, SECOND_THREADS, Stand, Thread, thread_in, Threads, Why}
 
 -- BY WHICH NUMBER
 
@@ -56,32 +43,19 @@ module _ (s : PairSetting) (m : Pair) (p : Bool) (h : ℕ) (c : Choice) where
 
 -- THE NUMBER WAS GIVEN
 
-either_found : (b : Bool) (th : Thread) (rest : Option Thread) (given : ℕ) → th.tid ≤ given → number_of (option_map (λ (x : Thread). x.tid) rest) ≤ given
-    → number_of (option_map (λ (x : Thread). x.tid) (cond b (Some th) rest)) ≤ given
-either_found true th rest given low later = low
-either_found false th rest given low later = later
+found_by : (given : ℕ) (test : Thread → Bool) (x th : Thread) (rest : Option Thread) (b : Bool) → test x ≡ b → x.tid ≤ given
+    → (rest ≡ Some th → (th.tid ≤ given) × (test th ≡ true)) → cond b (Some x) rest ≡ Some th → (th.tid ≤ given) × (test th ≡ true)
+found_by given test x th rest true at low later is =
+    let same : x ≡ th = cc in
+    (subst (λ (u : Thread). u.tid ≤ given) same low, ap test (sym same) ∙ at)
+found_by given test x th rest false at low later is = later is
 
-number_found : (test : Thread → Bool) (live : List Thread) (given : ℕ) → All (λ t. (0 < t) × (t ≤ given)) (numbers live)
-    → number_of (option_map (λ (x : Thread). x.tid) (find test live)) ≤ given
-number_found test [] given all = omega arith
-number_found test (th ∷ ths) given all =
-    either_found (test th) th (find test ths) given (All-head (λ t. (0 < t) × (t ≤ given)) th.tid (numbers ths) all).1
-    (number_found test ths given (All-tail (λ t. (0 < t) × (t ≤ given)) th.tid (numbers ths) all))
-
-its_number : (t given : ℕ) (th : Thread) (rest : Option Thread) (b : Bool) → eqb th.tid t ≡ b → th.tid ≤ given → (is_some rest ≡ true → t ≤ given)
-    → is_some (cond b (Some th) rest) ≡ true → t ≤ given
-its_number t given th rest true is low later live = let same : th.tid ≡ t = eqb-true th.tid t is in subst (λ n. n ≤ given) same low
-its_number t given th rest false is low later live = later live
-
-live_number : (t given : ℕ) (live : List Thread) → All (λ t. (0 < t) × (t ≤ given)) (numbers live) → is_some (find (is_thread t) live) ≡ true → t ≤ given
-live_number t given [] all is = absurd cc
-live_number t given (th ∷ ths) all is =
-    its_number t given th (find (is_thread t) ths) (eqb th.tid t) refl (All-head (λ t. (0 < t) × (t ≤ given)) th.tid (numbers ths) all).1
-    (live_number t given ths (All-tail (λ t. (0 < t) × (t ≤ given)) th.tid (numbers ths) all)) is
-
-is_live : (o : Option Thread) → option_map_or is_ready_state (option_map (λ (th : Thread). th.state) o) false ≡ true → is_some o ≡ true
-is_live None is = cc
-is_live (Some th) is = refl
+found : (test : Thread → Bool) (live : List Thread) (given : ℕ) (th : Thread) → All (λ t. (0 < t) × (t ≤ given)) (numbers live) → find test live ≡ Some th
+    → (th.tid ≤ given) × (test th ≡ true)
+found test [] given th all is = absurd cc
+found test (x ∷ live) given th all is =
+    found_by given test x th (find test live) (test x) refl (All-head (λ t. (0 < t) × (t ≤ given)) x.tid (numbers live) all).1
+    (found test live given th (All-tail (λ t. (0 < t) × (t ≤ given)) x.tid (numbers live) all)) is
 
 ready_there : (here : Here) (t : ℕ) (o : Option ℕ) → refusal_run_by here t o ≡ None → is_ready t here.kernel.threads ≡ true
 ready_there here t (Some u) free = cc
@@ -96,18 +70,25 @@ module _ (v : Stand) (m : Parts) (h : ℕ) (place : IsPlace v m h) where
   threads = v.plain.kernel.threads
 
   on_hart_given : number_of (runs (here_at v h)) ≤ threads.given
-  on_hart_given = number_found (is_on h) threads.live threads.given place.stands.sound.tables.threads.given
+  on_hart_given = by (find (is_on h) threads.live) refl
+    where
+      by : (o : Option Thread) → find (is_on h) threads.live ≡ o → number_of (option_map (λ (th : Thread). th.tid) o) ≤ threads.given
+      by None is = omega arith
+      by (Some th) is = (found (is_on h) threads.live threads.given th place.stands.sound.tables.threads.given is).0
+
+  ready_given : (t : ℕ) → is_ready t threads ≡ true → t ≤ threads.given
+  ready_given t ready = by (find (is_thread t) threads.live) refl ready
+    where
+      by : (o : Option Thread) → find (is_thread t) threads.live ≡ o → option_map_or is_ready_state (option_map (λ (th : Thread). th.state) o) false ≡ true
+          → t ≤ threads.given
+      by None is ready = cc
+      by (Some th) is ready =
+          let its = found (is_thread t) threads.live threads.given th place.stands.sound.tables.threads.given is in
+          subst (λ n. n ≤ threads.given) (eqb-true th.tid t its.1) its.0
 
   pub named_given : (c : Choice) → refusal_of c (here_at v h) ≡ None → number_of (thread_in c (here_at v h)) ≤ threads.given
-  named_given asked.Exec free = on_hart_given
-  named_given asked.Drain free = on_hart_given
-  named_given asked.Take free = on_hart_given
-  named_given asked.Done free = on_hart_given
-  named_given asked.Preempt free = on_hart_given
-  named_given (asked.Run t) free =
-      live_number t.0 threads.given threads.live place.stands.sound.tables.threads.given
-      (is_live (find (is_thread t.0) threads.live) (ready_there (here_at v h) t.0 (runs (here_at v h)) free))
-  named_given asked.Signal free = on_hart_given
+  named_given (asked.Run t) free = ready_given t.0 (ready_there (here_at v h) t.0 (runs (here_at v h)) free)
+  named_given c free = on_hart_given
 
   -- so it fits with that of the second process added
   pub named_small : (c : Choice) → refusal_of c (here_at v h) ≡ None → number_of (thread_in c (here_at v h)) + SECOND_THREADS < 2 ^ 32

@@ -1,28 +1,9 @@
 -- What an event of one process of a pair leaves of both, and of the segment.
-use Rattle.std.proofs.Common.{◌≡◌, ◌≢◌, ℕ, ◌/◌, ◌<◌, Bool, true, false, not, cond, List, [], ◌∷◌, Option, Some, None, refl, sym, ap, ◌∙◌, subst, arith}
-use Rattle.std.specs.List.{filter}
-use Rattle.std.proofs.lemmas.Bool.{false≢true}
-use Rattle.mach_types.specs.Bytes.{written}
-use Rattle.mach_types.specs.declared.events.Choice.{Choice}
-use Rattle.mach_types.specs.declared.user_memory.Write.{Write}
-use Rattle.hart_state.specs.declared.hart.HartState.{HartState}
-use Rattle.block_model.specs.Beside.{is_in_segment}
-use Rattle.block_model.specs.Events.{done_of, refusal_of}
-use Rattle.block_model.specs.Here.{Done, is_writable}
-use Rattle.block_model.specs.Stands.{aside}
-use Rattle.block_model.proofs.Laws.{AllWritable, IsFit, none_passes}
-use Rattle.page_map.specs.Map.{Map, can_write_in, may_write, permission_in}
-use Rattle.page_map.specs.Mapping.{IsGap}
-use Rattle.process.specs.Harts.{counted}
-use Rattle.process.specs.Refinement.{IsPlace, IsTied, IsUncounted}
-use Rattle.process.specs.declared.parts.Parts.{Parts}
-use Rattle.process.proofs.Laws.{writable_held}
-use Rattle.process.proofs.PairLaws.{IsMade, fit_at, uncounted}
-use Rattle.shared_procs.specs.Entering.{HoldsShared}
-use Rattle.shared_procs.specs.PairPlaces.{AreMade, AreUnshared}
-use Rattle.shared_procs.specs.Pairs.{Pair, PairSetting, half, here_two, is_shared, setting, stand}
-use Rattle.shared_procs.specs.declared.half.Half.{Half}
-use Rattle.shared_procs.proofs.Segments.{inside_from, inside_to}
+use Rattle.std.proofs.Common.{◌≡◌, ℕ, ◌/◌, Bool, true, false, not, List, [], None, refl, sym, ap, ◌∙◌, subst}
+use Rattle.process.proofs.PairLaws.{IsMade, uncounted}
+use Rattle.shared_procs.specs.PairPlaces.{AreUnshared}
+use Rattle.shared_procs.proofs.Common.{AllWritable, AreMade, aside, can_write_in, Choice, counted, Done, done_of, false≢true, filter, fit_at, Half, half, HartState, here_two, HoldsShared, is_in_segment, is_shared, is_writable, IsFit, IsGap, IsPlace, IsTied, IsUncounted, may_write, none_passes, Pair, PairSetting, Parts, permission_in, refusal_of, setting, stand, writable_held, Write, written}
+use Rattle.shared_procs.proofs.Segments.{inside_gap}
 
 module _ (s : PairSetting) (m : Pair) (p : Bool) (h : ℕ) where
   -- an event that is known to have done this
@@ -74,14 +55,11 @@ module _ (s : PairSetting) (m : Pair) (p : Bool) (h : ℕ) where
         by : (b : Bool) → is_in_segment a ≡ b → b ≡ false
         by false is = refl
         by true is =
-            let from = inside_from a is in
-            let to = inside_to a is in
-            let none : permission_in mine.pages (a / 4096) ≡ None = gap (a / 4096) (omega arith, omega arith) in
             let can : can_write_in mine.pages a ≡ true =
             ap (λ (test : ℕ → Bool). test a)
             (writable_held (half p m).kernel (setting s p).program.break_at (half p m).byte mine.pages place.tied.pages place.tied.readable)
             ∙ may in
-            absurd (false≢true (sym (ap may_write none) ∙ can))
+            absurd (false≢true (sym (ap may_write (gap (a / 4096) (inside_gap a is))) ∙ can))
 
     -- so what the kernel writes there isn't shared
     pub hidden_writes : (ws : List Write) → AllWritable (is_writable (here_two s m p h)) ws → filter is_shared ws ≡ []

@@ -1,20 +1,8 @@
 -- Memory as the instructions of a process of a pair reach it, where the process is kept as at a place; and the pages of the segment.
-use Rattle.std.proofs.Common.{◌≡◌, ℕ, ◌+◌, ◌/◌, ◌<◌, ◌≤◌, ◌&&◌, ◌||◌, Bool, true, false, cond, inl, inr, List, Option, Some, arith, refl, sym, ap, ◌∙◌, subst}
-use Rattle.std.proofs.Math.Path.{fun_ext}
-use Rattle.std.specs.List.{AllByRecursion}
-use Rattle.std.proofs.lemmas.Bool.{cases_lt, lt-ltb, le-ltb, lt-leb, le-leb}
-use Rattle.mach_types.specs.Bytes.{each_byte}
-use Rattle.mach_types.specs.declared.user_memory.Store.{Store}
-use Rattle.block_model.specs.Beside.{Neighbour, SEGMENT_AT, SEGMENT_SIZE, is_in_segment}
-use Rattle.block_model.specs.Here.{is_storable, memory, reached}
-use Rattle.page_map.specs.Map.{byte_in}
+use Rattle.std.proofs.Common.{◌≡◌, ℕ, ◌+◌, ◌/◌, ◌||◌, Bool, true, false, cond, inl, inr, List, Option, Some, arith, refl, sym, ap, subst}
 use Rattle.process.specs.ExecGates.{AreOfSegment}
-use Rattle.process.proofs.Laws.{bytes_held, writable_held}
-use Rattle.shared_procs.specs.Entering.{AreStorable}
-use Rattle.shared_procs.specs.PairPlaces.{IsActing}
-use Rattle.shared_procs.specs.Pairs.{Pair, PairSetting, half, here_two, setting}
-use Rattle.shared_procs.specs.Segments.{reached_in, shared_in, storable_in}
-use Rattle.shared_procs.specs.declared.half.Half.{Half}
+use Rattle.process.proofs.Laws.{bytes_held}
+use Rattle.shared_procs.proofs.Common.{AllByRecursion, AreStorable, byte_in, cases_lt, each_byte, fun_ext, Half, half, here_two, is_in_segment, is_storable, IsActing, le-leb, le-ltb, lt-leb, lt-ltb, memory, Neighbour, Pair, PairSetting, reached, reached_in, SEGMENT_AT, SEGMENT_SIZE, setting, shared_in, storable_in, Store, writable_held}
 
 module _ (s : PairSetting) (m : Pair) (p : Bool) (h : ℕ) (mine : Half) (segment : List ℕ) (acting : IsActing s m p h mine segment) where
   pub reached_is : reached_in segment mine.parts.pages ≡ reached (here_two s m p h)

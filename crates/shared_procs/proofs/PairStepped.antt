@@ -1,102 +1,119 @@
 -- A pair after a step of one of its processes.
-use Rattle.std.proofs.Common.{◌≡◌, ℕ, ◌<◌, ◌≤◌, ◌++◌, Bool, true, false, List, [], ◌∷◌, Result, Ok, Err, IfOk, OnErr, arith, refl, sym, ap, ◌∙◌, subst, vec_len, vec_capacity}
-use Rattle.mach_types.specs.Events.{choice_of}
-use Rattle.mach_types.specs.Limits.{InRange}
-use Rattle.mach_types.specs.declared.events.Choice.{Choice}
-use Rattle.mach_types.specs.declared.events.Entry.{Entry}
-use Rattle.mach_types.specs.declared.events.Hart.{Hart}
-use Rattle.shared_procs.specs.PairMachines.{AreTied, IsPair, seen, setting_of}
-use Rattle.shared_procs.specs.PairPlaces.{AreBoth, IsAsked}
-use Rattle.shared_procs.specs.PairRuns.{IsPairRun, PairSeen, entry_as, pair_after, pair_decide, pair_history, pair_seen, unless_two}
-use Rattle.shared_procs.specs.Pairs.{Pair, PairSetting, acting, apply_two, done_as, is_over, own_choice, refusal_as, setting}
-use Rattle.shared_procs.specs.declared.half.Half.{Half}
-use Rattle.shared_procs.specs.declared.outcomes.PairRefused.{PairRefused}
-use Rattle.shared_procs.specs.declared.pair.Pair.TheInside.{Inside}
-use Rattle.shared_procs.proofs.PairSteps.{IsStepped, answer_is, may_ask_for, of_choice, stepped}
+use Rattle.std.proofs.Common.{◌≡◌, ◌<◌, ◌≤◌, ◌++◌, Bool, true, false, not, cond, List, [], ◌∷◌, Result, Ok, Err, IfOk, OnErr, arith, refl, sym, ap, ◌∙◌, subst, vec_len, vec_capacity}
+use Rattle.shared_procs.specs.PairMachines.{IsPair}
+use Rattle.shared_procs.specs.PairRuns.{PairSeen}
+use Rattle.shared_procs.proofs.Common.{acting, apply_two, AreBoth, AreTied, Choice, choice_of, done_as, Entry, entry_as, Half, Hart, InRange, Inside, IsAsked, IsPairRun, own_choice, Pair, pair_after, pair_decide, pair_history, pair_seen, PairRefused, PairSetting, refusal_as, seen, setting, setting_of, unless_two}
+use Rattle.shared_procs.proofs.PairSteps.{IsOpen, after_more, answer_is, entry_of_choice, may_ask, of_choice, run_more}
 use Rattle.shared_procs.proofs.SameRequests.{alike_after, made_is}
 use Rattle.shared_procs.proofs.Settled.{settled}
 
 abbrev now_of : Inside → Pair
 now_of m = pair_seen (seen m)
 
--- where process p of a pair acts: it may be asked; what is answered is what is decided there; and what its step leaves
-pub record IsStepping (m : Inside) (h : Hart) (c own : Choice) (v : PairSeen) (p : Bool) (mine other : Half) : Type 0 where
-  pub at : IsAsked (setting_of m) (now_of m) p h.0 own mine other m.segment
-  pub answer : (r : Result Entry PairRefused) → r ≡ unless_two (entry_as (setting_of m) (now_of m) p h.0 own) (refusal_as (setting_of m) (now_of m) p h.0 own)
-      → r ≡ pair_decide v.setting (pair_seen v) h.0 c
-  pub of : (r : Result Entry PairRefused) → r ≡ unless_two (entry_as (setting_of m) (now_of m) p h.0 own) (refusal_as (setting_of m) (now_of m) p h.0 own)
-      → IfOk r (λ e. (e.hart ≡ h) × (choice_of e ≡ c))
-  pub step : (r : Result Entry PairRefused) (m' : Inside) (mine' other' : Half)
+-- a process as it is kept
+abbrev pub kept : Bool → Inside → Half
+kept p m = cond p m.second m.first
+
+both_of : (m : Inside) (p : Bool) → IsPair m → AreBoth (setting_of m) (now_of m) p (kept p m) (kept (not p) m) m.segment
+both_of m true is = record { own = is.tied.second; beside = is.tied.first; holds = is.tied.shared }
+both_of m false is = record { own = is.tied.first; beside = is.tied.second; holds = is.tied.shared }
+
+tied_of : (s : PairSetting) (now : Pair) (m : Inside) (p : Bool) → AreBoth s now p (kept p m) (kept (not p) m) m.segment
+    → AreTied s now m.first.parts m.second.parts m.segment
+tied_of s now m true both = record { first = both.beside; second = both.own; shared = both.holds }
+tied_of s now m false both = record { first = both.own; second = both.beside; shared = both.holds }
+
+its_code : (m : Inside) (p : Bool) → (kept p m).code ≡ (setting (setting_of m) p).program.pages
+its_code m true = refl
+its_code m false = refl
+
+-- what a step of a process p leaves, which answers r: where it is refused, all is as before
+module _ (m m' : Inside) (p : Bool) (r : Result Entry PairRefused) where
+  abbrev pub IsMade : Pair → Type 0
+  IsMade now = IfOk r (λ e. AreBoth (setting_of m) now p (kept p m') (kept (not p) m') m'.segment)
+
+  abbrev pub IsLonger : Type 0
+  IsLonger = IfOk r (λ e. m'.log.items ≡ m.log.items ++ e ∷ [])
+
+  abbrev pub IsKept : Type 0
+  IsKept = OnErr r ((kept p m' ≡ kept p m) × (kept (not p) m' ≡ kept (not p) m) × (m'.segment ≡ m.segment) × (m'.log ≡ m.log))
+
+same_inside : (m m' : Inside) (p : Bool) (why : PairRefused) → m'.limits ≡ m.limits → IsKept m m' p (Err why) → m' ≡ m
+same_inside m m' true why limits same = λ i. record { first = same.1 i; second = same.0 i; segment = same.2 i; limits = limits i; log = same.3 i }
+same_inside m m' false why limits same = λ i. record { first = same.0 i; second = same.1 i; segment = same.2 i; limits = limits i; log = same.3 i }
+
+-- so it is a pair
+module _ (m m' : Inside) (h : Hart) (c : Choice) (is : IsPair m) (at : IsOpen (setting_of m) (now_of m) h.0) (same : setting_of m' ≡ setting_of m)
+    (room : m'.limits.steps ≤ vec_capacity m'.log)
+  where
+    abbrev s : PairSetting
+    s = setting_of m
+
+    abbrev now : Pair
+    now = now_of m
+
+    abbrev p : Bool
+    p = acting now h.0 c
+
+    pub whole_after : (r : Result Entry PairRefused) → r ≡ pair_decide s now h.0 c → IsMade m m' p r (apply_two h.0 p (done_as s now p h.0 (own_choice c)) now)
+        → IsLonger m m' p r → IsKept m m' p r → IsPair m'
+    whole_after (Ok e) answer made longer stays =
+        let answers = entry_of_choice s now h.0 c e at (sym answer) in
+        let run = run_more s m.log.items h.0 c e is.run answers (sym answer) in
+        let stands = ap (λ (l : List Entry). pair_after s (pair_history s l)) longer ∙ after_more s m.log.items h.0 c e answers in
+        let both : AreBoth s (pair_after s (pair_history s m'.log.items)) p (kept p m') (kept (not p) m') m'.segment =
+        subst (λ (z : Pair). AreBoth s z p (kept p m') (kept (not p) m') m'.segment) (sym stands) made in
+        record {
+          run = subst (λ (z : PairSetting). IsPairRun z m'.log.items) (sym same) (subst (IsPairRun s) (sym longer) run);
+          tied = subst (λ (z : PairSetting). AreTied z (pair_after z (pair_history z m'.log.items)) m'.first.parts m'.second.parts m'.segment) (sym same) (tied_of s _ m' p both);
+          limits = subst (λ (z : PairSetting). InRange z.limits) (sym same) is.limits;
+          room = room;
+        }
+    whole_after (Err why) answer made longer stays = subst IsPair (sym (same_inside m m' p why (ap (λ (z : PairSetting). z.limits) same) stays)) is
+
+-- what comes of a step
+pub record HasStepped (h : Hart) (c : Choice) (v : PairSeen) (r : Result Entry PairRefused) (m' : Inside) : Type 0 where
+  pub whole : IsPair m'
+  pub answer : r ≡ pair_decide v.setting (pair_seen v) h.0 c
+  pub of : IfOk r (λ e. (e.hart ≡ h) × (choice_of e ≡ c))
+
+-- where process p of a pair acts: it may be asked, and what comes of its step
+pub record IsStepping (m : Inside) (h : Hart) (c own : Choice) (v : PairSeen) (p : Bool) : Type 0 where
+  pub at : IsAsked (setting_of m) (now_of m) p h.0 own (kept p m) (kept (not p) m) m.segment
+  pub step : (r : Result Entry PairRefused) (m' : Inside)
       → r ≡ unless_two (entry_as (setting_of m) (now_of m) p h.0 own) (refusal_as (setting_of m) (now_of m) p h.0 own)
-      → IfOk r (λ e. AreBoth (setting_of m) (apply_two h.0 p (done_as (setting_of m) (now_of m) p h.0 own) (now_of m)) p mine' other' m'.segment)
-      → IfOk r (λ e. m'.log.items ≡ m.log.items ++ e ∷ [])
-      → OnErr r ((mine' ≡ mine) × (other' ≡ other) × (m'.segment ≡ m.segment) × (m'.log ≡ m.log))
-      → IsStepped (setting_of m) m'.log.items p mine' other' m'.segment
+      → IsMade m m' p r (apply_two h.0 p (done_as (setting_of m) (now_of m) p h.0 own) (now_of m)) → IsLonger m m' p r → IsKept m m' p r
+      → setting_of m' ≡ setting_of m → m'.limits.steps ≤ vec_capacity m'.log → HasStepped h c v r m'
 
--- the log that stays has the same entries
-items_kept : (r : Result Entry PairRefused) (m m' : Inside) (mine mine' other other' : Half)
-    → OnErr r ((mine' ≡ mine) × (other' ≡ other) × (m'.segment ≡ m.segment) × (m'.log ≡ m.log))
-    → OnErr r ((mine' ≡ mine) × (other' ≡ other) × (m'.segment ≡ m.segment) × (m'.log.items ≡ m.log.items))
-items_kept (Ok e) m m' mine mine' other other' kept = tt
-items_kept (Err why) m m' mine mine' other other' kept = (kept.0, kept.1, kept.2, λ i. (kept.3 i).items)
-
-stepping : (m : Inside) (h : Hart) (c own : Choice) (v : PairSeen) (p : Bool) (mine other : Half) → IsPair m → seen m ≡ v → is_over (pair_seen v) ≡ false
-    → (pair_seen v).made < v.setting.limits.steps → h.0 < v.setting.limits.harts → acting (pair_seen v) h.0 c ≡ p → own ≡ own_choice c
-    → AreBoth (setting_of m) (now_of m) p mine other m.segment → mine.code ≡ (setting (setting_of m) p).program.pages → IsStepping m h c own v p mine other
-stepping m h c own v p mine other is view goes room lt acts owns both code =
+stepping_here : (m : Inside) (h : Hart) (c : Choice) → IsPair m → IsOpen (setting_of m) (now_of m) h.0
+    → IsStepping m h c (own_choice c) (seen m) (acting (now_of m) h.0 c)
+stepping_here m h c is open_at =
     let s = setting_of m in
     let now = now_of m in
-    let live_on : is_over now ≡ false = subst (λ (w : PairSeen). is_over (pair_seen w) ≡ false) (sym view) goes in
-    let has_room : now.made < s.limits.steps = subst (λ (w : PairSeen). (pair_seen w).made < w.setting.limits.steps) (sym view) room in
-    let low : h.0 < s.limits.harts = subst (λ (w : PairSeen). h.0 < w.setting.limits.harts) (sym view) lt in
-    let acts_here : acting now h.0 c ≡ p = subst (λ (w : PairSeen). acting (pair_seen w) h.0 c ≡ p) (sym view) acts in
-    let answers : (r : Result Entry PairRefused) → r ≡ unless_two (entry_as s now p h.0 own) (refusal_as s now p h.0 own) → r ≡ pair_decide s now h.0 c =
-    λ r answered. answer_is s now h.0 c own p r live_on has_room low acts_here owns answered in
+    let p = acting now h.0 c in
     record {
-      at =
-          may_ask_for s now h.0 c own p mine other m.segment (settled s (pair_history s m.log.items) is.run) (alike_after s (pair_history s m.log.items)) is.limits
-          live_on has_room low acts_here owns both code;
-      answer = λ r answered. answers r answered ∙ ap (λ (w : PairSeen). pair_decide w.setting (pair_seen w) h.0 c) view;
-      of = λ r answered. of_choice s now h c r live_on has_room low (answers r answered);
-      step = λ r m' mine' other' answered made longer kept.
-          stepped s m.log.items m'.log.items h.0 c own p r mine other mine' other' m.segment m'.segment is.run live_on has_room low acts_here owns
-          (answers r answered) made longer (items_kept r m m' mine mine' other other' kept) both;
+      at = may_ask s now h.0 c (kept p m) (kept (not p) m) m.segment (settled s (pair_history s m.log.items) is.run) (alike_after s (pair_history s m.log.items))
+          is.limits open_at (both_of m p is) (its_code m p);
+      step = λ r m' answered made longer stays same room.
+          let answer : r ≡ pair_decide s now h.0 c = answered ∙ answer_is s now h.0 c open_at in
+          record {
+            whole = whole_after m m' h c is open_at same room r answer made longer stays;
+            answer = answer;
+            of = of_choice s now h c r open_at answer;
+          };
     }
 
-pub stepping_second : (m : Inside) (h : Hart) (c own : Choice) (v : PairSeen) → IsPair m → seen m ≡ v → is_over (pair_seen v) ≡ false
-    → (pair_seen v).made < v.setting.limits.steps → h.0 < v.setting.limits.harts → acting (pair_seen v) h.0 c ≡ true → own ≡ own_choice c
-    → IsStepping m h c own v true m.second m.first
-stepping_second m h c own v is view goes room lt acts owns =
-    stepping m h c own v true m.second m.first is view goes room lt acts owns
-    (record { own = is.tied.second; beside = is.tied.first; holds = is.tied.shared }) refl
-
-pub stepping_first : (m : Inside) (h : Hart) (c own : Choice) (v : PairSeen) → IsPair m → seen m ≡ v → is_over (pair_seen v) ≡ false
-    → (pair_seen v).made < v.setting.limits.steps → h.0 < v.setting.limits.harts → acting (pair_seen v) h.0 c ≡ false → own ≡ own_choice c
-    → IsStepping m h c own v false m.first m.second
-stepping_first m h c own v is view goes room lt acts owns =
-    stepping m h c own v false m.first m.second is view goes room lt acts owns
-    (record { own = is.tied.first; beside = is.tied.second; holds = is.tied.shared }) refl
+pub stepping : (m : Inside) (h : Hart) (c own : Choice) (v : PairSeen) (p : Bool) → IsPair m → seen m ≡ v → IsOpen v.setting (pair_seen v) h.0
+    → acting (pair_seen v) h.0 c ≡ p → own ≡ own_choice c → IsStepping m h c own v p
+stepping m h c own v p is view open_at acts owns =
+    subst (λ (w : PairSeen). IsOpen w.setting (pair_seen w) h.0 → acting (pair_seen w) h.0 c ≡ p → IsStepping m h c own w p) view
+    (λ open_here acts_here.
+    subst (IsStepping m h c own (seen m)) acts_here
+    (subst (λ (d : Choice). IsStepping m h c d (seen m) (acting (now_of m) h.0 c)) (sym owns) (stepping_here m h c is open_here)))
+    open_at acts
 
 -- the log has room
 pub room_left : (m : Inside) (v : PairSeen) → IsPair m → seen m ≡ v → (pair_seen v).made < v.setting.limits.steps → vec_len m.log < vec_capacity m.log
 room_left m v is view room =
     let has_room : (now_of m).made < m.limits.steps = subst (λ (w : PairSeen). (pair_seen w).made < w.setting.limits.steps) (sym view) room in
     omega (arith, has_room, is.room, m.log.ok.0, made_is (setting_of m) m.log.items)
-
--- a pair that keeps its programs, with what such a step leaves
-module _ (m m' : Inside) (same : setting_of m' ≡ setting_of m) (limits : InRange m'.limits) (room : m'.limits.steps ≤ vec_capacity m'.log) where
-  kept_so : IsPairRun (setting_of m) m'.log.items
-      → AreTied (setting_of m) (pair_after (setting_of m) (pair_history (setting_of m) m'.log.items)) m'.first.parts m'.second.parts m'.segment → IsPair m'
-  kept_so run tied = record {
-    run = subst (λ (s : PairSetting). IsPairRun s m'.log.items) (sym same) run;
-    tied =
-        subst (λ (s : PairSetting). AreTied s (pair_after s (pair_history s m'.log.items)) m'.first.parts m'.second.parts m'.segment) (sym same) tied;
-    limits = limits;
-    room = room;
-  }
-
-  pub kept_second : IsStepped (setting_of m) m'.log.items true m'.second m'.first m'.segment → IsPair m'
-  kept_second is = kept_so is.run (record { first = is.both.beside; second = is.both.own; shared = is.both.holds })
-
-  pub kept_first : IsStepped (setting_of m) m'.log.items false m'.first m'.second m'.segment → IsPair m'
-  kept_first is = kept_so is.run (record { first = is.both.own; second = is.both.beside; shared = is.both.holds })

@@ -1,19 +1,12 @@
 -- The harts that a barrier of a pair is about are others than its own, and a thread of either process ran on each of them where it was
 -- called.
 use Rattle.std.proofs.Common.{◌≡◌, ◌≢◌, ◌⊎◌, inl, inr, ℕ, ◌++◌, [], ◌∷◌, Bool, true, false, not, cond, ltb, Option, Some, None, is_some, sym, ap, ◌∙◌, subst}
-use Rattle.std.proofs.lemmas.Bool.{and_parts, false≢true}
-use Rattle.mach_types.specs.Events.{choice_of}
-use Rattle.mach_types.specs.Kernel.Scheduling.{has_hart}
-use Rattle.mach_types.specs.Kernel.Threads.{Threads, running_on}
+use Rattle.std.proofs.lemmas.Bool.{and_parts}
 use Rattle.mach_types.proofs.Laws.{has_hart-harts_that}
-use Rattle.block_model.specs.Calls.Barriers.{running_harts}
-use Rattle.block_model.specs.Here.{Barrier}
-use Rattle.shared_procs.specs.PairRuns.{IsPairRunHistory, PairEvent, PairHistory, pair_after}
-use Rattle.shared_procs.specs.Pairs.{Pair, PairSetting, acting, done_two, goes_on, half, neighbour, runs_in}
-use Rattle.shared_procs.specs.ReturningBarriers.{IsBusy, PairBegun, begun_by}
+use Rattle.shared_procs.specs.ReturningBarriers.{IsBusy}
+use Rattle.shared_procs.proofs.Common.{Barrier, begun_by, false≢true, goes_on, half, has_hart, IsPairRunHistory, neighbour, Pair, pair_after, PairBegun, PairEvent, PairHistory, PairSetting, running_harts, running_on, runs_in, Threads}
 use Rattle.shared_procs.proofs.BarrierReturns.{is_called, none_left}
-use Rattle.shared_procs.proofs.HartsApart.{was_idle}
-use Rattle.shared_procs.proofs.Settled.{decided, done_fit, over_lt, own_free, settled}
+use Rattle.shared_procs.proofs.HartsApart.{event_of, was_idle}
 
 -- a thread of a process that goes on runs on each hart that its record says
 own_runs : (m : Pair) (p : Bool) (k : ℕ) → goes_on m p ≡ true → running_on k (half p m).kernel.threads ≢ None → runs_in m p k ≢ None
@@ -45,16 +38,11 @@ about_now : (s : PairSetting) (e : PairEvent) (before : PairHistory) (b : Barrie
     → has_hart b.targets k ≡ true → (k ≢ e.entry.hart.0) × IsBusy (pair_after s before) k
 about_now s e before b k run is has =
     let m = pair_after s before in
-    let h = e.entry.hart.0 in
-    let c = choice_of e.entry in
-    let p = acting m h c in
-    let comes = decided s m h c e.entry run.1 in
-    let fit = done_fit s m h c (settled s before run.0) (over_lt s.limits.harts h comes.hart) comes.over comes.free in
-    let its : (done_two s m h c).barrier ≡ Some b = sym (ap (λ (x : PairEvent). x.done.barrier) run.2) ∙ is in
-    let others = (fit.barriers.begun b its).others in
-    let goes = (own_free s m h c comes.over comes.free).goes in
+    let p = e.process in
+    let its = event_of s e before run in
+    let others = (its.fit.barriers.begun b is).others in
     let runs : (runs_in m p k ≢ None) ⊎ (runs_in m (not p) k ≢ None) =
-    elim (others.ran k has) [ inl busy ↦ inl (own_runs m p k goes busy) | inr there ↦ inr (other_runs s m p k there) ] in
+    elim (others.ran k has) [ inl busy ↦ inl (own_runs m p k its.goes busy) | inr there ↦ inr (other_runs s m p k there) ] in
     (others.apart k has, either_runs m p k runs)
 
 -- so it was at its call

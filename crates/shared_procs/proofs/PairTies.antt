@@ -1,21 +1,9 @@
 -- A pair at its start, and what the parts of a process tell of it.
 use Rattle.std.proofs.Common.{◌≡◌, ℕ, ◌<◌, Bool, true, false, not, ◌&&◌, cond, List, [], Option, Some, None, is_none, is_some, get_or, refl, sym, ap, ◌∙◌, subst}
-use Rattle.std.specs.Option.{option_map}
-use Rattle.mach_types.specs.Kernel.Threads.{running_on}
-use Rattle.mach_types.specs.declared.limits.Limits.{Limits}
-use Rattle.elf_load.specs.Start.{Program, program_of}
+use Rattle.elf_load.specs.Start.{program_of}
 use Rattle.elf_load.specs.declared.image.Image.{Image}
-use Rattle.hart_state.specs.declared.hart.HartState.{HartState}
-use Rattle.block_model.specs.Plain.{Plain, plain_over, plain_start}
-use Rattle.block_model.specs.Setting.{Setting, setting_of}
-use Rattle.block_model.specs.Sights.{thread}
-use Rattle.process.specs.Refinement.{IsTied}
-use Rattle.process.specs.declared.parts.Parts.{Parts}
-use Rattle.process.proofs.Laws.{hart_tied}
-use Rattle.shared_procs.specs.PairMachines.{AreTied}
-use Rattle.shared_procs.specs.PairRuns.{IsPairRun, pair_after, pair_history}
-use Rattle.shared_procs.specs.Pairs.{PairSetting, setting}
-use Rattle.shared_procs.specs.Segments.{shared_in}
+use Rattle.block_model.specs.Setting.{setting_of}
+use Rattle.shared_procs.proofs.Common.{AreTied, hart_tied, HartState, IsPairRun, IsTied, Limits, option_map, pair_after, pair_history, PairSetting, Parts, Plain, plain_over, plain_start, Program, running_on, Setting, setting, shared_in, thread}
 
 -- no entry is a pair run
 pub run_start : (s : PairSetting) → IsPairRun s []

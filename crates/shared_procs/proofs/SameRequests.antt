@@ -1,12 +1,7 @@
 -- Both processes of a pair see the same requests of barriers, and count the same events: as many as the log has entries.
 use Rattle.std.proofs.Common.{◌≡◌, ℕ, suc, ◌+◌, Bool, true, false, List, [], ◌∷◌, length, fold, Option, Some, None, refl, sym, ap, ◌∙◌, arith}
-use Rattle.mach_types.specs.declared.events.Entry.{Entry}
-use Rattle.mach_types.specs.declared.limits.End.{End}
-use Rattle.block_model.specs.Here.{Done}
-use Rattle.block_model.specs.Plain.{Plain, apply}
 use Rattle.block_model.specs.Requests.{requests_after, restart_after}
-use Rattle.shared_procs.specs.Pairs.{Pair, PairSetting, apply_two, ended_if}
-use Rattle.shared_procs.specs.PairRuns.{PairHistory, event_two, pair_after, pair_history}
+use Rattle.shared_procs.proofs.Common.{apply, apply_two, Done, End, ended_if, Entry, event_two, Pair, pair_after, pair_history, PairHistory, PairSetting, Plain}
 
 pub record AreAlike (m : Pair) : Type 0 where
   pub requests : (k : ℕ) → m.first.requests k ≡ m.second.requests k

@@ -1,12 +1,7 @@
 -- The bytes of a segment after a store, and which addresses lie in it.
 use Rattle.std.proofs.Common.{◌≡◌, ℕ, ◌+◌, ◌-◌, ◌/◌, ◌%◌, ◌^◌, ◌<◌, ◌≤◌, ◌⊎◌, inl, inr, true, false, List, length, slice_index, refl, sym, ap, ◌∙◌, arith}
-use Rattle.std.proofs.lemmas.Bool.{cases_lt, lt-ltb, le-ltb, lt-leb, le-leb}
-use Rattle.std.proofs.lemmas.Bool.Decides.{nat_tests}
-use Rattle.byte_views.specs.Words.{with_word}
-use Rattle.mach_types.specs.Bytes.{byte_over}
-use Rattle.page_map.proofs.Laws.{over-high, over-in, over-low, with_word-after, with_word-before, with_word-inside}
-use Rattle.block_model.specs.Beside.{SEGMENT_AT, SEGMENT_SIZE, is_in_segment}
-use Rattle.shared_procs.specs.Segments.{lies_within, shared_in}
+use Rattle.page_map.proofs.Laws.{over-in, with_word-after, with_word-before, with_word-inside}
+use Rattle.shared_procs.proofs.Common.{byte_over, cases_lt, false≢true, is_in_segment, IsAccessSize, IsGap, le-leb, le-ltb, lies_within, lt-leb, lt-ltb, nat_tests, over-high, over-low, SEGMENT_AT, SEGMENT_SIZE, shared_in, with_word}
 
 pub small_byte : (x : ℕ) → x < 256 → x % 256 ≡ x
 small_byte x lt = omega arith
@@ -68,54 +63,45 @@ bytes_inside at size k is lt =
     let to = within_to at size is in
     is_inside (at + k) (omega arith) (omega arith)
 
--- an address beside the segment
-pub record IsBeside (a : ℕ) : Type 0 where
-  pub from : SEGMENT_AT ≤ a + 8
-  pub to : a < SEGMENT_AT + SEGMENT_SIZE + 8
-  pub out : is_in_segment a ≡ false
+-- no page lies in the segment
+pub inside_gap : (a : ℕ) → is_in_segment a ≡ true → IsGap (a / 4096)
+inside_gap a is =
+    let from = inside_from a is in
+    let to = inside_to a is in
+    (omega arith, omega arith)
 
--- of an access that doesn't lie in the segment no byte does, or one lies beside it
+-- an access has few bytes
+pub access_bytes : (n : ℕ) → IsAccessSize n → (0 < n) × (n ≤ 8)
+access_bytes n (inl e) = (omega arith, omega arith)
+access_bytes n (inr (inl e)) = (omega arith, omega arith)
+access_bytes n (inr (inr (inl e))) = (omega arith, omega arith)
+access_bytes n (inr (inr (inr e))) = (omega arith, omega arith)
+
+-- of an access that doesn't lie in the segment no byte does, or one lies beside it, where no page lies either
 abbrev pub IsOutside : ℕ → ℕ → Type 0
-IsOutside at size = ((k : ℕ) → k < size → is_in_segment (at + k) ≡ false) ⊎ ((k : ℕ) × (k < size) × IsBeside (at + k))
+IsOutside at size =
+    ((k : ℕ) → k < size → is_in_segment (at + k) ≡ false) ⊎ ((k : ℕ) × (k < size) × (is_in_segment (at + k) ≡ false) × IsGap ((at + k) / 4096))
 
-pub outside : (at size : ℕ) → size ≤ 8 → lies_within at size ≡ false → IsOutside at size
-outside at size few fails =
+pub outside : (at size : ℕ) → IsAccessSize size → lies_within at size ≡ false → IsOutside at size
+outside at size access fails =
+    let bytes = access_bytes size access in
+    let some = bytes.0 in
+    let few = bytes.1 in
     elim (cases_lt at SEGMENT_AT) [
       | inl low ↦
           elim (cases_lt SEGMENT_AT (at + size)) [
-            | inl over ↦
-                let there : at + (SEGMENT_AT - 1 - at) ≡ SEGMENT_AT - 1 = omega arith in
-                inr (
-                  SEGMENT_AT - 1 - at,
-                  omega arith,
-                  record {
-                    from = omega arith;
-                    to = omega arith;
-                    out = is_below (at + (SEGMENT_AT - 1 - at)) (omega arith);
-                  },
-                )
+            | inl over ↦ inr (0, some, is_below (at + 0) (omega arith), (omega arith, omega arith))
             | inr below ↦ inl (λ k lt. is_below (at + k) (omega arith))
           ]
       | inr from ↦
           elim (cases_lt (SEGMENT_AT + SEGMENT_SIZE) (at + size)) [
             | inl over ↦
                 elim (cases_lt at (SEGMENT_AT + SEGMENT_SIZE)) [
-                  | inl on ↦
-                      let there : at + (SEGMENT_AT + SEGMENT_SIZE - at) ≡ SEGMENT_AT + SEGMENT_SIZE = omega arith in
-                      inr (
-                        SEGMENT_AT + SEGMENT_SIZE - at,
-                        omega arith,
-                        record {
-                          from = omega arith;
-                          to = omega arith;
-                          out = is_past (at + (SEGMENT_AT + SEGMENT_SIZE - at)) (omega arith);
-                        },
-                      )
+                  | inl on ↦ inr (size - 1, omega arith, is_past (at + (size - 1)) (omega arith), (omega arith, omega arith))
                   | inr past ↦ inl (λ k lt. is_past (at + k) (omega arith))
                 ]
             | inr to ↦
                 let both : lies_within at size ≡ true = rw (le-leb SEGMENT_AT at from, le-leb (at + size) (SEGMENT_AT + SEGMENT_SIZE) to) refl in
-                let bad : false ≡ true = sym fails ∙ both in
-                absurd cc
+                absurd (false≢true (sym fails ∙ both))
           ]
     ]

@@ -1,5 +1,5 @@
 -- Stores of instructions that enter memory, on the pages of a process or in the segment; and a process beside them.
-use Rattle.std.specs.Prelude.{ℕ, ◌≡◌, Bool, true, List, [], ◌∷◌, ◌++◌, Some, filter, slice_get}
+use Rattle.std.specs.Prelude.{ℕ, ◌≡◌, true, List, ◌++◌, Some, filter, slice_get}
 use Rattle.std.specs.List.{AllByRecursion}
 use Rattle.mach_types.specs.Bytes.{all_stored, each_byte, written}
 use Rattle.mach_types.specs.Kernel.Pages.{Pages}

@@ -1,5 +1,6 @@
 pub mod Entering
 pub mod Halves
+pub mod OwnEntries
 pub mod PairMachines
 pub mod PairPlaces
 pub mod PairRuns

@@ -28,7 +28,6 @@ fn enter_one(pages: &mut PageMap, segment: &mut Segment, store: Store)
     requires storable { each_byte (storable_in pages.old) store.at store.size ≡ true }
     ensures { HaveEntered (store ∷ []) pages.old segment.old pages.new segment.new }
 {
-    pages.keeps();
     let _ = set_in(pages, segment, store.at, store.size, store.value);
 }
 

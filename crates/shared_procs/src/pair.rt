@@ -1,6 +1,6 @@
 //! A pair: two processes on one machine, with the segment that they share, and the log of what happened.
 
-ghost use Rattle.std.specs.Prelude.{◌≡◌, ◌<◌, ◌≤◌, ◌⊎◌, ◌==◌, ◌&&◌, ◌||◌, ◌++◌, [], ◌∷◌, Bool, true, false, not, Err, IfOk, IfNone, IfSome, OnErr, if◌then◌else◌, is_none, is_some, length, vec_capacity, vec_len};
+ghost use Rattle.std.specs.Prelude.{◌≡◌, ◌<◌, ◌≤◌, ◌⊎◌, ◌==◌, ◌&&◌, ◌++◌, [], ◌∷◌, Bool, true, false, not, Err, IfOk, IfNone, IfSome, OnErr, if◌then◌else◌, is_some, length, nat_le, vec_capacity, vec_len};
 ghost use Rattle.mach_types.specs.Events.{choice_of};
 ghost use Rattle.mach_types.specs.declared.events.Choice.{Choice};
 ghost use Rattle.mach_types.specs.Limits.{InRange};
@@ -106,18 +106,11 @@ fn have_ended(first: Option<End>, second: Option<End>) -> bool
     has_ended(first) && has_ended(second)
 }
 
-/// Whether one of two processes goes on.
-fn some_goes_on(first: Option<End>, second: Option<End>) -> bool
-    ensures { result ≡ (is_none first || is_none second) }
+/// Whether neither of two processes goes on, where each does or doesn't.
+fn is_over_where(first: bool, second: bool) -> bool
+    ensures { result ≡ (if first then false else not second) }
 {
-    first.is_none() || second.is_none()
-}
-
-/// Whether neither goes on.
-fn is_over(first: Option<End>, second: Option<End>) -> bool
-    ensures { result ≡ not (is_none first || is_none second) }
-{
-    !some_goes_on(first, second)
+    if first { false } else { !second }
 }
 
 /// Whether an event is the second process's, where a thread of the second or of the first one runs on the hart or doesn't, and the first
@@ -227,9 +220,25 @@ impl Pair {
         ensures { result ≡ pair_end self.now.setting (pair_seen self.now) }
     {
         let both = have_ended(self.first.parts.ended, self.second.parts.ended);
-        let goes = some_goes_on(self.first.parts.ended, self.second.parts.ended);
-        let is_full = self.log.len() >= self.limits.steps as usize;
-        end_where(both, goes, is_full)
+        let is_over = self.is_over();
+        let is_full = self.is_full();
+        end_where(both, is_over, is_full)
+    }
+
+    /// Whether no process goes on.
+    fn is_over(&self) -> bool
+        ensures { result ≡ pairs.is_over (pair_seen self.now) }
+    {
+        let first = goes_on(&self.first.parts);
+        let second = goes_on(&self.second.parts);
+        is_over_where(first, second)
+    }
+
+    /// Whether the log has as many entries as the step limit says.
+    fn is_full(&self) -> bool
+        ensures { result ≡ nat_le self.now.setting.limits.steps (pair_seen self.now).made }
+    {
+        self.log.len() >= self.limits.steps as usize
     }
 
     /// The process whose thread runs on a hart: the second one, or else the first. Where none does, one that goes on.
@@ -268,10 +277,10 @@ impl Pair {
         ensures room { IfNone result ((pair_seen self.now).made < self.now.setting.limits.steps) }
         ensures hart { IfNone result (hart.0 < self.now.setting.limits.harts) }
     {
-        if is_over(self.first.parts.ended, self.second.parts.ended) {
+        if self.is_over() {
             return Some(PairRefused::Ended);
         }
-        if self.log.len() >= self.limits.steps as usize {
+        if self.is_full() {
             return Some(PairRefused::Full);
         }
         if hart.0 >= self.limits.harts {
@@ -293,14 +302,14 @@ impl Pair {
     }
 }
 
-/// How a pair ends, where both processes have ended or haven't, some goes on or none, and the log is full or isn't.
-fn end_where(both: bool, goes: bool, is_full: bool) -> PairEnd
+/// How a pair ends, where both processes have ended or haven't, none goes on or some, and the log is full or isn't.
+fn end_where(both: bool, is_over: bool, is_full: bool) -> PairEnd
     ensures { result ≡ (if both then PairEnd.Done
-        else if goes then (if is_full then PairEnd.Limit else PairEnd.Unended) else PairEnd.Stuck) }
+        else if is_over then PairEnd.Stuck else if is_full then PairEnd.Limit else PairEnd.Unended) }
 {
     if both {
         PairEnd::Done
-    } else if !goes {
+    } else if is_over {
         PairEnd::Stuck
     } else if is_full {
         PairEnd::Limit

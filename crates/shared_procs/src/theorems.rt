@@ -6,8 +6,9 @@ ghost use Rattle.mach_types.specs.Kernel.Threads.{running_on};
 ghost use Rattle.mach_types.specs.declared.events.Entry.{Entry};
 ghost use Rattle.mach_types.specs.declared.events.Kind.TheVariants as kind;
 ghost use Rattle.shared_procs.specs.ReturningBarriers.{IsBusy, PairBegun, begun_by, returning};
+ghost use Rattle.shared_procs.specs.OwnEntries.{AreOfImages, IsSameProcess, own_entries};
 ghost use Rattle.shared_procs.specs.PairRuns.{IsPairRun, PairEvent, PairHistory, pair_after, pair_history};
-ghost use Rattle.shared_procs.specs.Pairs.{PairSetting, goes_on, half};
+ghost use Rattle.shared_procs.specs.Pairs.{PairSetting, goes_on, half, setting};
 ghost use Rattle.shared_procs.specs.StoresEntered.{entered, executed};
 
 /// On a hart that runs no thread of a process that goes on no store of the process waits.
@@ -69,4 +70,21 @@ pub fn barriers_return_over_both()
         → IsPairRun s (earlier ++ entry ∷ later) → entry.kind ≡ kind.Done
         → returning s earlier entry.hart.0 ≡ Some b → has_hart b.barrier.targets k ≡ true
         → executed k b.call ≤ entered s k (pair_history s earlier) }
+{}
+
+/// A process of a pair hangs on its own entries and on what it learns at them of the other process: the bytes
+/// of the segment that its instructions read, whether its SC there succeed, and whether its calls of
+/// membarrier(2) wait. Nothing is said of pending requests, nor of reservations.
+pub fn process_hangs_on_what_it_learns()
+    // Where these are the same in two pair runs, over the same image and limits, so is the process after them.
+    ensures last { (s s2 : PairSetting) (log log2 : List Entry) (p : Bool) → AreOfImages s → AreOfImages s2
+        → setting s p ≡ setting s2 p → IsPairRun s log → IsPairRun s2 log2
+        → own_entries s p (pair_history s log) ≡ own_entries s2 p (pair_history s2 log2)
+        → IsSameProcess (half p (pair_after s (pair_history s log))) (half p (pair_after s2 (pair_history s2 log2))) }
+    // So it is after each of these entries, and up to the next one: where so many of them have come in both.
+    ensures each { (s s2 : PairSetting) (log later log2 later2 : List Entry) (p : Bool) → AreOfImages s → AreOfImages s2
+        → setting s p ≡ setting s2 p → IsPairRun s (log ++ later) → IsPairRun s2 (log2 ++ later2)
+        → own_entries s p (pair_history s (log ++ later)) ≡ own_entries s2 p (pair_history s2 (log2 ++ later2))
+        → length (own_entries s p (pair_history s log)) ≡ length (own_entries s2 p (pair_history s2 log2))
+        → IsSameProcess (half p (pair_after s (pair_history s log))) (half p (pair_after s2 (pair_history s2 log2))) }
 {}

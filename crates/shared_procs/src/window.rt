@@ -1,10 +1,11 @@
 //! Memory as the instructions of a process reach it that shares a segment.
 
-ghost use Rattle.std.specs.Prelude.{◌≡◌, ℕ};
+ghost use Rattle.std.specs.Prelude.{◌≡◌, ℕ, [], ◌∷◌, true};
 ghost use Rattle.std.proofs.Common.{refl, ◌∙◌};
 ghost use Rattle.mach_types.specs.Bytes.{IsAccessSize, after_write, each_byte};
 ghost use Rattle.page_map.specs.Map.{IsAlike};
 ghost use Rattle.page_map.specs.MapLaws.{alike_itself, alike_next};
+ghost use Rattle.shared_procs.specs.Entering.{HaveEntered};
 ghost use Rattle.shared_procs.specs.Segments.{reached_in, storable_in};
 ghost use Rattle.shared_procs.specs.WindowLaws.{reached_in-ends, reached_in-readable, reached_in-small};
 
@@ -37,12 +38,14 @@ pub(crate) fn set_in(
         ≡ after_write result (record { at = at; size = size; value = value }) (reached_in segment.old pages.old) a }
     ensures permissions { (a : ℕ) → storable_in pages.new a ≡ storable_in pages.old a }
     ensures alike { IsAlike pages.old pages.new }
+    ensures entered { result ≡ true
+        → HaveEntered (record { at = at; size = size; value = value } ∷ []) pages.old segment.old pages.new segment.new }
 {
+    pages.keeps();
     if is_within(at, size) {
         segment.put(at, size, value);
         true
     } else {
-        pages.keeps();
         pages.set(at, size, value)
     }
 }

@@ -1,8 +1,8 @@
 -- A hart whose stores have entered memory holds nothing.
-use Rattle.std.proofs.Common.{◌≡◌, List, Some, None, set, refl, sym, ap, ◌∙◌}
+use Rattle.std.proofs.Common.{List, Some, None, set, refl, sym, ap, ◌∙◌}
 use Rattle.std.specs.Vec.{with_item}
 use Rattle.std.proofs.lemmas.Option.{slice_get-get_or}
-use Rattle.mach_types.specs.declared.user_memory.Store.{Store}
+use Rattle.shared_procs.proofs.Common.{Store}
 use Rattle.shared_procs.proofs.PairClosings.{emptied_next, may_still}
 use Rattle.shared_procs.proofs.ending.empty.Goals as goal
 

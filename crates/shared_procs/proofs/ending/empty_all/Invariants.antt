@@ -1,9 +1,6 @@
 -- So far the harts before this one hold nothing.
 use Rattle.std.proofs.Common.{◌≡◌, ℕ, Bool, length}
-use Rattle.block_model.specs.Plain.{Plain}
-use Rattle.shared_procs.specs.Entering.{MayEmpty}
-use Rattle.shared_procs.specs.PairPlaces.{AreEmptied}
-use Rattle.shared_procs.specs.Pairs.{PairSetting}
+use Rattle.shared_procs.proofs.Common.{AreEmptied, MayEmpty, PairSetting, Plain}
 use Rattle.shared_procs.proofs.ending.empty_all.Given as goal
 
 abbrev pub invariant-loop-hart : goal.invariant-loop-hart

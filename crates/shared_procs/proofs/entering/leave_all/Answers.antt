@@ -1,15 +1,14 @@
 -- One store after the other enters memory.
-use Rattle.std.proofs.Common.{◌≡◌, ◌<◌, None, List, drop, length, slice_get, sym, ap, ◌∙◌, subst}
-use Rattle.mach_types.specs.declared.user_memory.Store.{Store}
-use Rattle.shared_procs.specs.Entering.{AreEntering}
-use Rattle.shared_procs.proofs.Entered.{entering_end, entering_more, entering_start, fewer_left, first_may, none_left}
+use Rattle.std.proofs.Common.{◌≡◌, ◌<◌, None, Some, List, drop, length, slice_get, sym, ap, ◌∙◌, subst}
+use Rattle.shared_procs.proofs.Common.{AreEntering, Store}
+use Rattle.shared_procs.proofs.Entered.{entering_end, entering_more, entering_start, fewer_left, none_left, oldest_may}
 use Rattle.shared_procs.proofs.entering.leave_all.Goals as goal
 
 pub stores-init : goal.stores-init
 stores-init c = entering_start c.args.buffer.now c.args.pages.now c.args.segment.now c.args.other.now c.requires.storable
 
 pub leave_one-requires-clause-storable : goal.leave_one-requires-clause-storable
-leave_one-requires-clause-storable c = first_may c.stores.pages c.stores.buffer c.in-Some.store c.stores.invariant.storable c.in-Some.ensures.oldest
+leave_one-requires-clause-storable c = oldest_may c.stores.pages c.stores.buffer (Some c.in-Some.store) c.stores.invariant.storable c.in-Some.ensures.oldest
 
 pub stores-preserved : goal.stores-preserved
 stores-preserved c =
@@ -34,6 +33,6 @@ returns c =
     entering_end c.args.buffer.now left c.args.pages.now c.stores.pages c.args.segment.now c.stores.segment c.args.other.now c.stores.other c.stores.invariant none in
     record {
       buffer = c.pop.ensures.rest ∙ ap (λ (ws : List Store). drop 1 ws) (none_left left none);
-      entered = end.entered;
-      lost = end.lost;
+      entered = end.0;
+      lost = end.1;
     }

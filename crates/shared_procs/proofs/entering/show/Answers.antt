@@ -1,9 +1,6 @@
 -- A store that lies in the segment is shown, and another one isn't.
-use Rattle.std.proofs.Common.{Bool, List, [], ◌∷◌, cond, sym, ◌∙◌, subst}
-use Rattle.mach_types.specs.declared.user_memory.Write.{Write}
-use Rattle.mach_types.specs.declared.user_memory.Write.TheVariants.{Stored}
-use Rattle.block_model.specs.Stands.{aside}
-use Rattle.process.specs.Refinement.{IsTied}
+use Rattle.std.proofs.Common.{Bool, [], ◌∷◌, cond, sym, ◌∙◌, subst}
+use Rattle.shared_procs.proofs.Common.{aside, IsTied, Stored}
 use Rattle.shared_procs.proofs.entering.show.Goals as goal
 
 pub returns-then-is_in_segment : goal.returns-then-is_in_segment

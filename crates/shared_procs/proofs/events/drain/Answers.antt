@@ -1,20 +1,8 @@
 -- The oldest store enters memory.
 use Rattle.std.proofs.Common.{arith, ◌≡◌, ◌+◌, not, List, [], ◌∷◌, set, eqb, slice_get, option_map, refl, sym, ap, ◌∙◌, subst}
-use Rattle.std.specs.List.{filter}
-use Rattle.mach_types.specs.Bytes.{all_stored}
 use Rattle.mach_types.specs.declared.events.Choice.TheVariants as asked
-use Rattle.mach_types.specs.declared.user_memory.Store.{Store}
-use Rattle.hart_state.specs.State.{stores}
-use Rattle.hart_state.specs.declared.hart.HartState.{HartState}
-use Rattle.block_model.specs.Events.Drain.{done_drain_of}
-use Rattle.block_model.specs.Stands.{aside}
-use Rattle.process.specs.Harts.{counted}
-use Rattle.process.specs.Refinement.{IsTied}
-use Rattle.process.specs.Reservations.{lost_unless}
-use Rattle.process.proofs.Laws.{in_list}
-use Rattle.process.proofs.PairLaws.{drain_own, eighth, goes_on, hart_is, oldest, quietly, was_not_stuck}
-use Rattle.shared_procs.specs.Entering.{AreStorable, HaveEntered}
-use Rattle.shared_procs.specs.Pairs.{half, here_two, is_shared, setting, stand}
+use Rattle.process.proofs.PairLaws.{drain_own, goes_on, oldest}
+use Rattle.shared_procs.proofs.Common.{all_stored, AreStorable, aside, counted, done_drain_of, eighth, filter, half, hart_is, HartState, HaveEntered, here_two, in_list, is_shared, IsTied, lost_unless, quietly, setting, stand, Store, stores, was_not_stuck}
 use Rattle.shared_procs.proofs.Entered.{oldest_may, readable_kept}
 use Rattle.shared_procs.proofs.PairEvents.{made_as}
 use Rattle.shared_procs.proofs.PairMemory.{waiting_may}

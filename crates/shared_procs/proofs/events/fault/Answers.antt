@@ -1,14 +1,9 @@
 -- A fault is seen by nobody but its thread.
 use Rattle.std.proofs.Common.{List, not, sym, ap}
-use Rattle.std.specs.List.{filter}
-use Rattle.block_model.specs.Events.{done_of}
 use Rattle.mach_types.specs.declared.events.Choice.TheVariants as asked
-use Rattle.mach_types.specs.declared.user_memory.Write.{Write}
-use Rattle.shared_procs.specs.Pairs.{half, here_two, is_shared, setting, stand}
-use Rattle.process.proofs.PairLaws.{eighth}
+use Rattle.shared_procs.proofs.Common.{done_of, eighth, filter, half, here_two, is_shared, setting, stand, Write}
 use Rattle.shared_procs.proofs.PairEvents.{unshared}
-use Rattle.shared_procs.proofs.PairInstructions.{fault_planned}
-use Rattle.shared_procs.proofs.PassedEvents.{fault_quiet}
+use Rattle.shared_procs.proofs.PairInstructions.{fault_planned, fault_quiet}
 use Rattle.shared_procs.proofs.events.fault.Goals as goal
 
 pub fault-requires : goal.fault-requires

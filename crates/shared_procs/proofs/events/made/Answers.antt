@@ -1,6 +1,5 @@
 use Rattle.std.proofs.Common.{refl}
-use Rattle.block_model.specs.Events.{done_of}
-use Rattle.shared_procs.specs.Pairs.{here_two}
+use Rattle.shared_procs.proofs.Common.{done_of, here_two}
 use Rattle.shared_procs.proofs.PairEvents.{made_unshared}
 use Rattle.shared_procs.proofs.events.made.Goals as goal
 

@@ -1,11 +1,8 @@
 -- An event that the other process doesn't see, but that a hart took its requests.
 use Rattle.std.proofs.Common.{not, sym, ◌∙◌}
-use Rattle.block_model.specs.Events.{done_of}
-use Rattle.block_model.proofs.Laws.{event_writes}
-use Rattle.process.proofs.PairLaws.{eighth}
-use Rattle.shared_procs.specs.Pairs.{half, here_two, setting, stand}
+use Rattle.shared_procs.proofs.Common.{done_of, eighth, event_writes, half, here_two, setting, stand}
+use Rattle.shared_procs.proofs.EventFacts.{does_so}
 use Rattle.shared_procs.proofs.PairEvents.{hidden_writes, unshared}
-use Rattle.shared_procs.proofs.PassedEvents.{passed}
 use Rattle.shared_procs.proofs.events.pass.Goals as goal
 
 pub event-requires : goal.event-requires
@@ -27,7 +24,7 @@ returns c s m p place tied free =
     let h = c.args.hart.0 in
     let here = here_two s m p h in
     let d = done_of c.args.choice here in
-    let is = passed here c.args.choice c.requires.no_exec c.requires.no_drain in
+    let is = does_so here c.args.choice in
     unshared s m p h d c.args.mine.now c.event.new.self c.pass_by.new.self (c.event.ensures (stand s m p) place free)
     (hidden_writes s m p h c.args.mine.now place c.keeps.ensures.gap d.entered (event_writes here c.args.choice c.requires.no_exec c.requires.no_drain))
-    (c.pass_by.ensures (setting s (not p)) (half (not p) m) d tied (is.took_is ∙ sym c.takes.ensures) is.none_begun)
+    (c.pass_by.ensures (setting s (not p)) (half (not p) m) d tied (is.took_is ∙ sym c.takes.ensures) (is.none_begun c.requires.no_exec))

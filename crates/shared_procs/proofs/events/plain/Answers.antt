@@ -1,24 +1,13 @@
 -- An instruction over the pages and the segment.
 use Rattle.std.proofs.Common.{◌≡◌, ◌+◌, not, List, set, eqb, slice_get, option_map, arith, refl, sym, ap, ◌∙◌, subst}
-use Rattle.std.specs.List.{filter}
-use Rattle.mach_types.specs.Bytes.{all_stored}
 use Rattle.mach_types.specs.declared.events.Choice.TheVariants as asked
-use Rattle.mach_types.specs.declared.user_memory.Store.{Store}
-use Rattle.rv_inst.specs.Execution.{Outcome}
-use Rattle.hart_state.specs.State.{hart_after, stores}
-use Rattle.hart_state.specs.declared.hart.HartState.{HartState}
-use Rattle.block_model.specs.Events.Exec.{by_outcome}
-use Rattle.block_model.specs.Stands.{aside}
-use Rattle.process.specs.Harts.{counted}
-use Rattle.process.specs.Refinement.{IsTied}
-use Rattle.process.specs.Reservations.{lost_unless}
-use Rattle.process.proofs.Laws.{in_list, plain_own, runs_there, saved_plain}
-use Rattle.process.proofs.PairLaws.{eighth, no_call, quietly, ran_fits}
-use Rattle.shared_procs.specs.Entering.{HaveEntered}
-use Rattle.shared_procs.specs.Pairs.{half, here_two, is_shared, setting, stand}
+use Rattle.hart_state.specs.State.{hart_after}
+use Rattle.process.proofs.Laws.{plain_own, runs_there, saved_plain}
+use Rattle.process.proofs.PairLaws.{no_call, ran_fits}
+use Rattle.shared_procs.proofs.Common.{all_stored, aside, by_outcome, counted, eighth, filter, half, HartState, HaveEntered, here_two, in_list, is_shared, IsTied, lost_unless, Outcome, quietly, setting, stand, Store, stores}
 use Rattle.shared_procs.proofs.Entered.{readable_kept}
 use Rattle.shared_procs.proofs.PairEvents.{made_as}
-use Rattle.shared_procs.proofs.PairInstructions.{makes_no_fault, may_execute, performing}
+use Rattle.shared_procs.proofs.PairInstructions.{performing}
 use Rattle.shared_procs.proofs.events.plain.Goals as goal
 
 pub index_mut-state-requires : goal.index_mut-state-requires
@@ -33,14 +22,14 @@ execute-made-requires-clause-sizes c = c.requires.next.step.sizes
 pub execute-made-requires-clause-allowed : goal.execute-made-requires-clause-allowed
 execute-made-requires-clause-allowed c =
     let its = c.requires.next in
-    may_execute its.setting its.pair its.process c.args.hart.0 c.args.mine.now c.args.segment.now c.args.other.now.parts c.index_mut-state.result.now c.args.effect.now its.acting its.step
-    c.index_mut-state.ensures.value
+    (performing its.setting its.pair its.process c.args.hart.0 c.args.mine.now c.args.segment.now c.args.other.now.parts c.index_mut-state.result.now
+    c.args.effect.now its.acting its.step c.index_mut-state.ensures.value c.requires.no_call).allowed
 
 pub execute-made-requires-clause-no_fault : goal.execute-made-requires-clause-no_fault
 execute-made-requires-clause-no_fault c =
     let its = c.requires.next in
-    makes_no_fault its.setting its.pair its.process c.args.hart.0 c.args.mine.now c.args.segment.now c.args.other.now.parts c.index_mut-state.result.now c.args.effect.now its.acting its.step
-    c.index_mut-state.ensures.value
+    (performing its.setting its.pair its.process c.args.hart.0 c.args.mine.now c.args.segment.now c.args.other.now.parts c.index_mut-state.result.now
+    c.args.effect.now its.acting its.step c.index_mut-state.ensures.value c.requires.no_call).no_fault
 
 pub execute-made-requires-clause-no_call : goal.execute-made-requires-clause-no_call
 execute-made-requires-clause-no_call c = no_call c.args.effect.now c.requires.no_call

@@ -1,11 +1,6 @@
 -- The first condition of a choice of a process that fails.
 use Rattle.std.proofs.Common.{sym, ap, ◌∙◌, subst}
-use Rattle.mach_types.specs.declared.events.Choice.{Choice}
-use Rattle.block_model.specs.Events.{refusal_of}
-use Rattle.process.proofs.Laws.{in_list}
-use Rattle.process.specs.Refinement.{IsTied}
-use Rattle.shared_procs.specs.Pairs.{half, here_two, neighbour, setting, stand}
-use Rattle.shared_procs.specs.declared.half.Half.{Half}
+use Rattle.shared_procs.proofs.Common.{Choice, Half, half, here_two, in_list, IsTied, neighbour, refusal_of, setting, stand}
 use Rattle.shared_procs.proofs.PairMemory.{segment_pages}
 use Rattle.shared_procs.proofs.events.refusal.Goals as goal
 

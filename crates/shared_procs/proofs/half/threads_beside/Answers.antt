@@ -1,5 +1,5 @@
 use Rattle.std.proofs.Common.{cond, sym, ap, ◌∙◌}
-use Rattle.block_model.specs.Calls.Barriers.{running_harts}
+use Rattle.shared_procs.proofs.Common.{running_harts}
 use Rattle.shared_procs.proofs.half.threads_beside.Goals as goal
 
 pub returns-then-goes_on : goal.returns-then-goes_on

@@ -1,9 +1,6 @@
 -- The entry, by the number of the thread in logs.
 use Rattle.std.proofs.Common.{◌≡◌, ◌+◌, arith, sym, ap, ◌∙◌}
-use Rattle.mach_types.specs.declared.events.Entry.{Entry}
-use Rattle.block_model.specs.Deciding.{number_of, thread_in}
-use Rattle.block_model.specs.Stands.{here_at}
-use Rattle.shared_procs.specs.Pairs.{stand}
+use Rattle.shared_procs.proofs.Common.{Entry, here_at, number_of, stand, thread_in}
 use Rattle.shared_procs.proofs.PairEntries.{entry_first, entry_none, entry_second, named_small}
 use Rattle.shared_procs.proofs.pair.entry_of.Goals as goal
 

@@ -1,12 +1,7 @@
 -- membarrier(2) as the definitions answer it beside another process.
 use Rattle.std.proofs.Common.{not, sym, ap, ◌∙◌}
 use Rattle.mach_types.specs.declared.events.Choice.TheVariants as asked
-use Rattle.block_model.specs.Calls.Barriers.{answers}
-use Rattle.block_model.specs.Events.{done_of}
-use Rattle.block_model.specs.Here.{Done}
-use Rattle.shared_procs.specs.Pairs.{half, here_two, setting, stand}
-use Rattle.process.proofs.Laws.{in_list}
-use Rattle.process.proofs.PairLaws.{eighth}
+use Rattle.shared_procs.proofs.Common.{answers, Done, done_of, eighth, half, here_two, setting, stand}
 use Rattle.shared_procs.proofs.PairCalls.{barrier_called, barrier_hidden}
 use Rattle.shared_procs.proofs.PairEvents.{unshared}
 use Rattle.shared_procs.proofs.pair_calls.call_membarrier.Goals as goal

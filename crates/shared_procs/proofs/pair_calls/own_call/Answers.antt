@@ -1,10 +1,9 @@
 -- A call that the process makes as where it is alone.
 use Rattle.std.proofs.Common.{not}
 use Rattle.mach_types.specs.declared.events.Choice.TheVariants as asked
-use Rattle.block_model.specs.Events.{done_of}
-use Rattle.shared_procs.specs.Pairs.{half, here_two, setting, stand}
-use Rattle.process.proofs.PairLaws.{eighth}
-use Rattle.shared_procs.proofs.PairCalls.{call_planned, own_hidden, own_unseen}
+use Rattle.shared_procs.proofs.Common.{done_of, eighth, half, here_two, setting, stand}
+use Rattle.shared_procs.proofs.EventFacts.{does_so}
+use Rattle.shared_procs.proofs.PairCalls.{call_planned, own_begins_none, own_hidden}
 use Rattle.shared_procs.proofs.PairEvents.{unshared}
 use Rattle.shared_procs.proofs.pair_calls.own_call.Goals as goal
 
@@ -30,8 +29,8 @@ returns c s m p step =
     let mine = c.args.mine.now in
     let v = stand s m p in
     let own = c.requires.own v step.thread step.place step.at in
-    let unseen = own_unseen s m p c.args.hart mine c.args.other.now step own in
     unshared s m p h (done_of asked.Exec (here_two s m p h)) mine c.call.new.self c.unseen.new.other
     (c.call.ensures v step.place (call_planned s m p c.args.hart mine c.args.other.now step own))
     (own_hidden s m p c.args.hart mine c.args.other.now step c.keeps.ensures.gap)
-    (c.unseen.ensures (setting s (not p)) (half (not p) m) (done_of asked.Exec (here_two s m p h)) step.beside unseen.untaken unseen.none_begun)
+    (c.unseen.ensures (setting s (not p)) (half (not p) m) (done_of asked.Exec (here_two s m p h)) step.beside
+    (does_so (here_two s m p h) asked.Exec).took_is (own_begins_none s m p c.args.hart mine c.args.other.now step own))

@@ -1,13 +1,7 @@
 -- rseq(2) is refused.
 use Rattle.std.proofs.Common.{not, ap}
-use Rattle.mach_types.specs.declared.errors.TheConstants.{ENOSYS}
 use Rattle.mach_types.specs.declared.events.Choice.TheVariants as asked
-use Rattle.std.specs.List.{filter}
-use Rattle.block_model.specs.Calls.Answers.{refused}
-use Rattle.block_model.specs.Events.{done_of}
-use Rattle.block_model.specs.Here.{Done}
-use Rattle.shared_procs.specs.Pairs.{half, here_two, is_shared, setting, stand}
-use Rattle.process.proofs.PairLaws.{eighth}
+use Rattle.shared_procs.proofs.Common.{Done, done_of, eighth, ENOSYS, filter, half, here_two, is_shared, refused, setting, stand}
 use Rattle.shared_procs.proofs.PairCalls.{rseq_called}
 use Rattle.shared_procs.proofs.PairEvents.{unshared}
 use Rattle.shared_procs.proofs.pair_calls.refuse_rseq.Goals as goal

@@ -1,4 +1,4 @@
-use Rattle.shared_procs.specs.PairRuns.{pair_history}
+use Rattle.shared_procs.proofs.Common.{pair_history}
 use Rattle.shared_procs.proofs.BarrierReturns.{is_called, returns, stores_entered}
 use Rattle.shared_procs.proofs.PairTargets.{about_others}
 use Rattle.shared_procs.proofs.theorems.barriers_return_over_both.Goals as goal

@@ -1,4 +1,4 @@
-use Rattle.shared_procs.specs.PairRuns.{pair_history}
+use Rattle.shared_procs.proofs.Common.{pair_history}
 use Rattle.shared_procs.proofs.SameRequests.{alike_after}
 use Rattle.shared_procs.proofs.theorems.both_see_the_same_requests.Goals as goal
 

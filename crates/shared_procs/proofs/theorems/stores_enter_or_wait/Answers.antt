@@ -1,5 +1,5 @@
+use Rattle.shared_procs.proofs.Common.{pair_history}
 use Rattle.shared_procs.proofs.theorems.stores_enter_or_wait.Goals as goal
-use Rattle.shared_procs.specs.PairRuns.{pair_history}
 use Rattle.shared_procs.proofs.Sums.{sum_is}
 
 pub returns : goal.returns

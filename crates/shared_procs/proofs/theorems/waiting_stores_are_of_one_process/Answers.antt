@@ -1,4 +1,4 @@
-use Rattle.shared_procs.specs.PairRuns.{pair_after, pair_history}
+use Rattle.shared_procs.proofs.Common.{pair_after, pair_history}
 use Rattle.shared_procs.proofs.HartsApart.{apart, of_one_process}
 use Rattle.shared_procs.proofs.theorems.waiting_stores_are_of_one_process.Goals as goal
 

@@ -1,6 +1,5 @@
 -- A pair at boot is tied to its empty log.
-use Rattle.shared_procs.specs.Halves.{program_in}
-use Rattle.shared_procs.specs.Pairs.{PairSetting}
+use Rattle.shared_procs.proofs.Common.{PairSetting, program_in}
 use Rattle.shared_procs.proofs.PairTies.{half_start, run_start, tied_start}
 use Rattle.shared_procs.proofs.pair.Pair.boot.Goals as goal
 

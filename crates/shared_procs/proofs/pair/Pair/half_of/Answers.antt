@@ -1,8 +1,5 @@
 use Rattle.std.proofs.Common.{◌≡◌, ◌==◌, Bool, true, false, sym, ◌∙◌, subst}
-use Rattle.process.specs.Refinement.{IsTied}
-use Rattle.shared_procs.specs.PairMachines.{seen, setting_of}
-use Rattle.shared_procs.specs.PairRuns.{pair_seen}
-use Rattle.shared_procs.specs.Pairs.{half, setting}
+use Rattle.shared_procs.proofs.Common.{half, IsTied, pair_seen, seen, setting, setting_of}
 use Rattle.shared_procs.proofs.pair.Pair.half_of.Goals as goal
 
 pub returns-then-is_second : goal.returns-then-is_second

@@ -1,7 +1,5 @@
 use Rattle.std.proofs.Common.{◌≡◌, ◌<◌, cond, true, false, not, is_some, arith, ◌∙◌}
-use Rattle.shared_procs.specs.PairMachines.{seen, setting_of}
-use Rattle.shared_procs.specs.PairRuns.{pair_seen}
-use Rattle.shared_procs.specs.Pairs.{goes_on, runs_in, setting}
+use Rattle.shared_procs.proofs.Common.{goes_on, pair_seen, runs_in, seen, setting, setting_of}
 use Rattle.shared_procs.proofs.pair.Pair.on_hart.Goals as goal
 
 pub runs_on-second-requires : goal.runs_on-second-requires

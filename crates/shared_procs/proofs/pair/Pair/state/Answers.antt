@@ -1,6 +1,5 @@
 use Rattle.std.proofs.Common.{◌==◌, ap, ◌∙◌}
-use Rattle.shared_procs.specs.PairRuns.{pair_seen, state_of_end}
-use Rattle.shared_procs.specs.Pairs.{half}
+use Rattle.shared_procs.proofs.Common.{half, pair_seen, state_of_end}
 use Rattle.shared_procs.proofs.PairEnds.{state_read}
 use Rattle.shared_procs.proofs.pair.Pair.state.Goals as goal
 

@@ -1,5 +1,5 @@
 use Rattle.std.proofs.Common.{◌-◌, ◌%◌, ap}
-use Rattle.block_model.specs.Beside.{SEGMENT_AT}
+use Rattle.shared_procs.proofs.Common.{SEGMENT_AT}
 use Rattle.shared_procs.proofs.segment.Segment.new.Goals as goal
 
 pub returns : goal.returns

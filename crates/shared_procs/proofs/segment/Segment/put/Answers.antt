@@ -1,10 +1,7 @@
 use Rattle.std.proofs.Common.{◌≡◌, ◌-◌, length, sym, ap, ◌∙◌, true, arith}
 use Rattle.std.proofs.lemmas.Bool.{OnTrue_at}
 use Rattle.std.proofs.lemmas.List.{with_items_is}
-use Rattle.byte_views.specs.Words.{with_word}
-use Rattle.mach_types.specs.Bytes.{byte_over}
-use Rattle.block_model.specs.Beside.{SEGMENT_AT, SEGMENT_SIZE}
-use Rattle.shared_procs.specs.Segments.{shared_in}
+use Rattle.shared_procs.proofs.Common.{byte_over, SEGMENT_AT, SEGMENT_SIZE, shared_in, with_word}
 use Rattle.shared_procs.proofs.Segments.{shared-stored}
 use Rattle.shared_procs.proofs.segment.Segment.put.Goals as goal
 

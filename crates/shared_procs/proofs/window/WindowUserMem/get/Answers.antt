@@ -1,6 +1,6 @@
 use Rattle.std.proofs.Common.{sym, ◌∙◌}
 use Rattle.shared_procs.proofs.Segments.{outside}
-use Rattle.shared_procs.proofs.Windows.{few_bytes, read_inside, read_outside}
+use Rattle.shared_procs.proofs.Windows.{read_inside, read_outside}
 use Rattle.shared_procs.proofs.window.WindowUserMem.get.Goals as goal
 
 pub returns-then-is_within : goal.returns-then-is_within
@@ -11,5 +11,5 @@ returns-then-is_within c =
 pub returns-else-is_within : goal.returns-else-is_within
 returns-else-is_within c =
     let v = c.args.self.now in
-    let out = outside c.args.at c.args.size (few_bytes c.args.size c.requires) (sym c.is_within.ensures ∙ c.if-is_within.false) in
+    let out = outside c.args.at c.args.size c.requires (sym c.is_within.ensures ∙ c.if-is_within.false) in
     c.get.ensures ∙ read_outside v.pages.now c.keeps.ensures.gap v.segment.now c.args.at c.args.size out
