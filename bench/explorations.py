@@ -3,12 +3,15 @@
 
     bench/explorations.py [--jobs N] [--rounds N] [--found] [--memory] [--program PROGRAM]
 
-Each row is the least of so many rounds (5): the seconds on the clock, and the runs a second of it. The start is within. Without --jobs it is
-measured with `--jobs 1`. With --found it makes the runs of each broken example until a second outcome is there (of `litmus`, which has
+Each row is the least of so many rounds (5): the seconds on the clock, and the runs a second of it; and of that round the runs a second of
+processor time, and how many processors were busy. Where those are as many as there are jobs, nothing is lost by waiting; where the runs a
+second of processor time are fewer than with one job, the processors themselves are slower together. The start is within. Without --jobs it
+is measured with `--jobs 1`. With --found it makes the runs of each broken example until a second outcome is there (of `litmus`, which has
 three right ones, until a fourth is), with all policies in turn. With --memory each program also makes as many runs, and ten times as
 many, under GNU time.
 """
 import argparse
+import os
 import pathlib
 import subprocess
 import sys
@@ -30,13 +33,14 @@ def command(words, file, *options):
 
 
 def seconds(words, file, *options):
-    """The least seconds on the clock of some rounds."""
+    """The least seconds on the clock of some rounds, and the seconds of processor time of that round."""
     best = None
     for _ in range(words.rounds):
-        begun = time.perf_counter()
+        before, begun = os.times(), time.perf_counter()
         subprocess.run(command(words, file, *options), stdout=subprocess.DEVNULL, check=True)
-        took = time.perf_counter() - begun
-        best = took if best is None else min(best, took)
+        took, after = time.perf_counter() - begun, os.times()
+        used = after.children_user - before.children_user + after.children_system - before.children_system
+        best = (took, used) if best is None else min(best, (took, used))
     return best
 
 
@@ -48,11 +52,12 @@ def peak(words, file, runs):
 
 
 def speeds(words):
-    print('| program | runs | s | runs a second |' + (' peak, MiB | of ten times as many |' if words.memory else ''))
-    print('|---|---|---|---|' + ('---|---|' if words.memory else ''))
+    print('| program | runs | s | runs a second | of processor time | processors busy |'
+          + (' peak, MiB | of ten times as many |' if words.memory else ''))
+    print('|---|---|---|---|---|---|' + ('---|---|' if words.memory else ''))
     for name, (file, runs) in PROGRAMS.items():
-        took = seconds(words, file, f'--runs={runs}')
-        cells = [name, f'{runs:,}', f'{took:.3f}', f'{runs / took:,.0f}']
+        took, used = seconds(words, file, f'--runs={runs}')
+        cells = [name, f'{runs:,}', f'{took:.3f}', f'{runs / took:,.0f}', f'{runs / max(used, 0.001):,.0f}', f'{used / took:.2f}']
         if words.memory:
             cells += [f'{peak(words, file, many):.1f}' for many in (runs, 10 * runs)]
         print('| ' + ' | '.join(cells) + ' |', flush=True)
@@ -64,7 +69,7 @@ def finds(words):
     for name in BROKEN:
         file = TOP / 'examples' / name / f'{name}.elf'
         enough = '--until=4' if name == 'litmus' else '--until=2'
-        print(f'| `{name}` | {seconds(words, file, enough, "--steps=20000"):.3f} |', flush=True)
+        print(f'| `{name}` | {seconds(words, file, enough, "--steps=20000")[0]:.3f} |', flush=True)
 
 
 def main():

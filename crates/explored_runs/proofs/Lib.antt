@@ -1,4 +1,5 @@
 mod Added
+mod Batches
 pub mod Counts
 mod DecileExamples
 pub mod Examples

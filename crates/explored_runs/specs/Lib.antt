@@ -2,6 +2,7 @@ pub mod Accounts
 pub mod Deciles
 pub mod Explorations
 pub mod Explored
+pub mod Jobs
 pub mod Made
 pub mod Sums
 pub mod Tallies

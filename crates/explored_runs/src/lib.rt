@@ -7,11 +7,14 @@ mod deciles;
 mod exploration;
 mod explored;
 mod exploring;
+mod jobs;
 mod made;
 mod printed;
+mod rounds;
 mod sharing;
 mod tallies;
 mod tallying;
+mod task;
 mod text;
 mod theorems;
 
