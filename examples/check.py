@@ -15,6 +15,8 @@ For each example NAME:
 - `blocks` on the script gives the *.summary beside it, where there is one, and the fault line, where that is its output;
 - `gather` on the script gives the *.gathered beside it, where there is one. It has the same console and end, and of each hart the same
   log lines in the same order; and the log lines that it prints, played, give its text again;
+- `trace` on the script has the log lines and the end of its output where its facts are left out, and each line's number below it;
+  and from the middle on it is what `--from` gives;
 - `inspect` on the script, and on the first half of its lines, tells how many lines there are and the end; lines that it says may
   come next are played behind them, and lines that it says may not are refused there; where the script is refused, it says so of the
   refused line, on the lines before that;
@@ -216,6 +218,24 @@ def check_gathered(program, elf, script, text):
     check_replay(program, elf, gathered, '2')
 
 
+def check_trace(program, elf, script, text):
+    """The trace of a script on two harts has the log lines and the end of this text, and below each line its number; from a line in the
+    middle on it is what `--from` gives."""
+    status, trace = run(program, 'trace', elf, script, '--harts', '2', '--steps', STEPS)
+    want('the status of its trace', status, DONE)
+    due, rows = Output(text), trace.splitlines(keepends=True)
+    log = [row for row in rows if row[:1].isdigit()]
+    want('the log in its trace', b''.join(log), b''.join(due.log))
+    want('the end of its trace', rows[-1], due.end)
+    numbers = [row for row in rows if row.startswith(b'  line ')]
+    want('the numbers in its trace', b''.join(numbers), b''.join(b'  line %d\n' % number for number in range(1, len(log) + 1)))
+    middle = len(log) // 2 + 1
+    begin = rows.index(b'  line %d\n' % middle) - 1 if middle <= len(log) else len(rows) - 1
+    status, half = run(program, 'trace', elf, script, '--harts', '2', '--steps', STEPS, '--from', str(middle))
+    want('the status of its half', status, DONE)
+    want('the half of its trace', half, b''.join(rows[begin:]))
+
+
 def own_lines(log, hart):
     """The lines of a hart in a log."""
     return b''.join(line for line in log if line.startswith(b'%d ' % hart))
@@ -252,8 +272,8 @@ def check_other_hart(program, elf, text):
 
 
 def check_script(program, elf, script):
-    """A script on two harts gives the text beside it, and so do the log lines of that text; `blocks` gives its summary, and `gather` its
-    gathered log; and `inspect` says what may come behind it."""
+    """A script on two harts gives the text beside it, and so do the log lines of that text; `blocks` gives its summary, `gather` its
+    gathered log, and `trace` its lines; and `inspect` says what may come behind it."""
     text, summary = script.with_suffix('.output').read_bytes(), script.with_suffix('.summary')
     lines = script.read_bytes().splitlines(keepends=True)
     if text.startswith(b'fault script '):
@@ -270,6 +290,7 @@ def check_script(program, elf, script):
     if summary.is_file():
         expect_blocks(program, elf, script, DONE, summary.read_bytes())
     check_gathered(program, elf, script, text)
+    check_trace(program, elf, script, text)
     check_place(program, elf, lines, Output(text).end)
     check_place(program, elf, lines[:len(lines) // 2], b'end open\n')
 

@@ -1,27 +1,10 @@
 -- Worked examples, proved by computation: the sequence of a program, each way in which it ends, and beside each what is there then.
 use Rattle.std.proofs.Common.{◌≡◌, ℕ, ◌*◌, ◌/◌, ◌%◌, Bool, true, false, List, [], ◌∷◌, ◌++◌, replicate, length, ◌-◌, refl, Option, Some, None, Result, Ok, Err}
-use Rattle.std.specs.Option.{option_map}
-use Rattle.mach_types.specs.Bytes.{word_at}
+use Rattle.block_model.proofs.Common.{Ask, Entry, History, Killed, SIGSEGV, Sequence, Setting, all_signals, amo_rows, are_readable, auipc_rows, before_last, branch_rows, can_write_frame, decide, done, end_at_verdict, end_before, end_so_far, ended, file, hanging, here_in_history, history, is_inside_at, jal_rows, jalr_rows, load_rows, lui_rows, meaning, memory, misc_mem_rows, number_at, op_32_rows, op_imm_32_rows, op_imm_rows, op_rows, option_map, played, register, row_of, rows, sequence_on, store_rows, system_rows, touched_in, watched_at, word_at}
 use Rattle.mach_types.specs.declared.events.Choice.TheVariants as asked
-use Rattle.mach_types.specs.declared.events.Entry.{Entry}
-use Rattle.mach_types.specs.declared.limits.End.TheVariants.{Killed}
-use Rattle.mach_types.specs.declared.signals.TheConstants.{SIGSEGV}
-use Rattle.mach_types.specs.Kernel.Areas.{are_readable, number_at}
 use Rattle.mach_types.specs.Kernel.Barriers as barriers
-use Rattle.mach_types.specs.Kernel.SignalFrames.{can_write_frame}
-use Rattle.mach_types.specs.Kernel.Signals.{all_signals}
-use Rattle.mach_types.specs.Registers.{register}
-use Rattle.rv_inst.specs.Meaning.{meaning}
-use Rattle.rv_inst.specs.Table.{row_of, rows, lui_rows, auipc_rows, jal_rows, jalr_rows, branch_rows, load_rows, store_rows, op_imm_rows, op_imm_32_rows, op_rows, op_32_rows, misc_mem_rows, amo_rows, system_rows}
 use Rattle.block_model.specs.declared.acts.SeqEnd.{SeqEnd}
 use Rattle.block_model.specs.declared.acts.SeqEnd.TheVariants as ends
-use Rattle.block_model.specs.Acts.{Sequence, end_at_verdict, end_before, end_so_far, hanging, is_inside_at, sequence_on}
-use Rattle.block_model.specs.Deciding.{decide, done, history}
-use Rattle.block_model.specs.Here.{memory}
-use Rattle.block_model.specs.History.{History, ended, file, here_in_history}
-use Rattle.block_model.specs.Replay.{Ask, played}
-use Rattle.block_model.specs.Setting.{Setting}
-use Rattle.block_model.specs.Whole.{before_last, touched_in, watched_at}
 use Rattle.block_model.proofs.ExamplePrograms.{code_and_page, line_of as line, within_frames}
 
 -- PROGRAMS
@@ -184,177 +167,107 @@ was_touched s before =
     (λ (q : Sequence). touched_in s (length before - length (before_last q)) before (watched_at s q.hart q.thread (before_last q)))
     (sequence_on s 0 before)
 
--- WHERE A SEQUENCE BEGINS
+-- WHERE A SEQUENCE BEGINS, AND WHERE IT IS LEFT OR UNENDED
 
--- no instruction was executed inside yet; with the first one the sequence begins
-not_begun : read thread_of_sequence registered ≡ Ok None
-unfolding played decide history done meaning row_of rows lui_rows auipc_rows jal_rows jalr_rows branch_rows load_rows store_rows op_imm_rows op_imm_32_rows op_rows op_32_rows misc_mem_rows amo_rows system_rows are_readable number_at
-not_begun = refl
-
-begun : read thread_of_sequence one_inside ≡ Ok (Some 1)
-unfolding played decide history done meaning row_of rows lui_rows auipc_rows jal_rows jalr_rows branch_rows load_rows store_rows op_imm_rows op_imm_32_rows op_rows op_32_rows misc_mem_rows amo_rows system_rows are_readable number_at
-begun = refl
-
--- LEFT
-
--- both instructions are executed, and another one behind them
-leaves : read (last_end program) (registered ++ replicate 3 (line 0 asked.Exec)) ≡ Ok (Some ends.Left)
-unfolding played decide history done meaning row_of rows lui_rows auipc_rows jal_rows jalr_rows branch_rows load_rows store_rows op_imm_rows op_imm_32_rows op_rows op_32_rows misc_mem_rows amo_rows system_rows are_readable number_at
-leaves = refl
-
--- its register has what the last one put there
-goes_on_behind : read (λ before. register (file program 1 before).file 5) (registered ++ replicate 3 (line 0 asked.Exec)) ≡ Ok 3
-unfolding played decide history done meaning row_of rows lui_rows auipc_rows jal_rows jalr_rows branch_rows load_rows store_rows op_imm_rows op_imm_32_rows op_rows op_32_rows misc_mem_rows amo_rows system_rows are_readable number_at
-goes_on_behind = refl
-
--- UNENDED
-
--- the log ends between both instructions, or where the thread was preempted there
-between_both :
-    (read (end_of_log program) one_inside ≡ Ok (Some ends.Unended))  -- unended
+-- no instruction was executed inside yet; with the first one the sequence begins; both instructions are executed, and another one
+-- behind them; its register has what the last one put there; the log ends between both instructions, or where the thread was
+-- preempted there
+begun_and_left :
+    (read thread_of_sequence registered ≡ Ok None)  -- not begun
+    × (read thread_of_sequence one_inside ≡ Ok (Some 1))  -- begun
+    × (read (last_end program) (registered ++ replicate 3 (line 0 asked.Exec)) ≡ Ok (Some ends.Left))  -- leaves
+    × (read (λ before. register (file program 1 before).file 5) (registered ++ replicate 3 (line 0 asked.Exec)) ≡ Ok 3)  -- goes on behind
+    × (read (end_of_log program) one_inside ≡ Ok (Some ends.Unended))  -- unended
     × (read (last_end program) preempted ≡ Ok (Some ends.Unended))  -- not ended yet
     × (read hanging_thread preempted ≡ Ok (Some 1))  -- hangs
-unfolding played decide history done meaning row_of rows lui_rows auipc_rows jal_rows jalr_rows branch_rows load_rows store_rows op_imm_rows op_imm_32_rows op_rows op_32_rows misc_mem_rows amo_rows system_rows are_readable number_at
-between_both = (refl, refl, refl)
+unfolding played decide history done are_readable number_at meaning row_of rows lui_rows auipc_rows jal_rows jalr_rows branch_rows load_rows store_rows op_imm_rows op_imm_32_rows op_rows op_32_rows misc_mem_rows amo_rows system_rows
+begun_and_left = (refl, refl, refl, refl, refl, refl, refl)
 
 -- CUT
 
--- the thread left its hart between both instructions, and begins to run on the other: it goes on at its abort handler
-cut : read (verdict program) moved ≡ Ok (Some (ends.Cut 0x100DC))
-unfolding played decide history done meaning row_of rows lui_rows auipc_rows jal_rows jalr_rows branch_rows load_rows store_rows op_imm_rows op_imm_32_rows op_rows op_32_rows misc_mem_rows amo_rows system_rows are_readable number_at
-cut = refl
-
-goes_on_at_handler : read (λ before. (file program 1 before).pc) moved ≡ Ok 0x100DC
-unfolding played decide history done meaning row_of rows lui_rows auipc_rows jal_rows jalr_rows branch_rows load_rows store_rows op_imm_rows op_imm_32_rows op_rows op_32_rows misc_mem_rows amo_rows system_rows are_readable number_at
-goes_on_at_handler = refl
-
--- its register has what the one instruction put there; it isn't inside any more, and nothing hangs
-after_its_abort :
-    (read (λ before. register (file program 1 before).file 5) moved ≡ Ok 1)  -- keeps
+-- the thread left its hart between both instructions, and begins to run on the other: it goes on at its abort handler; its register
+-- has what the one instruction put there; it isn't inside any more, and nothing hangs
+cut_by_run :
+    (read (verdict program) moved ≡ Ok (Some (ends.Cut 0x100DC)))  -- cut
+    × (read (λ before. (file program 1 before).pc) moved ≡ Ok 0x100DC)  -- goes on at handler
+    × (read (λ before. register (file program 1 before).file 5) moved ≡ Ok 1)  -- keeps
     × (read (is_inside_at program 1) moved ≡ Ok false)  -- isnt inside
     × (read hanging_thread moved ≡ Ok None)  -- hangs no more
-unfolding played decide history done meaning row_of rows lui_rows auipc_rows jal_rows jalr_rows branch_rows load_rows store_rows op_imm_rows op_imm_32_rows op_rows op_32_rows misc_mem_rows amo_rows system_rows are_readable number_at
-after_its_abort = (refl, refl, refl)
+unfolding played decide history done are_readable number_at meaning row_of rows lui_rows auipc_rows jal_rows jalr_rows branch_rows load_rows store_rows op_imm_rows op_imm_32_rows op_rows op_32_rows misc_mem_rows amo_rows system_rows
+cut_by_run = (refl, refl, refl, refl, refl)
 
--- a signal is delivered between both instructions: the handler is entered, and returns to the abort handler, which is the first word of
--- its frame; the thread isn't inside any more
-cut_by_signal : read_of handling (last_end handling) (played handling (signalled_after 18)) ≡ Ok (Some (ends.Cut 0x10104))
-unfolding all_signals can_write_frame played decide history done meaning row_of rows lui_rows auipc_rows jal_rows jalr_rows branch_rows load_rows store_rows op_imm_rows op_imm_32_rows op_rows op_32_rows misc_mem_rows amo_rows system_rows are_readable number_at
-cut_by_signal = refl
-
-enters_its_handler : read_of handling (λ before. (file handling 1 before).pc) (played handling (signalled_after 18)) ≡ Ok 0x10120
-unfolding all_signals can_write_frame played decide history done meaning row_of rows lui_rows auipc_rows jal_rows jalr_rows branch_rows load_rows store_rows op_imm_rows op_imm_32_rows op_rows op_32_rows misc_mem_rows amo_rows system_rows are_readable number_at
-enters_its_handler = refl
+-- a signal is delivered between both instructions: the handler is entered, and returns to the abort handler, which is the first
+-- word of its frame; the thread isn't inside any more
+cut_by_delivery :
+    (read_of handling (last_end handling) (played handling (signalled_after 18)) ≡ Ok (Some (ends.Cut 0x10104)))  -- cut by signal
+    × (read_of handling (λ before. (file handling 1 before).pc) (played handling (signalled_after 18)) ≡ Ok 0x10120)  -- enters its handler
+unfolding all_signals can_write_frame played decide history done are_readable number_at meaning row_of rows lui_rows auipc_rows jal_rows jalr_rows branch_rows load_rows store_rows op_imm_rows op_imm_32_rows op_rows op_32_rows misc_mem_rows amo_rows system_rows
+cut_by_delivery = (refl, refl)
 
 abbrev returns_to : History → Option ℕ
 returns_to before = word_at (memory (here_in_history handling before 0)) 0x3FFFF3FE20 8
 
-returns_to_its_abort_handler : read_of handling returns_to (played handling (signalled_after 18)) ≡ Ok (Some 0x10104)
-unfolding all_signals can_write_frame played decide history done meaning row_of rows lui_rows auipc_rows jal_rows jalr_rows branch_rows load_rows store_rows op_imm_rows op_imm_32_rows op_rows op_32_rows misc_mem_rows amo_rows system_rows are_readable number_at
-returns_to_its_abort_handler = refl
+handler_returns :
+    (read_of handling returns_to (played handling (signalled_after 18)) ≡ Ok (Some 0x10104))  -- returns to its abort handler
+    × (read_of handling (is_inside_at handling 0) (played handling (signalled_after 18)) ≡ Ok false)  -- isnt inside then
+unfolding all_signals can_write_frame played decide history done are_readable number_at meaning row_of rows lui_rows auipc_rows jal_rows jalr_rows branch_rows load_rows store_rows op_imm_rows op_imm_32_rows op_rows op_32_rows misc_mem_rows amo_rows system_rows
+handler_returns = (refl, refl)
 
-isnt_inside_then : read_of handling (is_inside_at handling 0) (played handling (signalled_after 18)) ≡ Ok false
-unfolding all_signals can_write_frame played decide history done meaning row_of rows lui_rows auipc_rows jal_rows jalr_rows branch_rows load_rows store_rows op_imm_rows op_imm_32_rows op_rows op_32_rows misc_mem_rows amo_rows system_rows are_readable number_at
-isnt_inside_then = refl
+-- behind both instructions it cuts nothing, and the handler returns there; where no instruction was executed inside yet no sequence
+-- ends, and the handler returns to the abort handler too
+delivered_outside :
+    (read_of handling (last_end handling) (played handling (signalled_after 19)) ≡ Ok (Some ends.Left))  -- left before signal
+    × (read_of handling returns_to (played handling (signalled_after 19)) ≡ Ok (Some 0x100FC))  -- returns behind
+    × (read_of handling (last_end handling) (played handling (signalled_after 17)) ≡ Ok None)  -- none ends
+    × (read_of handling returns_to (played handling (signalled_after 17)) ≡ Ok (Some 0x10104))  -- aborts at its start
+unfolding all_signals can_write_frame played decide history done are_readable number_at meaning row_of rows lui_rows auipc_rows jal_rows jalr_rows branch_rows load_rows store_rows op_imm_rows op_imm_32_rows op_rows op_32_rows misc_mem_rows amo_rows system_rows
+delivered_outside = (refl, refl, refl, refl)
 
--- behind both instructions it cuts nothing, and the handler returns there
-left_before_signal : read_of handling (last_end handling) (played handling (signalled_after 19)) ≡ Ok (Some ends.Left)
-unfolding all_signals can_write_frame played decide history done meaning row_of rows lui_rows auipc_rows jal_rows jalr_rows branch_rows load_rows store_rows op_imm_rows op_imm_32_rows op_rows op_32_rows misc_mem_rows amo_rows system_rows are_readable number_at
-left_before_signal = refl
-
-returns_behind : read_of handling returns_to (played handling (signalled_after 19)) ≡ Ok (Some 0x100FC)
-unfolding all_signals can_write_frame played decide history done meaning row_of rows lui_rows auipc_rows jal_rows jalr_rows branch_rows load_rows store_rows op_imm_rows op_imm_32_rows op_rows op_32_rows misc_mem_rows amo_rows system_rows are_readable number_at
-returns_behind = refl
-
--- where no instruction was executed inside yet no sequence ends, and the handler returns to the abort handler too
-none_ends : read_of handling (last_end handling) (played handling (signalled_after 17)) ≡ Ok None
-unfolding all_signals can_write_frame played decide history done meaning row_of rows lui_rows auipc_rows jal_rows jalr_rows branch_rows load_rows store_rows op_imm_rows op_imm_32_rows op_rows op_32_rows misc_mem_rows amo_rows system_rows are_readable number_at
-none_ends = refl
-
-aborts_at_its_start : read_of handling returns_to (played handling (signalled_after 17)) ≡ Ok (Some 0x10104)
-unfolding all_signals can_write_frame played decide history done meaning row_of rows lui_rows auipc_rows jal_rows jalr_rows branch_rows load_rows store_rows op_imm_rows op_imm_32_rows op_rows op_32_rows misc_mem_rows amo_rows system_rows are_readable number_at
-aborts_at_its_start = refl
-
--- hart 0 takes the request of a barrier that asks for a restart between both instructions: the thread goes on at its abort handler
-restarted_inside :
+-- hart 0 takes the request of a barrier that asks for a restart between both instructions: the thread goes on at its abort handler;
+-- behind both instructions it cuts nothing; where none was executed inside yet no sequence ends, and the thread goes on there too
+restarted_by_barrier :
     (read_of restarting (last_end restarting) (played restarting (fenced_after 13)) ≡ Ok (Some (ends.Cut 0x100F0)))  -- cut by barrier
     × (read_of restarting (λ before. (file restarting 1 before).pc) (played restarting (fenced_after 13)) ≡ Ok 0x100F0)  -- goes on at handler then
     × (read_of restarting (is_inside_at restarting 0) (played restarting (fenced_after 13)) ≡ Ok false)  -- cut is outside
-unfolding barriers.asked played decide history done meaning row_of rows lui_rows auipc_rows jal_rows jalr_rows branch_rows load_rows store_rows op_imm_rows op_imm_32_rows op_rows op_32_rows misc_mem_rows amo_rows system_rows are_readable number_at
-restarted_inside = (refl, refl, refl)
-
--- behind both instructions it cuts nothing; where none was executed inside yet no sequence ends, and the thread goes on there too
-restarted_outside :
-    (read_of restarting (last_end restarting) (played restarting (fenced_after 14)) ≡ Ok (Some ends.Left))  -- left before barrier
+    × (read_of restarting (last_end restarting) (played restarting (fenced_after 14)) ≡ Ok (Some ends.Left))  -- left before barrier
     × (read_of restarting (λ before. (file restarting 1 before).pc) (played restarting (fenced_after 14)) ≡ Ok 0x100E8)  -- stays behind
     × (read_of restarting (last_end restarting) (played restarting (fenced_after 12)) ≡ Ok None)  -- none ends by barrier
     × (read_of restarting (λ before. (file restarting 1 before).pc) (played restarting (fenced_after 12)) ≡ Ok 0x100F0)  -- aborts at its start too
-unfolding barriers.asked played decide history done meaning row_of rows lui_rows auipc_rows jal_rows jalr_rows branch_rows load_rows store_rows op_imm_rows op_imm_32_rows op_rows op_32_rows misc_mem_rows amo_rows system_rows are_readable number_at
-restarted_outside = (refl, refl, refl, refl)
+unfolding barriers.asked played decide history done are_readable number_at meaning row_of rows lui_rows auipc_rows jal_rows jalr_rows branch_rows load_rows store_rows op_imm_rows op_imm_32_rows op_rows op_32_rows misc_mem_rows amo_rows system_rows
+restarted_by_barrier = (refl, refl, refl, refl, refl, refl, refl)
 
--- one that asks for no restart cuts nothing: the thread is inside still
-not_cut_by_barrier : read_of fencing (end_of_log fencing) (played fencing (fenced_after 13)) ≡ Ok (Some ends.Unended)
-unfolding barriers.asked played decide history done meaning row_of rows lui_rows auipc_rows jal_rows jalr_rows branch_rows load_rows store_rows op_imm_rows op_imm_32_rows op_rows op_32_rows misc_mem_rows amo_rows system_rows are_readable number_at
-not_cut_by_barrier = refl
-
-still_inside : read_of fencing (is_inside_at fencing 0) (played fencing (fenced_after 13)) ≡ Ok true
-unfolding barriers.asked played decide history done meaning row_of rows lui_rows auipc_rows jal_rows jalr_rows branch_rows load_rows store_rows op_imm_rows op_imm_32_rows op_rows op_32_rows misc_mem_rows amo_rows system_rows are_readable number_at
-still_inside = refl
-
--- nor does one whose request an idle hart takes: the sequence hangs still, and is cut where its thread begins to run
-hangs_still : read_of restarting (λ before. option_map (λ (q : Sequence). q.thread) (hanging restarting 1 before)) (played restarting fenced_idle) ≡ Ok (Some 1)
-unfolding barriers.asked played decide history done meaning row_of rows lui_rows auipc_rows jal_rows jalr_rows branch_rows load_rows store_rows op_imm_rows op_imm_32_rows op_rows op_32_rows misc_mem_rows amo_rows system_rows are_readable number_at
-hangs_still = refl
-
-cut_where_it_runs : read_of restarting (verdict restarting) (played restarting (fenced_idle ++ runs 0 1 ∷ [])) ≡ Ok (Some (ends.Cut 0x100F0))
-unfolding barriers.asked played decide history done meaning row_of rows lui_rows auipc_rows jal_rows jalr_rows branch_rows load_rows store_rows op_imm_rows op_imm_32_rows op_rows op_32_rows misc_mem_rows amo_rows system_rows are_readable number_at
-cut_where_it_runs = refl
+-- one that asks for no restart cuts nothing: the thread is inside still; nor does one whose request an idle hart takes: the
+-- sequence hangs still, and is cut where its thread begins to run
+not_restarted :
+    (read_of fencing (end_of_log fencing) (played fencing (fenced_after 13)) ≡ Ok (Some ends.Unended))  -- not cut by barrier
+    × (read_of fencing (is_inside_at fencing 0) (played fencing (fenced_after 13)) ≡ Ok true)  -- still inside
+    × (read_of restarting (λ before. option_map (λ (q : Sequence). q.thread) (hanging restarting 1 before)) (played restarting fenced_idle) ≡ Ok (Some 1))  -- hangs still
+    × (read_of restarting (verdict restarting) (played restarting (fenced_idle ++ runs 0 1 ∷ [])) ≡ Ok (Some (ends.Cut 0x100F0)))  -- cut where it runs
+unfolding barriers.asked played decide history done are_readable number_at meaning row_of rows lui_rows auipc_rows jal_rows jalr_rows branch_rows load_rows store_rows op_imm_rows op_imm_32_rows op_rows op_32_rows misc_mem_rows amo_rows system_rows
+not_restarted = (refl, refl, refl, refl)
 
 -- DEAD
 
--- the second instruction is a call: the process is killed
-dead : read_of calling (end_of_log calling) (played calling (one_inside ++ line 0 asked.Exec ∷ [])) ≡ Ok (Some ends.Dead)
-unfolding played decide history done meaning row_of rows lui_rows auipc_rows jal_rows jalr_rows branch_rows load_rows store_rows op_imm_rows op_imm_32_rows op_rows op_32_rows misc_mem_rows amo_rows system_rows are_readable number_at
-dead = refl
-
-dead_by_signal : read_of calling ended (played calling (one_inside ++ line 0 asked.Exec ∷ [])) ≡ Ok (Some (Killed SIGSEGV))
-unfolding played decide history done meaning row_of rows lui_rows auipc_rows jal_rows jalr_rows branch_rows load_rows store_rows op_imm_rows op_imm_32_rows op_rows op_32_rows misc_mem_rows amo_rows system_rows are_readable number_at
-dead_by_signal = refl
-
--- a signal that has no handler is delivered between both instructions: the process is killed by it
-dead_unhandled : read_of unhandling (last_end unhandling) (played unhandling (signalled_after 12)) ≡ Ok (Some ends.Dead)
-unfolding all_signals played decide history done meaning row_of rows lui_rows auipc_rows jal_rows jalr_rows branch_rows load_rows store_rows op_imm_rows op_imm_32_rows op_rows op_32_rows misc_mem_rows amo_rows system_rows are_readable number_at
-dead_unhandled = refl
-
-dead_by_its_signal : read_of unhandling ended (played unhandling (signalled_after 12)) ≡ Ok (Some (Killed 15))
-unfolding all_signals played decide history done meaning row_of rows lui_rows auipc_rows jal_rows jalr_rows branch_rows load_rows store_rows op_imm_rows op_imm_32_rows op_rows op_32_rows misc_mem_rows amo_rows system_rows are_readable number_at
-dead_by_its_signal = refl
+-- the second instruction is a call: the process is killed; a signal that has no handler is delivered between both instructions: the
+-- process is killed by it
+killed_inside :
+    (read_of calling (end_of_log calling) (played calling (one_inside ++ line 0 asked.Exec ∷ [])) ≡ Ok (Some ends.Dead))  -- dead
+    × (read_of calling ended (played calling (one_inside ++ line 0 asked.Exec ∷ [])) ≡ Ok (Some (Killed SIGSEGV)))  -- dead by signal
+    × (read_of unhandling (last_end unhandling) (played unhandling (signalled_after 12)) ≡ Ok (Some ends.Dead))  -- dead unhandled
+    × (read_of unhandling ended (played unhandling (signalled_after 12)) ≡ Ok (Some (Killed 15)))  -- dead by its signal
+unfolding played decide history done are_readable number_at all_signals meaning row_of rows lui_rows auipc_rows jal_rows jalr_rows branch_rows load_rows store_rows op_imm_rows op_imm_32_rows op_rows op_32_rows misc_mem_rows amo_rows system_rows
+killed_inside = (refl, refl, refl, refl)
 
 -- DROPPED
 
--- the child's store waits: the parent is inside still. It enters memory: then the parent isn't
-child_waits : read_of shared (λ before. is_inside_at shared 0 before) (played shared child_stores) ≡ Ok true
-unfolding played decide history done meaning row_of rows lui_rows auipc_rows jal_rows jalr_rows branch_rows load_rows store_rows op_imm_rows op_imm_32_rows op_rows op_32_rows misc_mem_rows amo_rows system_rows are_readable number_at
-child_waits = refl
-
-dropped : read_of shared (end_of_log shared) (played shared child_writes) ≡ Ok (Some ends.Dropped)
-unfolding played decide history done meaning row_of rows lui_rows auipc_rows jal_rows jalr_rows branch_rows load_rows store_rows op_imm_rows op_imm_32_rows op_rows op_32_rows misc_mem_rows amo_rows system_rows are_readable number_at
-dropped = refl
-
--- the parent goes on with its second instruction, which is no longer of the sequence
-dropped_goes_on : read_of shared (last_end shared) (played shared (child_writes ++ line 0 asked.Exec ∷ [])) ≡ Ok (Some ends.Dropped)
-unfolding played decide history done meaning row_of rows lui_rows auipc_rows jal_rows jalr_rows branch_rows load_rows store_rows op_imm_rows op_imm_32_rows op_rows op_32_rows misc_mem_rows amo_rows system_rows are_readable number_at
-dropped_goes_on = refl
-
-goes_on_at_second : read_of shared (λ before. register (file shared 1 before).file 5) (played shared (child_writes ++ line 0 asked.Exec ∷ [])) ≡ Ok 2
-unfolding played decide history done meaning row_of rows lui_rows auipc_rows jal_rows jalr_rows branch_rows load_rows store_rows op_imm_rows op_imm_32_rows op_rows op_32_rows misc_mem_rows amo_rows system_rows are_readable number_at
-goes_on_at_second = refl
-
--- the child's store is what touched it
-not_touched : read_of shared (was_touched shared) (played shared parent_inside) ≡ Ok (Some false)
-unfolding played decide history done meaning row_of rows lui_rows auipc_rows jal_rows jalr_rows branch_rows load_rows store_rows op_imm_rows op_imm_32_rows op_rows op_32_rows misc_mem_rows amo_rows system_rows are_readable number_at
-not_touched = refl
-
-touched : read_of shared (was_touched shared) (played shared child_writes) ≡ Ok (Some true)
-unfolding played decide history done meaning row_of rows lui_rows auipc_rows jal_rows jalr_rows branch_rows load_rows store_rows op_imm_rows op_imm_32_rows op_rows op_32_rows misc_mem_rows amo_rows system_rows are_readable number_at
-touched = refl
+-- the child's store waits: the parent is inside still. It enters memory: then the parent isn't; the parent goes on with its second
+-- instruction, which is no longer of the sequence; the child's store is what touched it
+dropped_by_store :
+    (read_of shared (λ before. is_inside_at shared 0 before) (played shared child_stores) ≡ Ok true)  -- child waits
+    × (read_of shared (end_of_log shared) (played shared child_writes) ≡ Ok (Some ends.Dropped))  -- dropped
+    × (read_of shared (last_end shared) (played shared (child_writes ++ line 0 asked.Exec ∷ [])) ≡ Ok (Some ends.Dropped))  -- dropped goes on
+    × (read_of shared (λ before. register (file shared 1 before).file 5) (played shared (child_writes ++ line 0 asked.Exec ∷ [])) ≡ Ok 2)  -- goes on at second
+    × (read_of shared (was_touched shared) (played shared parent_inside) ≡ Ok (Some false))  -- not touched
+    × (read_of shared (was_touched shared) (played shared child_writes) ≡ Ok (Some true))  -- touched
+unfolding played decide history done are_readable number_at meaning row_of rows lui_rows auipc_rows jal_rows jalr_rows branch_rows load_rows store_rows op_imm_rows op_imm_32_rows op_rows op_32_rows misc_mem_rows amo_rows system_rows
+dropped_by_store = (refl, refl, refl, refl, refl, refl)

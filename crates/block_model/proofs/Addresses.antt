@@ -1,37 +1,12 @@
 -- What each event leaves, whether it was allowed or not: files whose pc is below 2^64 and handlers that lie there where it was so
 -- before, an end that isn't the end of a script, and a live thread where it didn't end the process.
 use Rattle.std.proofs.Common.{◌≡◌, ℕ, ◌+◌, ◌<◌, ◌&&◌, ◌||◌, length, refl, sym, ◌∙◌, arith, Bool, true, false, not, cond, eqb, leb, Option, Some, None}
-use Rattle.std.proofs.lemmas.Bool.{leb-false}
-use Rattle.std.proofs.lemmas.List.{length-map}
-use Rattle.mach_types.specs.Kernel.Threads.{state_if}
-use Rattle.mach_types.specs.Events.{choice_with}
-use Rattle.mach_types.specs.declared.events.Entry.{Entry}
-use Rattle.mach_types.specs.declared.events.Kind.{Kind}
-use Rattle.mach_types.specs.declared.limits.End.TheVariants.{Killed}
-use Rattle.mach_types.specs.declared.signals.TheConstants.{SIGSEGV}
-use Rattle.mach_types.specs.declared.threads.ThreadState.TheVariants.{Ready, Running}
-use Rattle.mach_types.specs.declared.address_space.TheConstants.{USER_END}
-use Rattle.mach_types.specs.declared.sequences.Area.{Area}
-use Rattle.mach_types.specs.declared.sequences.BadWhy.{BadWhy}
+use Rattle.block_model.proofs.Common.{Area, BadWhy, CallDone, Done, Entry, Here, IsSound, Killed, Kind, Named, Outcome, Ready, Running, SIGSEGV, Seq, USER_END, area_here, by_call, called, can_read_area, can_read_descriptor, choice_with, descriptor_at, done_of, fetched, files_interrupted, has_flags, interruption, interruption_here, is_clearable, is_inside, is_out_of_range, is_signed, is_writable, killed_by, leb-false, length-map, memory, named, named_by, pointer_of, sequence_of, signals_taken, state_if, view_of_all}
 use Rattle.mach_types.specs.declared.sequences.BadWhy.TheVariants as bad
 use Rattle.mach_types.specs.declared.sequences.Descriptor.{Descriptor}
-use Rattle.mach_types.specs.declared.sequences.Named.{Named}
 use Rattle.mach_types.specs.declared.sequences.Named.TheVariants as names
-use Rattle.mach_types.specs.declared.sequences.Outcome.{Outcome}
 use Rattle.mach_types.specs.declared.sequences.Outcome.TheVariants as comes_to
-use Rattle.mach_types.specs.declared.sequences.Seq.{Seq}
 use Rattle.mach_types.specs.Kernel.Areas as areas
-use Rattle.mach_types.specs.Kernel.Areas.{can_read_area, can_read_descriptor, descriptor_at, has_flags, interruption, is_clearable, is_inside, is_out_of_range, is_signed, named, named_by, pointer_of, sequence_of}
-use Rattle.block_model.specs.Here.{Here, Done, is_writable, memory, view_of_all}
-use Rattle.block_model.specs.Instruction.{fetched}
-use Rattle.block_model.specs.Events.{done_of}
-use Rattle.block_model.specs.Events.Exec.{by_call}
-use Rattle.block_model.specs.Events.Signal.{signals_taken}
-use Rattle.block_model.specs.Events.Take.{killed_by}
-use Rattle.block_model.specs.Sequences.{area_here, files_interrupted, interruption_here}
-use Rattle.block_model.specs.Calls.{called}
-use Rattle.block_model.specs.Calls.Answers.{CallDone}
-use Rattle.block_model.specs.Standing.{IsSound}
 use Rattle.block_model.proofs.EventEffects.{CallKills, Calls, EventDeed, Executes, FaultKills, Handles, Preempts, Restarts, Returns, RunKills, Runs, SignalKills, deed_of}
 use Rattle.block_model.proofs.Pcs.{outcome_stands}
 use Rattle.block_model.proofs.AddressesOfCalls.{AllStand, FilesStand, IsProperCall, NotOpen, SomeLive, not_ended, proper_called}
@@ -94,31 +69,25 @@ GoesLow (comes_to.Aborted at) = at < USER_END
 GoesLow (comes_to.Killed why) = Unit {0}
 
 aborted_low : (b c : Bool) (at : ℕ) → at < USER_END → GoesLow (cond b (comes_to.Killed bad.AreaBytes) (cond c (comes_to.Aborted at) comes_to.Cleared))
-aborted_low true c at low = tt
 aborted_low false true at low = low
-aborted_low false false at low = tt
+aborted_low b c at low = tt
 
 outcome_low : (can_write : ℕ → Bool) (area : Area) (pc : ℕ) (n : Named) → HasLowAbort n → GoesLow (areas.outcome_of can_write area pc n)
-outcome_low can_write area pc names.Nothing low = tt
-outcome_low can_write area pc (names.Bad why) low = tt
 outcome_low can_write area pc (names.Good sequence) low = aborted_low (not (is_clearable can_write area)) (is_inside sequence pc) sequence.abort low
+outcome_low can_write area pc other low = tt
 
 interruption_low : (byte : ℕ → Option ℕ) (can_write : ℕ → Bool) (o : Option Area) (pc : ℕ) → GoesLow (interruption byte can_write o pc)
 interruption_low byte can_write None pc = tt
 interruption_low byte can_write (Some area) pc = outcome_low can_write area pc (named byte area pc) (named_low byte area pc)
 
 interrupted_stand : (here : Here) (t : ℕ) (o : Outcome) → GoesLow o → FilesStand (files_interrupted here t o)
-interrupted_stand here t comes_to.Nothing low = tt
-interrupted_stand here t comes_to.Cleared low = tt
 interrupted_stand here t (comes_to.Aborted at) low = (omega arith, tt)
-interrupted_stand here t (comes_to.Killed why) low = tt
+interrupted_stand here t outcome low = tt
 
 -- a hart takes requests
 take_ends : (o : Outcome) → NotOpen (killed_by o)
-take_ends comes_to.Nothing = not_ended
-take_ends comes_to.Cleared = not_ended
-take_ends (comes_to.Aborted at) = not_ended
 take_ends (comes_to.Killed why) = ((λ is. absurd cc), (λ is. absurd cc))
+take_ends outcome = not_ended
 
 -- a call is proper; so is an event that sets no file, leaves handlers and threads as they are, and ends nothing; and one that kills
 by_proper_call : (here : Here) (c : CallDone) → IsProperCall here c → IsProper here (by_call here c)

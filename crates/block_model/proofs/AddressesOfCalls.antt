@@ -1,26 +1,12 @@
 -- What each call of the table leaves, whether its thread runs or not: files whose pc is below 2^64 and handlers that lie there where
 -- it was so before, an end that isn't the end of a script, and a live thread where it didn't end the process.
 use Rattle.std.proofs.Common.{◌≡◌, ℕ, ◌+◌, ◌<◌, ◌≤◌, List, [], ◌∷◌, length, map, filter, refl, sym, ◌∙◌, subst, Bool, true, false, not, cond, eqb, None, arith}
-use Rattle.std.specs.List.{AllByRecursion}
+use Rattle.block_model.proofs.Common.{AllByRecursion, CallDone, Here, IsSound, Kernel, Ready, Saved, Thread, Waiting, Write, answered_wait, argument, called, clear_of, cleared, clears, clone_child_cleartid, had_child, has_flag, is_thread, left, length-map, nat_tests, new_thread, next_number, numbers, restricted, signalled, state_if, sum_64, waited, wake, woken, woken_at_exit}
 use Rattle.std.specs.List.Sorted.{IsStrictlyIncreasing}
-use Rattle.std.proofs.lemmas.Bool.Decides.{nat_tests}
-use Rattle.std.proofs.lemmas.List.{length-map, length_push}
-use Rattle.mach_types.specs.declared.threads.Saved.{Saved}
-use Rattle.mach_types.specs.declared.threads.ThreadState.TheVariants.{Ready, Waiting}
-use Rattle.block_model.specs.Record.{Kernel}
-use Rattle.mach_types.specs.Kernel.Threads.{Thread, clear_if, clear_of, is_thread, new_thread, numbers, state_if}
-use Rattle.mach_types.specs.declared.user_memory.Write.{Write}
-use Rattle.rv_inst.specs.Words.{sum_64}
-use Rattle.block_model.specs.Here.{Here}
-use Rattle.block_model.specs.Kernel.{cleared, had_child, left, next_number, restricted, signalled, waited, woken}
-use Rattle.block_model.specs.Calls.{called}
-use Rattle.block_model.specs.Calls.Answers.{CallDone, argument}
-use Rattle.block_model.specs.Calls.Cloning.{clone_child_cleartid, has_flag}
-use Rattle.block_model.specs.Calls.Ending.{clears, woken_at_exit}
-use Rattle.block_model.specs.Calls.Futexes.{answered_wait, wake}
-use Rattle.block_model.specs.Standing.{IsSound}
+use Rattle.std.proofs.lemmas.List.{length_push}
+use Rattle.mach_types.specs.Kernel.Threads.{clear_if}
 use Rattle.block_model.proofs.Images.{frame_small}
-use Rattle.block_model.proofs.CallEffects.{Answers, Bears, Begins, Breaks, CallDeed, Clears, Ends, Exits, Leaves, MovesOff, Resumes, Says, Signalled, TableStep, Waits, Wakes}
+use Rattle.block_model.proofs.CallEffects.{Answers, Bears, Breaks, CallDeed, Clears, Ends, Exits, Leaves, MovesOff, Resumes, Signalled, TableStep, Waits, Wakes}
 pub use Rattle.block_model.proofs.CallEffects.{AllStand, NotOpen}
 use Rattle.block_model.proofs.CallEffects.EachCall.{deed_called}
 use Rattle.block_model.proofs.Invariants.Calls.Futexes.{kept_wake, wake_keeps}
@@ -87,9 +73,8 @@ rising_apart a b rest rising = rising 0 (omega arith)
 stays_one : (t : ℕ) (a b : Thread) (rest : List Thread) (p q : Bool) → eqb a.tid t ≡ p → eqb b.tid t ≡ q
     → a.tid < b.tid
     → 0 < length (cond (not p) (a ∷ cond (not q) (b ∷ rest) rest) (cond (not q) (b ∷ rest) rest))
-stays_one t a b rest false q ea eb lt = omega arith
-stays_one t a b rest true false ea eb lt = omega arith
 stays_one t a b rest true true ea eb lt = absurd (grind (arith, nat_tests))
+stays_one t a b rest p q ea eb lt = omega arith
 
 some_stay : (t : ℕ) (live : List Thread) → IsStrictlyIncreasing (numbers live) → 1 < length live
     → 0 < length (filter (λ th. not (is_thread t th)) live)
@@ -137,7 +122,6 @@ module _ (here : Here) (t number : ℕ) where
   pc_past = in_word (here.file t).pc 4
 
   proper_deed : {c : CallDone} → CallDeed here t number c → IsProperCall here c
-  proper_deed (Says n) = proper_going _ (λ all. (pc_past, tt)) (λ all. all.handlers) refl (omega arith)
   proper_deed (Answers n entered k no_error writes step) =
       let same = lives_step step in
       proper_going _ (λ all. (pc_past, tt)) (stand_step step) refl (omega arith)
@@ -164,11 +148,11 @@ module _ (here : Here) (t number : ℕ) where
       let more = child_lives_if t (next_number here.kernel) (argument here t 4) here.kernel clears in
       proper_going _ (λ all. (pc_past, (pc_past, tt)))
       (λ all. child_stand_if t (next_number here.kernel) (argument here t 4) here.kernel clears all.handlers) refl (omega arith)
-  proper_deed (Begins targets restart others no_error its_number) = proper_going _ (λ all. (pc_past, tt)) (λ all. all.handlers) refl (omega arith)
   proper_deed (Resumes words is its) =
       proper_going _ (λ all. (frame_small here all.bytes (here.file t) words is, tt)) (λ all. all.handlers) refl (omega arith)
   proper_deed (Ends entered e writes over) =
       record { files = λ all. tt; handlers = λ all. all.handlers; ended = over; live = λ sound some goes. absurd cc }
+  proper_deed other = proper_going _ (λ all. (pc_past, tt)) (λ all. all.handlers) refl (omega arith)
 
 pub proper_called : (here : Here) (t : ℕ) → IsProperCall here (called here t)
 proper_called here t = proper_deed here t _ (deed_called here t)

@@ -1,16 +1,11 @@
 -- Each live thread may run on some hart of the machine, at the start and after a step that keeps who is live and the affinities.
 use Rattle.std.proofs.Common.{◌≡◌, ◌≢◌, ℕ, ◌+◌, ◌-◌, ◌*◌, ◌/◌, ◌%◌, ◌^◌, ◌<◌, ◌≤◌, Bool, true, false, cond, ◌||◌, eqb, refl, sym, ap, ◌∙◌, arith, zero, suc, eq-eqb, List, [], ◌∷◌, ◌++◌, map, find, is_some, Option, None, Some, inl, inr}
-use Rattle.std.specs.List.{list_any}
-use Rattle.std.specs.Option.{option_map, option_map_or}
-use Rattle.std.proofs.lemmas.Bool.{eqb-true, cases_lt, false≢true}
-use Rattle.std.proofs.lemmas.Bool.Decides.{eqb_tells}
+use Rattle.block_model.proofs.Common.{IsTables, Scheduling, Thread, ThreadState, Threads, affinity_of, cases_lt, eqb-true, eqb_same, eqb_tells, false≢true, filtered_same, forget, has_hart, is_live, is_of, is_thread, list_any, new_thread, on, option_map, option_map_or, running_on, set_if, start_scheduling, start_threads, thread_of, with_affinity, with_child, with_ready, without}
 use Rattle.std.proofs.lemmas.Nat.{pow_pos, and_mask}
 use Rattle.std.proofs.Math.Nat.{pow-suc}
-use Rattle.mach_types.specs.Kernel.Scheduling.{Scheduling, is_of, has_hart, harts_in, affinity_of, all_harts, set_if, start_scheduling, with_affinity, with_ready, with_thread, forget}
-use Rattle.mach_types.specs.Kernel.Threads.{Thread, Threads, is_live, is_thread, thread_of, running_on, new_thread, start_threads, with_child, without}
-use Rattle.mach_types.specs.declared.threads.ThreadState.{ThreadState}
-use Rattle.mach_types.proofs.Laws.{differs, filtered_same, filtered_other, found_at_end, not_at_end, eqb_same, eqb_other}
-use Rattle.block_model.specs.Tables.{AllAllowed, IsTables, on}
+use Rattle.mach_types.specs.Kernel.Scheduling.{harts_in, all_harts, with_thread}
+use Rattle.mach_types.proofs.Laws.{differs, filtered_other, found_at_end, not_at_end, eqb_other}
+use Rattle.block_model.specs.Tables.{AllAllowed}
 use Rattle.block_model.proofs.KernelTables.{running_is}
 
 -- the affinities tell who is live

@@ -1,28 +1,11 @@
 -- Beside another process no thread ever gets an area, since rseq(2) isn't there.
-use Rattle.std.proofs.Common.{◌≡◌, ◌≢◌, ℕ, Bool, true, false, cond, [], Option, None, refl, sym, ap, ◌∙◌}
-use Rattle.mach_types.specs.Kernel.Areas.{without_area}
-use Rattle.mach_types.specs.Kernel.Threads.{clear_of}
-use Rattle.mach_types.specs.declared.events.Choice.{Choice}
-use Rattle.mach_types.specs.declared.events.Choice.TheVariants as asked
-use Rattle.mach_types.specs.declared.events.Entry.{Entry}
-use Rattle.mach_types.specs.declared.events.Kind.{Kind}
-use Rattle.mach_types.specs.declared.events.Kind.TheVariants as kind
-use Rattle.mach_types.specs.declared.events.Tid.{Tid}
-use Rattle.mach_types.specs.declared.user_memory.Write.{Write}
-use Rattle.std.specs.Prelude.{List}
-use Rattle.block_model.specs.Calls.{called}
-use Rattle.block_model.specs.Calls.Answers.{CallDone, argument, call_number}
-use Rattle.block_model.specs.Calls.Cloning.{clone_child_cleartid, has_flag}
-use Rattle.block_model.specs.Calls.Ending.{clears}
-use Rattle.block_model.specs.Calls.Futexes.{wake}
-use Rattle.block_model.specs.Events.{done_of}
-use Rattle.block_model.specs.Here.{Done, Here}
-use Rattle.block_model.specs.Kernel.{had_child, next_number}
-use Rattle.block_model.specs.Record.{Kernel}
+use Rattle.std.proofs.Common.{◌≡◌, ◌≢◌, ℕ, cond, [], None, ap, ◌∙◌, subst}
+use Rattle.block_model.proofs.Common.{CallDone, Choice, Done, Here, Kernel, Kind, List, Write, argument, call_number, clear_of, clears, clone_child_cleartid, done_of, entry_in, had_child, has_flag, next_number, without_area}
 use Rattle.block_model.proofs.CallEffects.{Answers, Bears, CallDeed, Exits, Registers, TableStep, Unregisters, Wakes}
 use Rattle.block_model.proofs.CallEffects.EachCall.{deed_called}
 use Rattle.block_model.proofs.EventEffects.{Calls, EventDeed, deed_of}
 use Rattle.block_model.proofs.OwnEvents.{areas_cleared, areas_woken}
+use Rattle.block_model.proofs.Runs.{choice_in}
 
 module _ (here : Here) (beside : here.beside ≢ None) (none : here.kernel.areas ≡ []) where
   module _ (t number : ℕ) where
@@ -46,17 +29,6 @@ module _ (here : Here) (beside : here.beside ≢ None) (none : here.kernel.areas
   none_deed (Calls t e next calls outside) = none_called t (call_number here t) (deed_called here t)
   none_deed deed = none
 
-  abbrev entry : Tid → Entry
-  entry t = record { hart = record { 0 = here.hart }; kind = kind.Run; tid = t; pc = 0 }
-
-  abbrev nobody : Tid
-  nobody = record { 0 = 0 }
-
   pub no_area_after : (c : Choice) → (done_of c here).kernel.areas ≡ []
-  no_area_after asked.Exec = none_deed (deed_of here kind.Exec (entry nobody))
-  no_area_after asked.Drain = none_deed (deed_of here kind.Drain (entry nobody))
-  no_area_after asked.Take = none_deed (deed_of here kind.Take (entry nobody))
-  no_area_after asked.Done = none_deed (deed_of here kind.Done (entry nobody))
-  no_area_after asked.Preempt = none_deed (deed_of here kind.Preempt (entry nobody))
-  no_area_after (asked.Run t) = none_deed (deed_of here kind.Run (entry t))
-  no_area_after asked.Signal = none_deed (deed_of here kind.Signal (entry nobody))
+  no_area_after c =
+      subst (λ d. (done_of d here).kernel.areas ≡ []) (choice_in c here) (none_deed (deed_of here (entry_in c here).kind (entry_in c here)))

@@ -1,32 +1,11 @@
 -- What a call's deed can be. Each call of the table is one of these (CallEffects/EachCall.antt); a law of all
 -- calls goes over them, and names no call.
 use Rattle.std.proofs.Common.{◌≡◌, ◌≢◌, ℕ, ◌+◌, ◌≤◌, ◌<◌, ◌^◌, List, [], ◌∷◌, length, map, refl, Bool, true, false, cond, Option, Some, None, arith}
-use Rattle.mach_types.specs.Kernel.Areas.{words_on, words_written}
-use Rattle.mach_types.specs.Kernel.Pages.{Pages}
-use Rattle.mach_types.specs.Kernel.SignalFrames.{frame_read}
-use Rattle.mach_types.specs.Kernel.Signals.{Signalling, next_for}
-use Rattle.mach_types.specs.Kernel.Threads.{is_full, waits}
-use Rattle.mach_types.specs.Registers.{register}
-use Rattle.mach_types.specs.declared.barriers.Registered.{Registered}
-use Rattle.mach_types.specs.declared.kernel_words.TheConstants.{CONSOLE_ROOM}
-use Rattle.mach_types.specs.declared.limits.End.{End}
+use Rattle.block_model.proofs.Common.{Area, CONSOLE_ROOM, CallDone, End, Here, IsError, IsGoodHere, Kernel, Pages, Registered, Signalling, Write, answered_wait, area_here, broken_wait, child_file, cleared, for_barriers, frame_read, id_of, is_full, is_writable, killed_in_call, left, memory, next_for, next_number, paged, printed, register, registered, restricted, resumed, returned, said, signalled, taken_by, unregistered, waited, waits, wake, with_new_child, woken, words_on, words_written}
 use Rattle.mach_types.specs.declared.limits.End.TheVariants as over
-use Rattle.mach_types.specs.declared.sequences.Area.{Area}
-use Rattle.mach_types.specs.declared.user_memory.Write.{Write}
-use Rattle.block_model.specs.Calls.Answers.{CallDone, Errors, killed_in_call, returned, said, unless}
+use Rattle.block_model.specs.Calls.Answers.{Errors, unless}
 use Rattle.block_model.specs.Calls.Barriers.{begins}
-use Rattle.block_model.specs.Calls.Cloning.{child_file, with_new_child}
 use Rattle.block_model.specs.Calls.Ending.{one_exits}
-use Rattle.block_model.specs.Calls.Futexes.{answered_wait, wake}
-use Rattle.block_model.specs.Calls.Memory.{taken_by}
-use Rattle.block_model.specs.Calls.Signals.{broken_wait, resumed}
-use Rattle.block_model.specs.ErrorCalls.{IsError}
-use Rattle.block_model.specs.Here.{Here, is_writable, memory}
-use Rattle.block_model.specs.Ids.{id_of}
-use Rattle.block_model.specs.Kernel.{cleared, for_barriers, left, next_number, paged, printed, registered, restricted, signalled, unregistered, waited, woken}
-use Rattle.block_model.specs.Record.{Kernel}
-use Rattle.block_model.specs.Sequences.{area_here}
-use Rattle.block_model.specs.Standing.{IsGoodHere}
 use Rattle.block_model.proofs.Barriers.Events.{IsAtOthers}
 use Rattle.block_model.proofs.Invariants.Calls.Conditions.{StaysWritable}
 use Rattle.block_model.proofs.IgnoredSignals.{AllHeeded}

@@ -1,53 +1,24 @@
 -- The choice of `run`: it is allowed, some hart has one while the run goes on, and a log of choices goes on by the entry that a
 -- hart makes next.
-use Rattle.std.proofs.Common.{◌≡◌, ◌≢◌, ℕ, ◌+◌, ◌%◌, ◌<◌, ◌≤◌, ◌&&◌, ◌||◌, List, [], ◌∷◌, ◌++◌, length, find, refl, sym, ap, ◌∙◌, subst, arith, Bool, true, false, not, cond, eqb, ltb, leb, Option, Some, None, Ok, is_none, is_some, zero, suc, ◌⊎◌, inl, inr}
-use Rattle.std.proofs.lemmas.Bool.{and_parts, cases_eq, cond-false, cond-true, cond_both, eq-eqb, eqb-true, false≢true, leb-false, lt-ltb, ltb-true, ne_eqb}
-use Rattle.std.proofs.lemmas.List.Sums.{fold-append}
+use Rattle.std.proofs.Common.{◌≡◌, ◌≢◌, ℕ, ◌%◌, ◌<◌, ◌&&◌, ◌||◌, List, [], ◌∷◌, ◌++◌, length, find, refl, sym, ap, ◌∙◌, subst, arith, Bool, true, false, not, cond, eqb, ltb, leb, Option, Some, None, Ok, is_none, is_some, zero, suc, ◌⊎◌, inl, inr}
+use Rattle.block_model.proofs.Common.{Choice, Effect, End, Entry, FullBuffer, Here, History, IsAllowedLog, IsChosen, IsGoodHere, IsRunHistory, IsSound, Kernel, NoRequest, Saved, Setting, Store, Thread, ThreadState, Why, affinity_of, and_parts, awaits, cases_eq, choice_at, choice_of, cond-false, cond-true, cond_both, decide, ended, entry_in, eqb-true, event, false≢true, fault_by, fault_in, fetched, first_for, first_ready, fold, fold-append, goes_on, has_ended, has_hart, here_in_history, history, instruction_gate, instruction_of, is_choice, is_deliverable_on, is_held, is_live, is_local_on, is_ready, is_ready_state, is_register_only, is_storable, is_stuck, is_waiting_state, kernel, leb-false, lt-ltb, ltb-true, luck, luck_after, meaning, ne_eqb, next_effect, next_entry, next_fault, not-false, numbers, option_map, option_map_or, option_or, others_gate, over_at, pick, pick_with, ran, reached, refusal_done_by, refusal_drain_of, refusal_exec, refusal_exec_by, refusal_of, refusal_preempt_by, refusal_return, requests, running_on, runs, sight_in, sight_with, state_of, thread, thread_of, times, unless, unless_waiting, waiting, waiting_here}
+use Rattle.std.proofs.lemmas.Bool.{eq-eqb}
 use Rattle.std.proofs.lemmas.Map.Keys.{sorted_from_strictly_increasing}
-use Rattle.std.specs.List.{fold}
-use Rattle.std.specs.Option.{option_map, option_map_or, option_or}
-use Rattle.mach_types.specs.Events.{choice_of}
-use Rattle.block_model.specs.Record.{Kernel}
-use Rattle.mach_types.specs.Kernel.Scheduling.{affinity_of, first_for, has_hart}
-use Rattle.mach_types.specs.Kernel.Threads.{Thread, goes_on, is_live, is_ready, is_ready_state, is_stuck, is_waiting_state, numbers, running_on, state_of, thread_of, times}
-use Rattle.mach_types.specs.declared.events.Choice.{Choice}
 use Rattle.mach_types.specs.declared.events.Choice.TheVariants as asked
-use Rattle.mach_types.specs.declared.events.Entry.{Entry}
 use Rattle.mach_types.specs.declared.events.Sight.{Sight}
-use Rattle.mach_types.specs.declared.events.Why.{Why}
-use Rattle.mach_types.specs.declared.events.Why.TheVariants.{FullBuffer, NoRequest, Waiting}
-use Rattle.mach_types.specs.declared.limits.End.{End}
-use Rattle.mach_types.specs.declared.threads.Saved.{Saved}
-use Rattle.mach_types.specs.declared.threads.ThreadState.{ThreadState}
+use Rattle.mach_types.specs.declared.events.Why.TheVariants.{Waiting}
 use Rattle.mach_types.specs.declared.threads.ThreadState.TheVariants as state
-use Rattle.mach_types.specs.declared.user_memory.Store.{Store}
 use Rattle.rv_inst.proofs.Laws.{local-rows}
 use Rattle.rv_inst.specs.Class.{sets_register}
-use Rattle.rv_inst.specs.Execution.{fault_in, instruction_gate}
-use Rattle.rv_inst.specs.Local.{is_register_only}
-use Rattle.rv_inst.specs.Meaning.{meaning}
-use Rattle.rv_inst.specs.declared.effects.Effect.{Effect}
 use Rattle.rv_inst.specs.declared.effects.Effect.TheVariants as effect
 use Rattle.rv_inst.specs.declared.instruction.Inst.{Inst}
-use Rattle.chooser.specs.Cases.{draws, by_word, credit_of, drains_by, emptied_before, has_credit, has_stores, leaves_by, on_credit, pick, pick_in, plainly, when_held_up, when_idle, when_in_barrier}
+use Rattle.chooser.specs.Cases.{by_word, credit_of, drains_by, emptied_before, has_credit, has_stores, leaves_by, on_credit, pick_in, plainly, when_held_up, when_idle, when_in_barrier}
 use Rattle.chooser.specs.Generators.{after_words, first_generator, word}
 use Rattle.chooser.specs.declared.cases.Case.{Case}
 use Rattle.chooser.specs.declared.cases.Case.TheVariants.{Settled, Open}
 use Rattle.chooser.specs.declared.chooser.Pick.{Pick}
-use Rattle.block_model.specs.Choosing.{IsChosen, Luck, all_chosen, choice_at, has_ended, is_choice, luck, luck_after, next_entry, number_of_choice, pick_at, pick_with, sight_with}
-use Rattle.block_model.specs.Deciding.{decide, entry_in, event, history, over_at, unless}
-use Rattle.block_model.specs.Events.{refusal_of}
-use Rattle.block_model.specs.Events.Drain.{refusal_drain_of}
-use Rattle.block_model.specs.Events.Finish.{refusal_done_by, refusal_return}
-use Rattle.block_model.specs.Events.Exec.{is_held, next_effect, next_fault, others_gate, refusal_exec, refusal_exec_by}
-use Rattle.block_model.specs.Events.Preempt.{refusal_preempt_by, unless_waiting}
-use Rattle.block_model.specs.Here.{Here, is_storable, reached, runs, waiting_here}
-use Rattle.block_model.specs.History.{History, awaits, ended, here_in_history, is_of_hart, kernel, ran, requests, waiting}
-use Rattle.block_model.specs.Instruction.{fault_by, fetched, instruction_of}
-use Rattle.block_model.specs.Run.{IsAllowedLog, IsRunHistory}
-use Rattle.block_model.specs.Setting.{Setting}
-use Rattle.block_model.specs.Sights.{first_ready, is_all_taken, is_deliverable_on, is_local_on, sight_in, thread}
-use Rattle.block_model.specs.Standing.{IsGoodHere, IsSound}
+use Rattle.block_model.specs.Choosing.{all_chosen, number_of_choice, pick_at}
+use Rattle.block_model.specs.Sights.{is_all_taken}
 use Rattle.block_model.proofs.Runs.{decided_is, IsAllowedLog-append, history-append, history-nil, settled}
 use Rattle.block_model.proofs.PlainEvents.{plain_of}
 use Rattle.block_model.proofs.RunEnds.{some_live, IsOpen, decide-open}
@@ -286,9 +257,8 @@ choice_by : (s : Setting) (seed h : ℕ) (before : History) (c : Choice) (over k
     → ltb h s.limits.harts ≡ known
     → cond over None (cond known (option_map (λ (p : Pick). p.choice) (pick_at s seed h before)) None) ≡ Some c
     → HasChoice s seed h before c
-choice_by s seed h before c true known at lt is = absurd cc
-choice_by s seed h before c false false at lt is = absurd cc
 choice_by s seed h before c false true at lt is = record { goes = at; lt = ltb-true h s.limits.harts lt; picked = is }
+choice_by s seed h before c over known at lt is = absurd cc
 
 has_choice : (s : Setting) (seed h : ℕ) (before : History) (c : Choice) → choice_at s seed h before ≡ Some c
     → HasChoice s seed h before c
@@ -333,11 +303,7 @@ held_up_picks (w ∷ stores) some = rw some refl
 
 -- no request is pending
 none_asks : (requests : ℕ) → not (eqb requests 0) ≡ false → requests ≡ 0
-none_asks requests is = eqb-true requests 0 (go (eqb requests 0) is)
-  where
-    go : (b : Bool) → not b ≡ false → b ≡ true
-    go true none = refl
-    go false some = absurd (false≢true (sym some))
+none_asks requests is = eqb-true requests 0 (not-false (eqb requests 0) is)
 
 busy_by : (here : Here) (t since credit r : ℕ) (why : Option Why) → IsGoing here → here.requests ≡ 0 → here.awaits ≡ None
     → runs here ≡ Some t → refusal_exec here ≡ why
@@ -500,7 +466,7 @@ picks_in : (s : Setting) (before : History) (at : GoesOnAt s (kernel s before)) 
 picks_in s before at None run none waits = going_where_none_waits s before at none (λ left is. let bad : None ≡ Some left = sym waits ∙ is in absurd cc)
 picks_in s before at (Some left) run none waits = elim (cases_eq left 0) [
   | inl over ↦ going_where_none_waits s before at none
-      (λ other is. let same : left ≡ other = some_is left other (sym waits ∙ is) in sym same ∙ over)
+      (λ other is. let both : Some left ≡ Some other = sym waits ∙ is in let same : left ≡ other = cc in sym same ∙ over)
   | inr some ↦
       let awaited = (settled s before run).good.awaited in
       let found = some_hart left some in
@@ -511,9 +477,6 @@ picks_in s before at (Some left) run none waits = elim (cases_eq left 0) [
         going = going_where_asked (here_in_history s before found.0) (some_in (requests found.0 before) at.hart pending);
       }
 ]
-  where
-    some_is : (a b : ℕ) → Some a ≡ Some b → a ≡ b
-    some_is a b is = cc
 
 picks_at : (s : Setting) (before : History) → IsRunHistory s before → GoesOnAt s (kernel s before)
     → ((k : ℕ) × (k < s.limits.harts) × (ltb 0 (length (waiting k before)) ≡ true)) ⊎ ((k : ℕ) → k < s.limits.harts → waiting k before ≡ [])
@@ -620,52 +583,3 @@ pub next_is_none : (s : Setting) (seed : ℕ) (log : List Entry) (h : ℕ) → h
     → next_entry s seed h (history s log) ≡ None
 unfolding next_entry choice_at
 next_is_none s seed log h over = rw over refl
-
--- credits
-
--- a pick gives at most 7
-plain_credit : (o : Option Choice) → option_map_or (λ (p : Pick). p.credit) (option_map plainly o) 0 ≤ 7
-plain_credit None = omega arith
-plain_credit (Some c) = omega arith
-
-word_credit : (r : ℕ) (seen : Sight) → (by_word r seen).credit ≤ 7
-word_credit r seen =
-    cond_both (leaves_by r seen) (plainly asked.Preempt) (cond (drains_by r seen) (plainly asked.Drain) (record { choice = asked.Exec; credit = credit_of r }))
-    (λ p. p.credit ≤ 7) (λ leaves. omega arith)
-    (λ stays. cond_both (drains_by r seen) (plainly asked.Drain) (record { choice = asked.Exec; credit = credit_of r }) (λ p. p.credit ≤ 7)
-    (λ drains. omega arith) (λ executes. omega arith))
-
--- the credit after a case is at most 7
-abbrev IsSmall : Sight → ℕ → Case → Type 0
-IsSmall seen r c = option_map_or (λ (p : Pick). p.credit) (pick_in c r seen) 0 ≤ 7
-
-small_of : (seen : Sight) (r : ℕ) (b : Bool) (x y : Case) → IsSmall seen r x → IsSmall seen r y
-    → IsSmall seen r (cond b x y)
-small_of seen r true x y p q = p
-small_of seen r false x y p q = q
-
-pick_credit : (seen : Sight) (r : ℕ) → seen.credit ≤ 7 → option_map_or (λ (p : Pick). p.credit) (pick seen r) 0 ≤ 7
-unfolding pick
-pick_credit seen r small =
-    small_of seen r seen.idle _ _ (plain_credit (when_idle seen))
-    (small_of seen r seen.in_barrier _ _ (plain_credit (when_in_barrier seen))
-    (small_of seen r (has_credit seen) _ _ (omega (arith, small))
-    (small_of seen r seen.requested _ _ (omega arith)
-    (small_of seen r seen.deliverable _ _ (omega arith)
-    (small_of seen r seen.exec_enabled _ _ (word_credit r seen) (plain_credit (when_held_up seen)))))))
-
--- the luck after an event, picked or not
-small_after : (c : Choice) (seen : Sight) (r : ℕ) (l : Luck) → seen.credit ≤ 7 → (luck_after c seen (pick seen r) l).credit ≤ 7
-small_after c seen r l small =
-    cond_both (is_choice (option_map (λ (p : Pick). p.choice) (pick seen r)) c)
-    (record { drawn = cond (draws seen) (l.drawn + 1) l.drawn; credit = option_map_or (λ (p : Pick). p.credit) (pick seen r) 0 })
-    (record { drawn = l.drawn; credit = 0 }) (λ (x : Luck). x.credit ≤ 7)
-    (λ picked. pick_credit seen r small) (λ other. omega arith)
-
-pub credit_is_small : (s : Setting) (seed h : ℕ) (before : History) → (luck s seed h before).credit ≤ 7
-credit_is_small s seed h [] = omega arith
-credit_is_small s seed h (e ∷ before) =
-    let l = luck s seed h before in
-    cond_both (is_of_hart h e) (luck_after (choice_of e.entry) (sight_with s h before l) (pick_with s seed h before l) l) l (λ (x : Luck). x.credit ≤ 7)
-    (λ own. small_after (choice_of e.entry) (sight_with s h before l) (word (after_words l.drawn (first_generator seed h))) l (credit_is_small s seed h before))
-    (λ other. credit_is_small s seed h before)

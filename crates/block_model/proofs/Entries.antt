@@ -1,24 +1,8 @@
 -- What holds of each entry of a run: its hart is one of the machine, its thread has a number that was given or is none, and its
 -- pc is below 2^64.
 use Rattle.std.proofs.Common.{◌≡◌, ℕ, ◌^◌, ◌<◌, ◌≤◌, ◌+◌, ◌-◌, List, [], ◌∷◌, refl, sym, subst, arith, Bool, true, false, cond, eqb, Option, Some, None, find, is_some, length}
-use Rattle.std.specs.List.{fold, All, AllByRecursion}
-use Rattle.std.specs.Option.{option_map}
-use Rattle.std.proofs.lemmas.Bool.{eqb-true}
-use Rattle.std.proofs.lemmas.List.Elements.{All-from_recursion, All-head, All-tail}
-use Rattle.mach_types.specs.Events.{choice_of}
-use Rattle.mach_types.specs.Kernel.Threads.{IsThreads, Thread, Threads, is_thread, numbers, state_of}
-use Rattle.mach_types.specs.declared.events.Choice.{Choice}
+use Rattle.block_model.proofs.Common.{All, All-from_recursion, All-head, All-tail, AllByRecursion, Choice, Entry, Event, Here, History, IsAllowedLog, IsRunHistory, IsSound, IsThreads, Saved, Setting, Thread, ThreadState, Threads, byte, choice_of, eqb-true, event, file, file_among, fold, here_in_history, history, is_thread, kernel, number_of, numbers, option_map, pc_in, refusal_of, runs, state_of, thread_in}
 use Rattle.mach_types.specs.declared.events.Choice.TheVariants as asked
-use Rattle.mach_types.specs.declared.events.Entry.{Entry}
-use Rattle.mach_types.specs.declared.threads.Saved.{Saved}
-use Rattle.mach_types.specs.declared.threads.ThreadState.{ThreadState}
-use Rattle.block_model.specs.Setting.{Setting}
-use Rattle.block_model.specs.Here.{Here, runs}
-use Rattle.block_model.specs.Events.{refusal_of}
-use Rattle.block_model.specs.History.{Event, History, byte, file, file_among, here_in_history, kernel}
-use Rattle.block_model.specs.Deciding.{event, history, number_of, pc_in, thread_in}
-use Rattle.block_model.specs.Run.{IsRunHistory, IsAllowedLog}
-use Rattle.block_model.specs.Standing.{IsSound}
 use Rattle.block_model.proofs.Runs.{allowed_at, length-history, settled}
 use Rattle.block_model.proofs.Images.{HaveBytes, start_small, written_small}
 use Rattle.block_model.proofs.RunEnds.{proper_at}

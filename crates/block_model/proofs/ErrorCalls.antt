@@ -1,42 +1,12 @@
 -- Each call of the table is refused, or gives no error at its own entry; and an event of a block run that gives an error changes nothing
 -- else.
 use Rattle.std.proofs.Common.{◌≡◌, ◌≢◌, refl, ℕ, ◌<◌, ◌≤◌, ◌^◌, ◌⊎◌, inl, inr, List, [], ◌∷◌, length, map, set, get_or, sym, ap, ◌∙◌, subst, true, false, cond, Option, Some, None, is_some, arith, zero, suc, ◌-◌, ◌++◌, Bool}
-use Rattle.std.proofs.lemmas.Bool.{false≢true, ne_eqb}
-use Rattle.mach_types.proofs.Laws.{eqb_same, filtered_same}
-use Rattle.mach_types.specs.Kernel.Threads.{Thread, is_live}
-use Rattle.mach_types.specs.Registers.{register}
-use Rattle.mach_types.specs.declared.threads.Saved.{Saved}
-use Rattle.mach_types.specs.declared.user_memory.Write.{Write}
-use Rattle.rv_inst.specs.Words.{sum_64}
-use Rattle.block_model.specs.Calls.{called}
-use Rattle.block_model.specs.Calls.Answers.{CallDone, call_number, negative, returned, said, killed_in_call}
-use Rattle.block_model.specs.Calls.Cloning.{child_file, with_new_child}
-use Rattle.block_model.specs.Calls.Ending.{woken_at_exit}
-use Rattle.block_model.specs.Calls.Futexes.{answered_wait, wake}
-use Rattle.block_model.specs.Calls.Signals.{broken_wait}
-use Rattle.block_model.specs.ErrorCalls.{IsError, GivesError, GivesErrorAlone, IsCall, up_to}
-use Rattle.block_model.specs.Here.{Here, Done, is_writable, memory, runs}
-use Rattle.block_model.specs.History.{file_among, History, byte, file, here_in_history, kernel}
-use Rattle.block_model.specs.Kernel.{gone, next_number, signalled, woken}
-use Rattle.block_model.specs.Record.{Kernel}
+use Rattle.block_model.proofs.Common.{CallDone, Choice, Done, Entry, GivesError, Here, History, IsAllowedLog, IsError, IsRunHistory, Kernel, Killed, SIGSEGV, Saved, Setting, Thread, Write, answered_wait, broken_wait, by_call, by_effect, byte, call_number, called, called_here, child_file, choice_of, done, done_exec_by, done_of, eqb_same, event, false≢true, fault_by, fetched, file, file_among, filtered_same, fold, gone, here_in_history, history, is_inside_here, is_live, is_writable, kernel, killed_in_call, memory, ne_eqb, negative, next_number, number_of, refusal_exec, refusal_exec_by, refusal_of, register, returned, runs, said, signalled, sum_64, thread_in, wake, with_new_child, woken, woken_at_exit, written}
+use Rattle.block_model.specs.ErrorCalls.{GivesErrorAlone, IsCall, up_to}
 use Rattle.block_model.proofs.CallEffects.{Answers, AreFew, Bears, Begins, Breaks, CallDeed, Ends, Exits, Resumes, Says, Wakes, small_no_error}
 use Rattle.block_model.proofs.CallEffects.EachCall.{deed_called}
 use Rattle.block_model.proofs.Invariants.Calls.Futexes.{wake_by}
-use Rattle.std.specs.List.{fold}
-use Rattle.mach_types.specs.Bytes.{written}
-use Rattle.mach_types.specs.Events.{choice_of}
-use Rattle.mach_types.specs.declared.events.Choice.{Choice}
 use Rattle.mach_types.specs.declared.events.Choice.TheVariants as asked
-use Rattle.mach_types.specs.declared.events.Entry.{Entry}
-use Rattle.mach_types.specs.declared.limits.End.TheVariants.{Killed}
-use Rattle.mach_types.specs.declared.signals.TheConstants.{SIGSEGV}
-use Rattle.block_model.specs.Sequences.{is_inside_here}
-use Rattle.block_model.specs.Deciding.{done, event, history, number_of, thread_in}
-use Rattle.block_model.specs.Events.{done_of, refusal_of}
-use Rattle.block_model.specs.Events.Exec.{by_call, called_here, by_effect, done_exec_by, refusal_exec, refusal_exec_by}
-use Rattle.block_model.specs.Instruction.{fault_by, fetched}
-use Rattle.block_model.specs.Run.{IsAllowedLog, IsRunHistory}
-use Rattle.block_model.specs.Setting.{Setting}
 use Rattle.block_model.proofs.Runs.{IsAllowed, allowed_at, run_before, settled}
 use Rattle.block_model.proofs.Entries.{given_below, thread_given}
 use Rattle.block_model.proofs.Replay.{history-more}

@@ -1,30 +1,12 @@
 -- What an event's deed can be, whether it was allowed or not. Each event is one of these; a law of all events
 -- goes over them, and tells no kinds apart.
 use Rattle.std.proofs.Common.{◌≡◌, ℕ, List, [], ◌∷◌, refl, Bool, true, false, cond, Option, Some, None}
-use Rattle.mach_types.specs.Events.{choice_with}
-use Rattle.mach_types.specs.Kernel.Signals.{next_for, with_pending}
-use Rattle.mach_types.specs.Registers.{with_register}
-use Rattle.mach_types.specs.declared.events.Entry.{Entry}
-use Rattle.mach_types.specs.declared.events.Kind.{Kind}
+use Rattle.block_model.proofs.Common.{Done, Effect, Entry, Here, Killed, Kind, Store, Stored, by_call, by_effect, by_outcome, called, choice_with, done_done_by, done_drain_of, done_exec_by, done_killed, done_next, done_of, done_preempt_by, done_running, done_signal_by, done_take_by, handled, handled_unless_killed, has_handler, interruption_here, is_call, is_inside_here, killed_in_call, kills, left, lives_on, next_effect, next_fault, next_for, nothing, one_instruction, only_took, outcome_of, runs, signalled, took_and_interrupted, waiting_here, with_pending, with_register}
+use Rattle.mach_types.specs.Events.{kind_of}
+use Rattle.mach_types.specs.declared.events.Choice.{Choice}
+use Rattle.mach_types.specs.declared.events.Choice.TheVariants as asked
 use Rattle.mach_types.specs.declared.events.Kind.TheVariants as kind
-use Rattle.mach_types.specs.declared.limits.End.TheVariants.{Killed}
-use Rattle.mach_types.specs.declared.user_memory.Store.{Store}
-use Rattle.mach_types.specs.declared.user_memory.Write.TheVariants.{Stored}
-use Rattle.rv_inst.specs.Class.{is_call}
-use Rattle.rv_inst.specs.declared.effects.Effect.{Effect}
-use Rattle.block_model.specs.Calls.{called}
-use Rattle.block_model.specs.Calls.Answers.{killed_in_call}
-use Rattle.block_model.specs.Events.{done_of}
-use Rattle.block_model.specs.Events.Drain.{done_drain_of}
-use Rattle.block_model.specs.Events.Exec.{by_call, by_effect, by_outcome, done_exec_by, has_handler, next_effect, next_fault, one_instruction, outcome_of}
-use Rattle.block_model.specs.Events.Finish.{done_done_by}
-use Rattle.block_model.specs.Events.Preempt.{done_preempt_by}
-use Rattle.block_model.specs.Events.Run.{done_killed, done_running, lives_on}
-use Rattle.block_model.specs.Events.Signal.{done_next, done_signal_by, handled, handled_unless_killed, kills, only_taken}
-use Rattle.block_model.specs.Events.Take.{done_take_by, only_took, took_and_interrupted}
-use Rattle.block_model.specs.Here.{Done, Here, nothing, runs, waiting_here}
-use Rattle.block_model.specs.Kernel.{left, signalled}
-use Rattle.block_model.specs.Sequences.{interruption_here, is_inside_here}
+use Rattle.block_model.specs.Events.Signal.{only_taken}
 
 -- thread t runs on the hart, and its next instruction makes a fault; or it makes none
 pub record IsFault (here : Here) (t signal : ℕ) : Type 0 where
@@ -114,9 +96,8 @@ module _ (here : Here) (tid : ℕ) where
 
   deed_take : (restart : Bool) (r : Option ℕ) → runs here ≡ r
       → EventDeed here tid kind.Take (done_take_by here restart r)
-  deed_take false r at = Takes
-  deed_take true None at = Takes
   deed_take true (Some t) at = Restarts t at
+  deed_take b o at = Takes
 
   deed_done : (r : Option ℕ) → runs here ≡ r → EventDeed here tid kind.Done (done_done_by here r)
   deed_done None at = Nothing kind.Done
@@ -150,3 +131,18 @@ deed_of here kind.Run x =
     either here x.tid.0 kind.Run (lives_on here x.tid.0 (interruption_here here x.tid.0)) _ _ (λ _. Runs)
     (λ _. RunKills)
 deed_of here kind.Signal x = deed_signal here x.tid.0 (runs here) refl
+
+-- the thread of a choice that begins to run; 0 of any other one
+abbrev pub begun_by : Choice → ℕ
+begun_by (asked.Run t) = t.0
+begun_by c = 0
+
+pub deed_chosen : (here : Here) (c : Choice) → EventDeed here (begun_by c) (kind_of c) (done_of c here)
+deed_chosen here asked.Exec = deed_exec here 0 (runs here) refl
+deed_chosen here asked.Drain = deed_drain here 0 (waiting_here here) refl
+deed_chosen here asked.Take = deed_take here 0 here.restart (runs here) refl
+deed_chosen here asked.Done = deed_done here 0 (runs here) refl
+deed_chosen here asked.Preempt = deed_preempt here 0 (runs here) refl
+deed_chosen here (asked.Run t) =
+    either here t.0 kind.Run (lives_on here t.0 (interruption_here here t.0)) _ _ (λ _. Runs) (λ _. RunKills)
+deed_chosen here asked.Signal = deed_signal here 0 (runs here) refl

@@ -1,13 +1,7 @@
 -- Programs, lines of scripts and entries of logs that the worked examples share.
 use Rattle.std.proofs.Common.{ℕ, List, [], ◌∷◌, ◌++◌, replicate, None, Result, Ok, Err}
-use Rattle.mach_types.specs.declared.events.Choice.{Choice}
-use Rattle.mach_types.specs.declared.events.Entry.{Entry}
-use Rattle.mach_types.specs.declared.events.Kind.{Kind}
-use Rattle.mach_types.specs.declared.limits.End.{End}
-use Rattle.block_model.specs.Deciding.{end_of, history}
+use Rattle.block_model.proofs.Common.{Ask, Choice, End, Entry, Kind, Setting, end_of, history}
 use Rattle.block_model.specs.History.{console}
-use Rattle.block_model.specs.Replay.{Ask}
-use Rattle.block_model.specs.Setting.{Setting}
 
 -- a program of two segments, its code at 0x100B0, and a page at 0x20000 that is read and written and begins with these bytes
 abbrev pub code_and_page : List ℕ → List ℕ → Setting

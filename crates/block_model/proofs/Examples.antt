@@ -1,40 +1,16 @@
 -- Worked examples, proved by computation: what small programs do, read off a log and done by the plain machine.
 use Rattle.std.proofs.Common.{◌≡◌, ℕ, ◌-◌, ◌^◌, List, [], ◌∷◌, ◌++◌, replicate, map, refl, true, false, Option, Some, None, Result, Ok, Err}
-use Rattle.mach_types.specs.declared.events.Choice.{Choice}
+use Rattle.block_model.proofs.Common.{Ask, CallDone, Choice, Entry, Here, History, Idle, IsSolo, NoHart, NoRequest, NoSignal, NotAllowed, NotEnabled, NotInBarrier, NotReady, Refused, Setting, Store, Stored, ThreadState, Threads, Write, Zeroed, all_signals, amo_rows, auipc_rows, branch_rows, called, can_be_written, clear_of, decide, done, end_of, entry_in, events, file, final, first_ready, here_in_history, history, is_local_on, is_register_only, is_stuck, jal_rows, jalr_rows, kernel, left, load_rows, lost_after, lui_rows, meaning, memory, misc_mem_rows, no_registers, nothing, op_32_rows, op_imm_32_rows, op_imm_rows, op_rows, plain_after, plain_solo, played, ran, refusal_run, register, row_of, rows, running, sight_in, solo_choice, solo_rule, start_threads, state_of, store_rows, system_rows, view, with_register, with_state}
 use Rattle.mach_types.specs.declared.events.Choice.TheVariants as asked
-use Rattle.mach_types.specs.declared.events.Entry.{Entry}
 use Rattle.mach_types.specs.declared.events.Kind.TheVariants as kind
 use Rattle.mach_types.specs.declared.events.Sight.{Sight}
-use Rattle.mach_types.specs.declared.events.Why.TheVariants.{Busy, Idle, NoHart, NotAllowed, NotReady, NoRequest, NotInBarrier, NoSignal, NoStore}
-use Rattle.mach_types.specs.declared.limits.End.{End}
+use Rattle.mach_types.specs.declared.events.Why.TheVariants.{Busy, NoStore}
 use Rattle.mach_types.specs.declared.limits.End.TheVariants as over
-use Rattle.mach_types.specs.declared.threads.ThreadState.{ThreadState}
 use Rattle.mach_types.specs.declared.threads.ThreadState.TheVariants as state
-use Rattle.mach_types.specs.declared.user_memory.Store.{Store}
-use Rattle.mach_types.specs.declared.user_memory.Write.{Write}
-use Rattle.mach_types.specs.declared.user_memory.Write.TheVariants.{Stored, Zeroed}
-use Rattle.mach_types.specs.Kernel.Signals.{all_signals}
-use Rattle.mach_types.specs.Kernel.Threads.{Threads, clear_of, is_stuck, start_threads, state_of, with_state}
-use Rattle.mach_types.specs.Registers.{no_registers, register, with_register}
 use Rattle.rv_inst.specs.declared.effects.Effect.TheVariants as effect
-use Rattle.rv_inst.specs.Local.{is_register_only}
-use Rattle.rv_inst.specs.Meaning.{meaning}
-use Rattle.rv_inst.specs.Table.{row_of, rows, lui_rows, auipc_rows, jal_rows, jalr_rows, branch_rows, load_rows, store_rows, op_imm_rows, op_imm_32_rows, op_rows, op_32_rows, misc_mem_rows, amo_rows, system_rows}
-use Rattle.block_model.specs.Calls.{called}
-use Rattle.block_model.specs.Calls.Answers.{CallDone}
-use Rattle.block_model.specs.Deciding.{history, decide, done, end_of, entry_in, final}
-use Rattle.block_model.specs.Events.Run.{refusal_run}
-use Rattle.block_model.specs.Here.{Here, memory, view, nothing}
-use Rattle.block_model.specs.History.{History, byte, can_be_written, events, file, here_in_history, kernel, lost_after, ran, reservation, running}
+use Rattle.block_model.specs.History.{reservation}
 use Rattle.block_model.specs.Instruction.{next_fault}
-use Rattle.block_model.specs.Kernel.{left}
-use Rattle.block_model.specs.Plain.{PlainRun, plain_after, plain_decide, plain_run, plain_solo, plain_end}
-use Rattle.block_model.specs.Replay.{Ask, played, played_read}
-use Rattle.block_model.specs.Setting.{Setting}
-use Rattle.block_model.specs.Sights.{effect_here, first_ready, is_local_on, sight_in}
-use Rattle.block_model.specs.Solo.{IsSolo, solo_choice, solo_rule}
-use Rattle.block_model.specs.declared.refusals.Refused.{Refused}
-use Rattle.block_model.specs.declared.refusals.Refused.TheVariants.{Ended, NotEnabled}
+use Rattle.block_model.specs.Sights.{effect_here}
 use Rattle.block_model.proofs.ExamplePrograms.{code_and_data, entry, line, outcome}
 
 -- a program of one segment that is read and executed, its code at 0x10078
@@ -59,11 +35,6 @@ execs n = replicate n (line asked.Exec)
 abbrev drains : ℕ → List Ask
 drains n = replicate n (line asked.Drain)
 
--- what was written and how it ended by the plain machine
-abbrev plain_outcome : Setting → Result PlainRun ℕ → Result (List ℕ × End) ℕ
-plain_outcome s (Ok run) = Ok (run.machine.kernel.console, plain_end s run.machine)
-plain_outcome s (Err n) = Err n
-
 -- `addi x10, x0, 7`, `addi x17, x0, 93`, `ecall`: exits with 7
 abbrev exits : Setting
 exits = code_alone (0x13 ∷ 0x05 ∷ 0x70 ∷ 0x00 ∷ 0x93 ∷ 0x08 ∷ 0xD0 ∷ 0x05 ∷ 0x73 ∷ 0x00 ∷ 0x00 ∷ 0x00 ∷ [])
@@ -71,68 +42,14 @@ exits = code_alone (0x13 ∷ 0x05 ∷ 0x70 ∷ 0x00 ∷ 0x93 ∷ 0x08 ∷ 0xD0 �
 exit_log : List Entry
 exit_log = entry kind.Run 0x10078 ∷ entry kind.Exec 0x10078 ∷ entry kind.Exec 0x1007C ∷ entry kind.Exec 0x10080 ∷ []
 
-exit_played : played exits (starts ∷ execs 3) ≡ Ok exit_log
-unfolding exit_log played decide history done meaning row_of rows lui_rows auipc_rows jal_rows jalr_rows branch_rows load_rows store_rows op_imm_rows op_imm_32_rows op_rows op_32_rows misc_mem_rows amo_rows system_rows
-exit_played = refl
-
-exit_ends : end_of exits (history exits exit_log) ≡ over.Exit 7
-unfolding exit_log decide history done end_of meaning row_of rows lui_rows auipc_rows jal_rows jalr_rows branch_rows load_rows store_rows op_imm_rows op_imm_32_rows op_rows op_32_rows misc_mem_rows amo_rows system_rows
-exit_ends = refl
-
-exit_solo : (plain_solo exits 200).log ≡ exit_log
-unfolding all_signals exit_log plain_solo meaning row_of rows lui_rows auipc_rows jal_rows jalr_rows branch_rows load_rows store_rows op_imm_rows op_imm_32_rows op_rows op_32_rows misc_mem_rows amo_rows system_rows
-exit_solo = refl
-
-exit_after : plain_end exits (plain_after exits exit_log) ≡ over.Exit 7
-unfolding exit_log plain_after meaning row_of rows lui_rows auipc_rows jal_rows jalr_rows branch_rows load_rows store_rows op_imm_rows op_imm_32_rows op_rows op_32_rows misc_mem_rows amo_rows system_rows
-exit_after = refl
-
 -- no event comes after the end
-exit_over : played exits (starts ∷ execs 4) ≡ Err 5
-unfolding played decide history done meaning row_of rows lui_rows auipc_rows jal_rows jalr_rows branch_rows load_rows store_rows op_imm_rows op_imm_32_rows op_rows op_32_rows misc_mem_rows amo_rows system_rows
-exit_over = refl
-
--- the same under a limit of 4 events, which the log then reaches: the end is still the exit, and the answer too; under a
--- limit of 3 the last is refused, and the end is the limit
-abbrev exits_within : ℕ → Setting
-exits_within steps = record exits { limits = record { harts = 2; frames = 4096; steps = steps } }
-
-ended_not_full : decide (exits_within 4) (history (exits_within 4) exit_log) 0 asked.Exec ≡ Err (Ended (over.Exit 7))
-unfolding exit_log decide history done meaning row_of rows lui_rows auipc_rows jal_rows jalr_rows branch_rows load_rows store_rows op_imm_rows op_imm_32_rows op_rows op_32_rows misc_mem_rows amo_rows system_rows
-ended_not_full = refl
-
-exit_at_limit : outcome (exits_within 4) (played (exits_within 4) (starts ∷ execs 3)) ≡ Ok ([], over.Exit 7)
-unfolding played decide history done end_of meaning row_of rows lui_rows auipc_rows jal_rows jalr_rows branch_rows load_rows store_rows op_imm_rows op_imm_32_rows op_rows op_32_rows misc_mem_rows amo_rows system_rows
-exit_at_limit = refl
-
-full : played (exits_within 3) (starts ∷ execs 3) ≡ Err 4
-unfolding played decide history done meaning row_of rows lui_rows auipc_rows jal_rows jalr_rows branch_rows load_rows store_rows op_imm_rows op_imm_32_rows op_rows op_32_rows misc_mem_rows amo_rows system_rows
-full = refl
-
-limit_reached : outcome (exits_within 3) (played (exits_within 3) (starts ∷ execs 2)) ≡ Ok ([], over.Limit)
-unfolding played decide history done end_of meaning row_of rows lui_rows auipc_rows jal_rows jalr_rows branch_rows load_rows store_rows op_imm_rows op_imm_32_rows op_rows op_32_rows misc_mem_rows amo_rows system_rows
-limit_reached = refl
-
--- a script without lines makes an empty log, and leaves the run open
-no_line : outcome exits (played exits []) ≡ Ok ([], over.Unended)
-unfolding played decide history done end_of
-no_line = refl
-
--- a line that says its event's thread and pc is refused where either isn't so
-abbrev starts_at : ℕ → ℕ → Ask
-starts_at t pc = record starts { check = Some (record { 0 = t }, pc) }
-
-checked_lines :
-    (played exits (starts_at 1 0x10078 ∷ []) ≡ Ok (entry kind.Run 0x10078 ∷ []))  -- right check
-    × (played exits (starts_at 2 0x10078 ∷ []) ≡ Err 1)  -- wrong thread
-    × (played exits (starts_at 1 0x1007C ∷ []) ≡ Err 1)  -- wrong pc
-unfolding played decide history done
-checked_lines = (refl, refl, refl)
-
--- a line that can't be read is refused, and with its number
-unread_line : played_read exits (Some starts ∷ None ∷ Some starts ∷ []) ≡ Err 2
-unfolding played_read decide history done
-unread_line = refl
+exit_run :
+    (played exits (starts ∷ execs 3) ≡ Ok exit_log)  -- exit played
+    × (end_of exits (history exits exit_log) ≡ over.Exit 7)  -- exit ends
+    × ((plain_solo exits 200).log ≡ exit_log)  -- exit solo
+    × (played exits (starts ∷ execs 4) ≡ Err 5)  -- exit over
+unfolding exit_log played decide history done end_of all_signals plain_solo plain_after meaning row_of rows lui_rows auipc_rows jal_rows jalr_rows branch_rows load_rows store_rows op_imm_rows op_imm_32_rows op_rows op_32_rows misc_mem_rows amo_rows system_rows
+exit_run = (refl, refl, refl, refl)
 
 -- why an event is refused after the first so many entries of that log: an idle hart executes nothing and its thread can't leave;
 -- a hart that the machine doesn't have; a second `run`; a thread that isn't there, and one that runs elsewhere; no store to
@@ -167,11 +84,6 @@ no_signal : answer begun 0 asked.Signal ≡ Err (NotEnabled NoSignal)
 unfolding all_signals decide history done
 no_signal = refl
 
--- the plain machine answers the same
-plain_busy : plain_decide exits (plain_after exits begun) 0 first ≡ Err (NotEnabled Busy)
-unfolding plain_after
-plain_busy = refl
-
 -- where the affinity of thread 1 is hart 1 alone, hart 0 may not run it, and finds no thread to run
 abbrev on_hart_1 : Here
 on_hart_1 =
@@ -192,47 +104,28 @@ left_log = begun ++ (entry kind.Exec 0x10078 ∷ entry kind.Preempt 0x1007C ∷ 
 abbrev thread_1 : Setting → List Entry → Option ThreadState × List ℕ
 thread_1 s log = (state_of 1 (kernel s (history s log)).threads, (kernel s (history s log)).scheduling.order)
 
-at_start : thread_1 exits [] ≡ (Some state.Ready, 1 ∷ [])
-unfolding history
-at_start = refl
-
-when_begun : thread_1 exits begun ≡ (Some (state.Running (record { 0 = 0 })), [])
-unfolding history done
-when_begun = refl
-
-when_left : thread_1 exits left_log ≡ (Some state.Ready, 1 ∷ [])
-unfolding history done meaning row_of rows lui_rows auipc_rows jal_rows jalr_rows branch_rows load_rows store_rows op_imm_rows op_imm_32_rows op_rows op_32_rows misc_mem_rows amo_rows system_rows
-when_left = refl
-
-runs_on_0 : running exits 0 (history exits begun) ≡ Some 1
-unfolding history done
-runs_on_0 = refl
-
-runs_not_on_1 : running exits 1 (history exits begun) ≡ None
-unfolding history done
-runs_not_on_1 = refl
-
-counts_when_left :
-    (running exits 0 (history exits left_log) ≡ None)  -- runs no more
+thread_states :
+    (thread_1 exits [] ≡ (Some state.Ready, 1 ∷ []))  -- at start
+    × (thread_1 exits begun ≡ (Some (state.Running (record { 0 = 0 })), []))  -- when begun
+    × (thread_1 exits left_log ≡ (Some state.Ready, 1 ∷ []))  -- when left
+    × (running exits 0 (history exits begun) ≡ Some 1)  -- runs on 0
+    × (running exits 1 (history exits begun) ≡ None)  -- runs not on 1
+    × (running exits 0 (history exits left_log) ≡ None)  -- runs no more
     × (events 0 (history exits left_log) ≡ 3)  -- counted events
     × (ran 0 (history exits left_log) ≡ 1)  -- counted instructions
     × (ran 0 (history exits (left_log ++ entry kind.Run 0x1007C ∷ [])) ≡ 0)  -- counted again
     × ((file exits 1 (history exits left_log)).pc ≡ 0x1007C)  -- kept pc
 unfolding history done meaning row_of rows lui_rows auipc_rows jal_rows jalr_rows branch_rows load_rows store_rows op_imm_rows op_imm_32_rows op_rows op_32_rows misc_mem_rows amo_rows system_rows
-counts_when_left = (refl, refl, refl, refl, refl)
+thread_states = (refl, refl, refl, refl, refl, refl, refl, refl, refl, refl)
 
 -- a thread that leaves is the last ready one
 last_ready : (left 1 (record (kernel exits []) { scheduling = record { order = 2 ∷ 3 ∷ []; affinities = [] } })).scheduling.order ≡ 2 ∷ 3 ∷ 1 ∷ []
 last_ready = refl
 
--- a word that is no instruction, a word that isn't in executable memory, and an address that isn't a multiple of 4: the
--- process is killed by signal 4, 11, 7
+-- a word that is no instruction, a word that isn't in executable memory, and an address that isn't a multiple of 4 are faults
+-- of signals 4, 11, 7
 abbrev illegal : Setting
 illegal = code_alone (0x73 ∷ 0x10 ∷ 0x40 ∷ 0xF1 ∷ [])
-
-illegal_played : outcome illegal (played illegal (starts ∷ execs 1)) ≡ Ok ([], over.Killed 4)
-unfolding played decide history done end_of meaning row_of rows lui_rows auipc_rows jal_rows jalr_rows branch_rows load_rows store_rows op_imm_rows op_imm_32_rows op_rows op_32_rows misc_mem_rows amo_rows system_rows
-illegal_played = refl
 
 abbrev fault_at : ℕ → Option ℕ
 fault_at pc =
@@ -240,19 +133,16 @@ fault_at pc =
     next_fault illegal.program.pages (memory here) (λ a. true) (record { file = no_registers; pc = pc })
 
 fetch_faults :
-    (fault_at 0x20000 ≡ Some 11)  -- not executable
+    (fault_at 0x10078 ≡ Some 4)  -- no instruction
+    × (fault_at 0x20000 ≡ Some 11)  -- not executable
     × (fault_at 0x1007A ≡ Some 7)  -- not aligned
     × (fault_at 0x20002 ≡ Some 7)  -- not aligned first
 unfolding meaning row_of rows lui_rows auipc_rows jal_rows jalr_rows branch_rows load_rows store_rows op_imm_rows op_imm_32_rows op_rows op_32_rows misc_mem_rows amo_rows system_rows
-fetch_faults = (refl, refl, refl)
+fetch_faults = (refl, refl, refl, refl)
 
 -- a jump to an address that isn't a multiple of 4 is a fault of the jump, which isn't local then
 abbrev jumps : Setting
 jumps = code_alone (0x6F ∷ 0x00 ∷ 0x20 ∷ 0x00 ∷ [])
-
-jump_played : outcome jumps (played jumps (starts ∷ execs 1)) ≡ Ok ([], over.Killed 7)
-unfolding played decide history done end_of meaning row_of rows lui_rows auipc_rows jal_rows jalr_rows branch_rows load_rows store_rows op_imm_rows op_imm_32_rows op_rows op_32_rows misc_mem_rows amo_rows system_rows
-jump_played = refl
 
 jump_is_not_local : is_local_on (here_in_history jumps [] 0) (Some 1) ≡ false
 unfolding is_register_only meaning row_of rows lui_rows auipc_rows jal_rows jalr_rows branch_rows load_rows store_rows op_imm_rows op_imm_32_rows op_rows op_32_rows misc_mem_rows amo_rows system_rows
@@ -270,50 +160,9 @@ page_permissions :
     × (can_be_written exits [] 0x20000 ≡ false)  -- unmapped is not written
 page_permissions = (refl, refl, refl, refl, refl)
 
--- `lui x8, 0x20` and nine stores to 0x20000: the ninth is refused where eight wait
+-- `lui x8, 0x20` and nine stores to 0x20000
 abbrev stores_nine : Setting
 stores_nine = code_and_data (0x37 ∷ 0x04 ∷ 0x02 ∷ 0x00 ∷ 0x23 ∷ 0x30 ∷ 0x04 ∷ 0x00 ∷ 0x23 ∷ 0x30 ∷ 0x04 ∷ 0x00 ∷ 0x23 ∷ 0x30 ∷ 0x04 ∷ 0x00 ∷ 0x23 ∷ 0x30 ∷ 0x04 ∷ 0x00 ∷ 0x23 ∷ 0x30 ∷ 0x04 ∷ 0x00 ∷ 0x23 ∷ 0x30 ∷ 0x04 ∷ 0x00 ∷ 0x23 ∷ 0x30 ∷ 0x04 ∷ 0x00 ∷ 0x23 ∷ 0x30 ∷ 0x04 ∷ 0x00 ∷ 0x23 ∷ 0x30 ∷ 0x04 ∷ 0x00 ∷ [])
-
-ninth_refused : played stores_nine (starts ∷ execs 10) ≡ Err 11
-unfolding played decide history done meaning row_of rows lui_rows auipc_rows jal_rows jalr_rows branch_rows load_rows store_rows op_imm_rows op_imm_32_rows op_rows op_32_rows misc_mem_rows amo_rows system_rows
-ninth_refused = refl
-
-ninth_allowed : outcome stores_nine (played stores_nine (starts ∷ (execs 9 ++ (drains 1 ++ execs 1)))) ≡ Ok ([], over.Unended)
-unfolding played decide history done end_of meaning row_of rows lui_rows auipc_rows jal_rows jalr_rows branch_rows load_rows store_rows op_imm_rows op_imm_32_rows op_rows op_32_rows misc_mem_rows amo_rows system_rows
-ninth_allowed = refl
-
--- no thread leaves its hart while a store waits there
-leaves_empty : played stores_nine (starts ∷ (execs 2 ++ (line asked.Preempt ∷ []))) ≡ Err 4
-unfolding played decide history done meaning row_of rows lui_rows auipc_rows jal_rows jalr_rows branch_rows load_rows store_rows op_imm_rows op_imm_32_rows op_rows op_32_rows misc_mem_rows amo_rows system_rows
-leaves_empty = refl
-
-plain_ninth : plain_outcome stores_nine (plain_run stores_nine (starts ∷ execs 10)) ≡ Err 11
-unfolding plain_run meaning row_of rows lui_rows auipc_rows jal_rows jalr_rows branch_rows load_rows store_rows op_imm_rows op_imm_32_rows op_rows op_32_rows misc_mem_rows amo_rows system_rows
-plain_ninth = refl
-
--- -2^63 is divided by -1 and by 0, and both quotients are written to the console; the call waits for both drains
-abbrev divides : Setting
-divides = code_and_data (0x93 ∷ 0x02 ∷ 0xF0 ∷ 0xFF ∷ 0x13 ∷ 0x93 ∷ 0xF2 ∷ 0x03 ∷ 0xB3 ∷ 0x43 ∷ 0x53 ∷ 0x02 ∷ 0x33 ∷ 0x4E ∷ 0x03 ∷ 0x02 ∷ 0x37 ∷ 0x04 ∷ 0x02 ∷ 0x00 ∷ 0x23 ∷ 0x30 ∷ 0x74 ∷ 0x00 ∷ 0x23 ∷ 0x34 ∷ 0xC4 ∷ 0x01 ∷ 0x13 ∷ 0x05 ∷ 0x10 ∷ 0x00 ∷ 0x93 ∷ 0x05 ∷ 0x04 ∷ 0x00 ∷ 0x13 ∷ 0x06 ∷ 0x00 ∷ 0x01 ∷ 0x93 ∷ 0x08 ∷ 0x00 ∷ 0x04 ∷ 0x73 ∷ 0x00 ∷ 0x00 ∷ 0x00 ∷ 0x13 ∷ 0x05 ∷ 0x00 ∷ 0x00 ∷ 0x93 ∷ 0x08 ∷ 0xD0 ∷ 0x05 ∷ 0x73 ∷ 0x00 ∷ 0x00 ∷ 0x00 ∷ [])
-
-quotients : List ℕ
-quotients = replicate 7 0 ++ (0x80 ∷ replicate 8 0xFF)
-
-division_played : outcome divides (played divides (starts ∷ (execs 11 ++ (drains 2 ++ execs 4)))) ≡ Ok (quotients, over.Exit 0)
-unfolding quotients played decide history done end_of meaning row_of rows lui_rows auipc_rows jal_rows jalr_rows branch_rows load_rows store_rows op_imm_rows op_imm_32_rows op_rows op_32_rows misc_mem_rows amo_rows system_rows
-division_played = refl
-
-division_plain : plain_outcome divides (plain_run divides (starts ∷ (execs 11 ++ (drains 2 ++ execs 4)))) ≡ Ok (quotients, over.Exit 0)
-unfolding quotients plain_run meaning row_of rows lui_rows auipc_rows jal_rows jalr_rows branch_rows load_rows store_rows op_imm_rows op_imm_32_rows op_rows op_32_rows misc_mem_rows amo_rows system_rows
-division_plain = refl
-
--- so does the fixed rule, which lets both enter before the call
-division_solo : plain_outcome divides (Ok (plain_solo divides 30)) ≡ Ok (quotients, over.Exit 0)
-unfolding all_signals quotients plain_solo meaning row_of rows lui_rows auipc_rows jal_rows jalr_rows branch_rows load_rows store_rows op_imm_rows op_imm_32_rows op_rows op_32_rows misc_mem_rows amo_rows system_rows
-division_solo = refl
-
-division_waits : played divides (starts ∷ execs 12) ≡ Err 13
-unfolding played decide history done meaning row_of rows lui_rows auipc_rows jal_rows jalr_rows branch_rows load_rows store_rows op_imm_rows op_imm_32_rows op_rows op_32_rows misc_mem_rows amo_rows system_rows
-division_waits = refl
 
 -- `lr.d` and `sc.d` of 0x20000, with something between them, and an exit with what `sc.d` answered
 abbrev reserves : List ℕ → Setting
@@ -323,88 +172,6 @@ reserves between = code_and_data ((0x37 ∷ 0x04 ∷ 0x02 ∷ 0x00 ∷ 0xAF ∷ 
 own_store : outcome (reserves (0x23 ∷ 0x30 ∷ 0x04 ∷ 0x00 ∷ [])) (played (reserves (0x23 ∷ 0x30 ∷ 0x04 ∷ 0x00 ∷ [])) (starts ∷ (execs 3 ++ (drains 1 ++ execs 4)))) ≡ Ok ([], over.Exit 0)
 unfolding played decide history done end_of meaning row_of rows lui_rows auipc_rows jal_rows jalr_rows branch_rows load_rows store_rows op_imm_rows op_imm_32_rows op_rows op_32_rows misc_mem_rows amo_rows system_rows
 own_store = refl
-
--- a call ends it
-call_between : outcome (reserves (0x73 ∷ 0x00 ∷ 0x00 ∷ 0x00 ∷ [])) (played (reserves (0x73 ∷ 0x00 ∷ 0x00 ∷ 0x00 ∷ [])) (starts ∷ execs 7)) ≡ Ok ([], over.Exit 1)
-unfolding played decide history done end_of meaning row_of rows lui_rows auipc_rows jal_rows jalr_rows branch_rows load_rows store_rows op_imm_rows op_imm_32_rows op_rows op_32_rows misc_mem_rows amo_rows system_rows
-call_between = refl
-
--- so does the move to another hart
-moves : List Ask
-moves = starts ∷ (execs 2 ++ (line asked.Preempt ∷ record starts { hart = record { 0 = 1 } } ∷ replicate 4 (record (line asked.Exec) { hart = record { 0 = 1 } })))
-
-moved : outcome (reserves []) (played (reserves []) moves) ≡ Ok ([], over.Exit 1)
-unfolding moves played decide history done end_of meaning row_of rows lui_rows auipc_rows jal_rows jalr_rows branch_rows load_rows store_rows op_imm_rows op_imm_32_rows op_rows op_32_rows misc_mem_rows amo_rows system_rows
-moved = refl
-
-moved_plain : plain_outcome (reserves []) (plain_run (reserves []) moves) ≡ Ok ([], over.Exit 1)
-unfolding moves plain_run meaning row_of rows lui_rows auipc_rows jal_rows jalr_rows branch_rows load_rows store_rows op_imm_rows op_imm_32_rows op_rows op_32_rows misc_mem_rows amo_rows system_rows
-moved_plain = refl
-
--- what is reserved after `lr.d`, and after the thread left its hart
-abbrev reserved_after : Result (List Entry) ℕ → Option ℕ
-reserved_after (Ok log) = reservation 0 (history (reserves []) log)
-reserved_after (Err n) = None
-
-reserved : reserved_after (played (reserves []) (starts ∷ execs 2)) ≡ Some 0x20000
-unfolding played decide history done meaning row_of rows lui_rows auipc_rows jal_rows jalr_rows branch_rows load_rows store_rows op_imm_rows op_imm_32_rows op_rows op_32_rows misc_mem_rows amo_rows system_rows
-reserved = refl
-
-reserved_no_more : reserved_after (played (reserves []) (starts ∷ (execs 2 ++ (line asked.Preempt ∷ [])))) ≡ None
-unfolding played decide history done meaning row_of rows lui_rows auipc_rows jal_rows jalr_rows branch_rows load_rows store_rows op_imm_rows op_imm_32_rows op_rows op_32_rows misc_mem_rows amo_rows system_rows
-reserved_no_more = refl
-
--- a waiting store is seen by its own hart: 7 is stored, loaded, and is the exit's code
-abbrev forwards : Setting
-forwards = code_and_data (0x37 ∷ 0x04 ∷ 0x02 ∷ 0x00 ∷ 0x93 ∷ 0x02 ∷ 0x70 ∷ 0x00 ∷ 0x23 ∷ 0x20 ∷ 0x54 ∷ 0x00 ∷ 0x03 ∷ 0x45 ∷ 0x04 ∷ 0x00 ∷ 0x93 ∷ 0x08 ∷ 0xD0 ∷ 0x05 ∷ 0x73 ∷ 0x00 ∷ 0x00 ∷ 0x00 ∷ [])
-
-forwarded : outcome forwards (played forwards (starts ∷ (execs 5 ++ (drains 1 ++ execs 1)))) ≡ Ok ([], over.Exit 7)
-unfolding played decide history done end_of meaning row_of rows lui_rows auipc_rows jal_rows jalr_rows branch_rows load_rows store_rows op_imm_rows op_imm_32_rows op_rows op_32_rows misc_mem_rows amo_rows system_rows
-forwarded = refl
-
--- a full fence waits for the drain, `fence.tso` doesn't
-abbrev fences : List ℕ → Setting
-fences fence = code_and_data ((0x37 ∷ 0x04 ∷ 0x02 ∷ 0x00 ∷ 0x23 ∷ 0x30 ∷ 0x04 ∷ 0x00 ∷ []) ++ (fence ++ (0x93 ∷ 0x08 ∷ 0xD0 ∷ 0x05 ∷ 0x73 ∷ 0x00 ∷ 0x00 ∷ 0x00 ∷ [])))
-
-full_fence : played (fences (0x0F ∷ 0x00 ∷ 0x30 ∷ 0x03 ∷ [])) (starts ∷ execs 3) ≡ Err 4
-unfolding played decide history done meaning row_of rows lui_rows auipc_rows jal_rows jalr_rows branch_rows load_rows store_rows op_imm_rows op_imm_32_rows op_rows op_32_rows misc_mem_rows amo_rows system_rows
-full_fence = refl
-
-fence_tso : outcome (fences (0x0F ∷ 0x00 ∷ 0x30 ∷ 0x83 ∷ [])) (played (fences (0x0F ∷ 0x00 ∷ 0x30 ∷ 0x83 ∷ [])) (starts ∷ (execs 4 ++ (drains 1 ++ execs 1)))) ≡ Ok ([], over.Exit 0)
-unfolding played decide history done end_of meaning row_of rows lui_rows auipc_rows jal_rows jalr_rows branch_rows load_rows store_rows op_imm_rows op_imm_32_rows op_rows op_32_rows misc_mem_rows amo_rows system_rows
-fence_tso = refl
-
--- 7 and then 8 are stored to 0x20000, and enter memory in this order: 8 is loaded, and is the exit's code
-abbrev stores_twice : Setting
-stores_twice = code_and_data (0x37 ∷ 0x04 ∷ 0x02 ∷ 0x00 ∷ 0x93 ∷ 0x02 ∷ 0x70 ∷ 0x00 ∷ 0x23 ∷ 0x20 ∷ 0x54 ∷ 0x00 ∷ 0x93 ∷ 0x02 ∷ 0x80 ∷ 0x00 ∷ 0x23 ∷ 0x20 ∷ 0x54 ∷ 0x00 ∷ 0x03 ∷ 0x45 ∷ 0x04 ∷ 0x00 ∷ 0x93 ∷ 0x08 ∷ 0xD0 ∷ 0x05 ∷ 0x73 ∷ 0x00 ∷ 0x00 ∷ 0x00 ∷ [])
-
-oldest_first : outcome stores_twice (played stores_twice (starts ∷ (execs 5 ++ (drains 2 ++ execs 3)))) ≡ Ok ([], over.Exit 8)
-unfolding played decide history done end_of meaning row_of rows lui_rows auipc_rows jal_rows jalr_rows branch_rows load_rows store_rows op_imm_rows op_imm_32_rows op_rows op_32_rows misc_mem_rows amo_rows system_rows
-oldest_first = refl
-
--- memory before the first drain, after it, and after both
-abbrev at_0x20000 : Result (List Entry) ℕ → Option ℕ
-at_0x20000 (Ok log) = Some (byte stores_twice (history stores_twice log) 0x20000)
-at_0x20000 (Err n) = None
-
-drained_in_order :
-    (at_0x20000 (played stores_twice (starts ∷ (execs 5 ++ drains 0))) ≡ Some 0)  -- before drains
-    × (at_0x20000 (played stores_twice (starts ∷ (execs 5 ++ drains 1))) ≡ Some 7)  -- after one
-    × (at_0x20000 (played stores_twice (starts ∷ (execs 5 ++ drains 2))) ≡ Some 8)  -- after both
-unfolding played decide history done meaning row_of rows lui_rows auipc_rows jal_rows jalr_rows branch_rows load_rows store_rows op_imm_rows op_imm_32_rows op_rows op_32_rows misc_mem_rows amo_rows system_rows
-drained_in_order = (refl, refl, refl)
-
--- `amoadd.w` of 0x20000 waits until the store of 7 has entered, and then answers 7
-abbrev adds : Setting
-adds = code_and_data (0x37 ∷ 0x04 ∷ 0x02 ∷ 0x00 ∷ 0x93 ∷ 0x02 ∷ 0x70 ∷ 0x00 ∷ 0x23 ∷ 0x20 ∷ 0x54 ∷ 0x00 ∷ 0x2F ∷ 0x25 ∷ 0x54 ∷ 0x00 ∷ 0x93 ∷ 0x08 ∷ 0xD0 ∷ 0x05 ∷ 0x73 ∷ 0x00 ∷ 0x00 ∷ 0x00 ∷ [])
-
-amo_waits : played adds (starts ∷ execs 4) ≡ Err 5
-unfolding played decide history done meaning row_of rows lui_rows auipc_rows jal_rows jalr_rows branch_rows load_rows store_rows op_imm_rows op_imm_32_rows op_rows op_32_rows misc_mem_rows amo_rows system_rows
-amo_waits = refl
-
-amo_answers : outcome adds (played adds (starts ∷ (execs 3 ++ (drains 1 ++ execs 3)))) ≡ Ok ([], over.Exit 7)
-unfolding played decide history done end_of meaning row_of rows lui_rows auipc_rows jal_rows jalr_rows branch_rows load_rows store_rows op_imm_rows op_imm_32_rows op_rows op_32_rows misc_mem_rows amo_rows system_rows
-amo_answers = refl
 
 -- where a reservation of 8 bytes from 0x20000 on ends: at a write to one of them, and not at one beside them or of no bytes
 abbrev after : Write → Option ℕ
@@ -429,11 +196,10 @@ reserved_then w =
     record { entry = record (entry kind.Drain 0) { hart = record { 0 = 1 } }; done = record quiet { drained = 1; entered = w ∷ [] } }
     ∷ record { entry = entry kind.Exec 0; done = record quiet { reserved = Some 0x20000 } } ∷ []
 
-other_hart_inside : reservation 0 (reserved_then (stored 0x20004 4)) ≡ None
-other_hart_inside = refl
-
-other_hart_behind : reservation 0 (reserved_then (stored 0x20008 8)) ≡ Some 0x20000
-other_hart_behind = refl
+reservation_by_harts :
+    (reservation 0 (reserved_then (stored 0x20004 4)) ≡ None)  -- other hart inside
+    × (reservation 0 (reserved_then (stored 0x20008 8)) ≡ Some 0x20000)  -- other hart behind
+reservation_by_harts = (refl, refl)
 
 -- of two waiting stores the youngest that has a byte is seen; where memory can't be read nothing is
 abbrev waits : List Store → Here
@@ -465,46 +231,36 @@ answered c = map (λ p. (p.0, register p.1.file 10, p.1.pc)) c.files
 abbrev negative : ℕ → ℕ
 negative n = 2 ^ 64 - n
 
-answers_alone :
+-- `set_tid_address` answers the thread's number, and sets the address that its exit clears
+numbers_answered :
     (answered (called (asks 0 172 5 0 0) 3) ≡ (3, 1, 0x10084) ∷ [])  -- process number
     × (answered (called (asks 0 178 5 0 0) 3) ≡ (3, 3, 0x10084) ∷ [])  -- thread number
     × (answered (called (asks 0 1000 5 0 0) 3) ≡ (3, negative 38, 0x10084) ∷ [])  -- unknown call
-answers_alone = (refl, refl, refl)
-
--- `set_tid_address` answers the thread's number, and sets the address that its exit clears
-clear_addresses :
-    (answered (called (asks 0 96 0x20000 0 0) 3) ≡ (3, 3, 0x10084) ∷ [])  -- clear answer
+    × (answered (called (asks 0 96 0x20000 0 0) 3) ≡ (3, 3, 0x10084) ∷ [])  -- clear answer
     × (clear_of 1 (called (asks 0 96 0x20000 0 0) 1).kernel.threads ≡ 0x20000)  -- clear address
     × (clear_of 1 (called (asks 0 96 0x20000 0 0) 3).kernel.threads ≡ 0)  -- clear of another
-clear_addresses = (refl, refl, refl)
+numbers_answered = (refl, refl, refl, refl, refl, refl)
 
--- what `write` does: three bytes of the code come to the console, behind what stands there
-written_bytes :
+-- what `write` does: three bytes of the code come to the console, behind what stands there; a descriptor is the low 32 bits of its
+-- register; what it tests, in order: the descriptor, the length, the address, and the room
+write_calls :
     ((called (asks 1 64 1 0x10078 3) 3).kernel.console ≡ 0x2E ∷ 0x13 ∷ 0x05 ∷ 0x70 ∷ [])  -- wrote three
     × (answered (called (asks 1 64 1 0x10078 3) 3) ≡ (3, 3, 0x10084) ∷ [])  -- answers three
     × (answered (called (asks 0 64 2 0x10078 3) 3) ≡ (3, 3, 0x10084) ∷ [])  -- to standard error
-written_bytes = (refl, refl, refl)
-
--- a descriptor is the low 32 bits of its register
-low_32_bits : answered (called (asks 0 64 0x100000001 0x10078 3) 3) ≡ (3, 3, 0x10084) ∷ []
-low_32_bits = refl
-
--- what it tests, in order: the descriptor, the length, the address, and the room
-write_tests :
-    (answered (called (asks 65536 64 3 0x30000 0) 3) ≡ (3, negative 9, 0x10084) ∷ [])  -- bad descriptor
+    × (answered (called (asks 0 64 0x100000001 0x10078 3) 3) ≡ (3, 3, 0x10084) ∷ [])  -- low 32 bits
+    × (answered (called (asks 65536 64 3 0x30000 0) 3) ≡ (3, negative 9, 0x10084) ∷ [])  -- bad descriptor
     × (answered (called (asks 65536 64 2 0x30000 0) 3) ≡ (3, 0, 0x10084) ∷ [])  -- nothing to write
     × (answered (called (asks 65536 64 1 0x30000 1) 3) ≡ (3, negative 14, 0x10084) ∷ [])  -- bad address
     × (answered (called (asks 0 64 1 0x10FFF 2) 3) ≡ (3, negative 14, 0x10084) ∷ [])  -- bad last byte
     × (answered (called (asks 65536 64 1 0x10078 1) 3) ≡ (3, negative 28, 0x10084) ∷ [])  -- no room
     × (answered (called (asks 65530 64 1 0x10078 10) 3) ≡ (3, 6, 0x10084) ∷ [])  -- cut to room
-write_tests = (refl, refl, refl, refl, refl, refl)
+write_calls = (refl, refl, refl, refl, refl, refl, refl, refl, refl, refl)
 
 -- an exit's code is its low 8 bits; it sets no file
-low_byte : (called (asks 0 93 0x107 0 0) 3).ended ≡ Some (over.Exit 7)
-low_byte = refl
-
-no_file_set : answered (called (asks 0 93 0x107 0 0) 3) ≡ []
-no_file_set = refl
+exit_calls :
+    ((called (asks 0 93 0x107 0 0) 3).ended ≡ Some (over.Exit 7))  -- low byte
+    × (answered (called (asks 0 93 0x107 0 0) 3) ≡ [])  -- no file set
+exit_calls = (refl, refl)
 
 -- a process whose only thread waits is stuck; one whose thread is ready or runs isn't, and neither is one without threads; an
 -- end by an event comes first
@@ -529,29 +285,15 @@ no_thread_no_pc = refl
 abbrev sees : Setting → List Entry → Here
 sees s log = here_in_history s (history s log) 0
 
-nothing_next : effect_here (sees exits []) ≡ None
-unfolding history
-nothing_next = refl
-
-first_is_ready : first_ready (sees exits []) ≡ Some (record { 0 = 1 })
-unfolding history
-first_is_ready = refl
-
-next_adds : effect_here (sees exits begun) ≡ Some (effect.Next 10 7 0x1007C)
-unfolding history done meaning row_of rows lui_rows auipc_rows jal_rows jalr_rows branch_rows load_rows store_rows op_imm_rows op_imm_32_rows op_rows op_32_rows misc_mem_rows amo_rows system_rows
-next_adds = refl
-
-next_is_local : is_local_on (sees exits begun) (Some 1) ≡ true
+first_sights :
+    (effect_here (sees exits []) ≡ None)  -- nothing next
+    × (first_ready (sees exits []) ≡ Some (record { 0 = 1 }))  -- first is ready
+    × (effect_here (sees exits begun) ≡ Some (effect.Next 10 7 0x1007C))  -- next adds
+    × (is_local_on (sees exits begun) (Some 1) ≡ true)  -- next is local
+    × (first_ready (sees exits begun) ≡ None)  -- none is ready
+    × (is_local_on (sees stores_nine (entry kind.Run 0x100B0 ∷ entry kind.Exec 0x100B0 ∷ [])) (Some 1) ≡ false)  -- store is not local
 unfolding history done is_register_only meaning row_of rows lui_rows auipc_rows jal_rows jalr_rows branch_rows load_rows store_rows op_imm_rows op_imm_32_rows op_rows op_32_rows misc_mem_rows amo_rows system_rows
-next_is_local = refl
-
-none_is_ready : first_ready (sees exits begun) ≡ None
-unfolding history done
-none_is_ready = refl
-
-store_is_not_local : is_local_on (sees stores_nine (entry kind.Run 0x100B0 ∷ entry kind.Exec 0x100B0 ∷ [])) (Some 1) ≡ false
-unfolding history done is_register_only meaning row_of rows lui_rows auipc_rows jal_rows jalr_rows branch_rows load_rows store_rows op_imm_rows op_imm_32_rows op_rows op_32_rows misc_mem_rows amo_rows system_rows
-store_is_not_local = refl
+first_sights = (refl, refl, refl, refl, refl, refl)
 
 -- the whole sight of hart 0 where two stores wait
 abbrev two_stores : List Entry
@@ -572,24 +314,19 @@ two_wait = record {
   credit = 0;
 }
 
-sight_of_two : sight_in (sees stores_nine two_stores) (ran 0 (history stores_nine two_stores)) 0 ≡ two_wait
-unfolding all_signals history done is_register_only meaning row_of rows lui_rows auipc_rows jal_rows jalr_rows branch_rows load_rows store_rows op_imm_rows op_imm_32_rows op_rows op_32_rows misc_mem_rows amo_rows system_rows
-sight_of_two = refl
-
 -- the fixed rule: it executes where it may, and drains where it may not; a signal waits for the drains; an idle hart runs the first
 -- ready thread, and has no choice where none is ready
 fixed_rule :
-    (solo_rule two_wait ≡ Some asked.Exec)  -- rule executes
+    (sight_in (sees stores_nine two_stores) (ran 0 (history stores_nine two_stores)) 0 ≡ two_wait)  -- sight of two
+    × (solo_rule two_wait ≡ Some asked.Exec)  -- rule executes
     × (solo_rule (record two_wait { exec_enabled = false }) ≡ Some asked.Drain)  -- rule drains
     × (solo_rule (record two_wait { deliverable = true }) ≡ Some asked.Drain)  -- rule drains for signal
     × (solo_rule (record two_wait { deliverable = true; stores = 0 }) ≡ Some asked.Signal)  -- rule delivers
     × (solo_rule (record two_wait { idle = true; first_ready = Some (record { 0 = 5 }) }) ≡ Some (asked.Run (record { 0 = 5 })))  -- rule runs
     × (solo_rule (record two_wait { idle = true }) ≡ None)  -- rule has none
-fixed_rule = (refl, refl, refl, refl, refl, refl)
-
-rule_begins : solo_choice exits (history exits []) ≡ Some first
-unfolding history
-rule_begins = refl
+    × (solo_choice exits (history exits []) ≡ Some first)  -- rule begins
+unfolding all_signals history done is_register_only meaning row_of rows lui_rows auipc_rows jal_rows jalr_rows branch_rows load_rows store_rows op_imm_rows op_imm_32_rows op_rows op_32_rows misc_mem_rows amo_rows system_rows
+fixed_rule = (refl, refl, refl, refl, refl, refl, refl, refl)
 
 begins_by_rule : IsSolo exits begun
 unfolding history done

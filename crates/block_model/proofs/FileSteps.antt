@@ -1,32 +1,12 @@
 -- Who sets the file of a thread: the thread by its instruction or its call, an interruption, the handler of a
 -- signal, whoever ends its wait, or its parent.
 use Rattle.std.proofs.Common.{◌≡◌, ℕ, [], ◌∷◌, List, map, refl, sym, ap, ◌∙◌, subst, Bool, true}
+use Rattle.block_model.proofs.Common.{CallDone, Done, EINTR, Effect, End, Event, Here, History, IsRunHistory, Kind, Outcome, Saved, Setting, answered_wait, child_file, done, eqb-true, file, file_among, files_interrupted, here_in_history, interruption_here, is_call, negative, next_number, outcome_of, runs, wake, with_register, woken_at_exit}
 use Rattle.std.proofs.Common.{false, cond}
 use Rattle.std.proofs.Common.{eqb, Some, None}
-use Rattle.std.proofs.lemmas.Bool.{eqb-true}
-use Rattle.mach_types.specs.Registers.{with_register}
-use Rattle.mach_types.specs.declared.errors.TheConstants.{EINTR}
-use Rattle.mach_types.specs.declared.events.Kind.{Kind}
 use Rattle.mach_types.specs.declared.events.Kind.TheVariants as kind
-use Rattle.mach_types.specs.declared.limits.End.{End}
-use Rattle.mach_types.specs.declared.sequences.Outcome.{Outcome}
 use Rattle.mach_types.specs.declared.sequences.Outcome.TheVariants as comes_to
-use Rattle.mach_types.specs.declared.threads.Saved.{Saved}
-use Rattle.rv_inst.specs.Class.{is_call}
-use Rattle.rv_inst.specs.declared.effects.Effect.{Effect}
-use Rattle.block_model.specs.Calls.Answers.{CallDone, negative}
-use Rattle.block_model.specs.Calls.Cloning.{child_file}
-use Rattle.block_model.specs.Calls.Ending.{woken_at_exit}
-use Rattle.block_model.specs.Calls.Futexes.{answered_wait, wake}
-use Rattle.block_model.specs.Deciding.{done}
-use Rattle.block_model.specs.Events.Exec.{outcome_of}
-use Rattle.block_model.specs.Here.{Done, Here, runs}
-use Rattle.block_model.specs.History.{Event, History, file, file_among, here_in_history}
-use Rattle.block_model.specs.Kernel.{next_number}
-use Rattle.block_model.specs.Run.{IsRunHistory}
-use Rattle.block_model.specs.Sequences.{files_interrupted, interruption_here}
-use Rattle.block_model.specs.Setting.{Setting}
-use Rattle.block_model.proofs.CallEffects.{Answers, Bears, Begins, Breaks, CallDeed, Ends, Exits, Resumes, Says}
+use Rattle.block_model.proofs.CallEffects.{Bears, Breaks, CallDeed, Ends, Exits}
 use Rattle.block_model.proofs.CallEffects.{Wakes}
 use Rattle.block_model.proofs.CallEffects.EachCall.{deed_called}
 use Rattle.block_model.proofs.EventEffects.{Calls, EventDeed, Executes, Handles, IsNext, Restarts, Returns}
@@ -81,14 +61,12 @@ module _ (here : Here) (tid u : ℕ) where
 
   interrupted : (k : Kind) (t : ℕ) (o : Outcome) → interruption_here here t ≡ o
       → (t ≡ u → IsInterrupted here tid u k) → Is k (file_among (files_interrupted here t o) u (here.file u))
-  interrupted k t comes_to.Nothing is its = FileStays
-  interrupted k t comes_to.Cleared is its = FileStays
   interrupted k t (comes_to.Aborted at) is its =
       either k t (record (here.file t) { pc = at }) (here.file u)
       (λ same. subst (λ w. interruption_here here w ≡ comes_to.Aborted at
       → Is k (record (here.file w) { pc = at })) (sym same) (λ aborts. Aborts at (its same) aborts) is)
       FileStays
-  interrupted k t (comes_to.Killed why) is its = FileStays
+  interrupted k t outcome is its = FileStays
 
   -- CALLS
 
@@ -101,8 +79,6 @@ module _ (here : Here) (tid u : ℕ) where
 
     step_called : {number : ℕ} {c : CallDone} → CallDeed here t number c
         → Is kind.Exec (file_among c.files u (here.file u))
-    step_called (Says n) = only_own _
-    step_called (Answers n entered k no_error writes step) = only_own _
     step_called (Wakes n at small) =
         either kind.Exec t _ _ (own _) (woken kind.Exec (wake n at here.kernel).threads)
     step_called (Breaks v g waiting keeps stand heeds calm) =
@@ -113,9 +89,8 @@ module _ (here : Here) (tid u : ℕ) where
         either kind.Exec t _ _ (own _)
         (either kind.Exec (next_number here.kernel) (child_file here t) (here.file u)
         (λ same. AtBirth (child_file here t) refl same) FileStays)
-    step_called (Begins targets restart others no_error its_number) = only_own _
-    step_called (Resumes words is its) = only_own _
     step_called (Ends entered x writes over) = FileStays
+    step_called other = only_own _
 
   -- EVENTS
 

@@ -1,51 +1,14 @@
 -- At each place of a run the fixed rule of `solo` has a choice where the machine has one hart, and its choice is made.
 use Rattle.std.proofs.Common.{◌≡◌, ◌≢◌, ℕ, ◌<◌, ◌+◌, ◌&&◌, ◌||◌, List, [], ◌∷◌, length, find, refl, sym, ap, ◌∙◌, subst, arith, Bool, true, false, not, cond, eqb, ltb, zero, suc, Option, Some, None, Ok, is_none, is_some}
-use Rattle.std.proofs.lemmas.Bool.{and_right, eqb-true, false≢true, le-leb, lt-ltb}
-use Rattle.std.specs.List.{list_any}
+use Rattle.block_model.proofs.Common.{Choice, End, Entry, Here, History, IsAllowedLog, IsRunHistory, IsSound, IsTables, Kernel, Neighbour, Others, PageRun, Ready, Running, Setting, Store, Thread, ThreadState, Threads, Waiting, Why, affinity_of, and_right, awaits, call_number, decide, end_of, ended, entry_in, eqb-true, eqb_same, false≢true, first_for, goes_on, has_hart, here_in_history, history, instruction_gate, is_call, is_deliverable_on, is_held, is_inside_here, is_live, is_ready, is_ready_state, is_stuck, is_waiting_state, kernel, le-leb, lies_waiting_on, list_any, lt-ltb, next_effect, next_fault, next_for, not-false, numbers, on, option_map, option_map_or, option_or, others_gate, refusal_delivery, refusal_drain_of, refusal_exec, refusal_exec_by, refusal_of, refusal_run_by, refusal_signal_by, requests, running, running_on, runs, solo_choice, state_of, taken_by, thread, thread_of, times, times_cons, unless, unless_in_barrier, unless_waiting, waiting_here}
 use Rattle.std.proofs.lemmas.Map.Keys.{sorted_from_strictly_increasing}
-use Rattle.std.specs.Option.{option_map, option_map_or, option_or}
 use Rattle.std.specs.Result.{IsOk}
-use Rattle.mach_types.specs.declared.events.Choice.{Choice}
 use Rattle.mach_types.specs.declared.events.Choice.TheVariants as asked
-use Rattle.mach_types.specs.declared.events.Entry.{Entry}
-use Rattle.mach_types.specs.declared.events.Why.{Why}
-use Rattle.mach_types.specs.declared.limits.End.{End}
 use Rattle.mach_types.specs.declared.limits.End.TheVariants as over
-use Rattle.mach_types.specs.declared.threads.ThreadState.{ThreadState}
-use Rattle.mach_types.specs.declared.threads.ThreadState.TheVariants.{Ready, Running, Waiting}
-use Rattle.mach_types.specs.declared.user_memory.Store.{Store}
-use Rattle.block_model.specs.Record.{Kernel}
-use Rattle.mach_types.specs.Kernel.Scheduling.{affinity_of, first_for, has_hart}
-use Rattle.mach_types.specs.Kernel.Signals.{next_for}
-use Rattle.mach_types.specs.Kernel.Threads.{Thread, Threads, goes_on, is_live, is_ready, is_ready_state, is_stuck, is_waiting_state, numbers, running_on, state_of, thread_of, times}
-use Rattle.rv_inst.specs.Execution.{instruction_gate}
-use Rattle.rv_inst.specs.Class.{is_call}
-use Rattle.mach_types.specs.declared.events.Why.TheVariants.{Others}
-use Rattle.mach_types.specs.Kernel.Pages.{PageRun}
-use Rattle.block_model.specs.Calls.Answers.{call_number}
-use Rattle.block_model.specs.Beside.{Neighbour}
-use Rattle.block_model.specs.Calls.Memory.{lies_waiting_on, taken_by}
-use Rattle.block_model.specs.Setting.{Setting}
-use Rattle.block_model.specs.Here.{Here, runs, waiting_here}
-use Rattle.block_model.specs.Events.{refusal_of}
-use Rattle.block_model.specs.Events.Drain.{refusal_drain_of}
-use Rattle.block_model.specs.Events.Exec.{is_held, next_effect, next_fault, others_gate, refusal_exec, refusal_exec_by}
-use Rattle.block_model.specs.Events.Preempt.{unless_in_barrier, unless_waiting}
-use Rattle.block_model.specs.Events.Run.{refusal_run_by}
-use Rattle.block_model.specs.Events.Signal.{refusal_delivery, refusal_signal_by}
-use Rattle.block_model.specs.History.{History, awaits, ended, here_in_history, kernel, requests, running}
-use Rattle.block_model.specs.Deciding.{decide, end_of, entry_in, history, unless}
-use Rattle.block_model.specs.Run.{IsAllowedLog, IsRunHistory}
-use Rattle.block_model.specs.Sequences.{is_inside_here}
-use Rattle.block_model.specs.Sights.{is_deliverable_on, thread}
-use Rattle.block_model.specs.Solo.{solo_choice}
-use Rattle.block_model.specs.Standing.{IsSound}
 use Rattle.block_model.proofs.Runs.{allowed_at, settled}
 use Rattle.block_model.proofs.Barriers.Requests.{IsAwaited, alone_awaits}
 use Rattle.block_model.proofs.RunEnds.{some_live, decide-open, is_open}
-use Rattle.block_model.specs.Tables.{IsTables, on}
 use Rattle.block_model.proofs.KernelTables.{found_passes, found_sorted, running_none}
-use Rattle.mach_types.proofs.Laws.{eqb_same, times_cons}
 
 -- the choice by what is read of the hart: whether a thread runs there, the first ready thread, whether a signal is deliverable,
 -- whether the thread may execute, and how many stores wait
@@ -91,11 +54,8 @@ found_where_any p (th ∷ live) any =
 
 -- where the machine has one hart, which is idle, and threads aren't stuck, the first ready thread that may run there is one
 pub goes_somewhere : (ts : Threads) → is_stuck ts ≡ false → 0 < length ts.live → list_any goes_on ts.live ≡ true
-goes_somewhere ts unstuck some = go (list_any goes_on ts.live) (sym (ap (λ b. b && not (list_any goes_on ts.live)) (le-leb 1 (length ts.live) some)) ∙ unstuck)
-  where
-    go : (b : Bool) → (true && not b) ≡ false → b ≡ true
-    go true e = refl
-    go false e = absurd (false≢true (sym e))
+goes_somewhere ts unstuck some =
+    not-false (list_any goes_on ts.live) (sym (ap (λ b. b && not (list_any goes_on ts.live)) (le-leb 1 (length ts.live) some)) ∙ unstuck)
 
 -- which state the thread that goes on is in: it runs on no hart, so it is ready
 ready_by : (k : Kernel) (t : ℕ) (state : ThreadState) → IsTables 1 k.threads k.scheduling → running_on 0 k.threads ≡ None → state_of t k.threads ≡ Some state → not (is_waiting_state state) ≡ true → is_ready t k.threads ≡ true
@@ -190,9 +150,8 @@ chooses_by s here (Some t) apart one hart at first =
 
 -- a place where nothing ended the run is not stuck
 pub ended_parts : (process : Option End) (stuck : Bool) → option_or process (cond stuck (Some over.Stuck) None) ≡ None → (process ≡ None) × (stuck ≡ false)
-ended_parts (Some e) stuck is = absurd cc
-ended_parts None true is = absurd cc
 ended_parts None false is = (refl, refl)
+ended_parts o b is = absurd cc
 
 -- where the machine has one hart, its thread waits in no barrier
 pub apart_when_alone : (s : Setting) (before : History) (h : ℕ) → s.limits.harts ≡ 1 → IsRunHistory s before → awaits h before ≡ None
@@ -200,16 +159,14 @@ apart_when_alone s before h one run =
     alone_awaits (λ k. requests k before) (λ k. awaits k before) h
     (subst (λ n. IsAwaited n (λ k. requests k before) (λ k. awaits k before)) one (settled s before run).good.awaited)
 
-chooses_at : (s : Setting) (before : History) → s.limits.harts ≡ 1 → IsRunHistory s before → end_of s before ≡ over.Unended → is_some (solo_choice s before) ≡ true
-chooses_at s before one run end =
+pub rule_chooses : (s : Setting) (log : List Entry) → s.limits.harts ≡ 1 → IsAllowedLog s log → end_of s (history s log) ≡ over.Unended → is_some (solo_choice s (history s log)) ≡ true
+rule_chooses s log one run end =
+    let before = history s log in
     let goes = ended_parts (ended before) (is_stuck (kernel s before).threads) (is_open s before run end).goes in
     let sound = (settled s before run).good.kernel in
     let tables : IsTables 1 (kernel s before).threads (kernel s before).scheduling = subst (λ n. IsTables n (kernel s before).threads (kernel s before).scheduling) one sound.tables in
     chooses_by s (here_in_history s before 0) (runs (here_in_history s before 0)) (apart_when_alone s before 0 one run) one refl refl
     (λ idle. first_there s (kernel s before) one sound (some_ready (kernel s before) tables idle goes.1 (some_live s before run goes.0)))
-
-pub rule_chooses : (s : Setting) (log : List Entry) → s.limits.harts ≡ 1 → IsAllowedLog s log → end_of s (history s log) ≡ over.Unended → is_some (solo_choice s (history s log)) ≡ true
-rule_chooses s log one run end = chooses_at s (history s log) one run end
 
 -- the choice of the rule isn't refused: a thread that is found in the ready list is ready
 ready_bool : (b : Bool) → 0 < cond {A = ℕ} b 1 0 → b ≡ true

@@ -1,15 +1,10 @@
--- Sets of harts: what is in one with a hart more, and in one without it; that something is in each that isn't 0; that sets with the same
--- harts are the same; and how code says them.
-use Rattle.std.proofs.Common.{◌≡◌, ◌≢◌, ℕ, suc, zero, ◌+◌, ◌-◌, ◌*◌, ◌/◌, ◌%◌, ◌^◌, ◌<◌, ◌≤◌, max, min, Bool, true, false, cond, eqb, inl, inr, refl, sym, ap, ◌∙◌, arith}
+-- Sets of harts: what is in one with a hart more, and in one without it; that something is in each that isn't 0; and how code says
+-- them.
+use Rattle.std.proofs.Common.{◌≡◌, ◌≢◌, ℕ, suc, zero, ◌+◌, ◌-◌, ◌*◌, ◌/◌, ◌%◌, ◌^◌, ◌<◌, ◌≤◌, max, min, Bool, true, false, eqb, inl, inr, refl, sym, ap, ◌∙◌, arith}
+use Rattle.block_model.proofs.Common.{cases_eq, cases_lt, cond_both, eqb-false, eqb-true, has_hart, with_hart, without_hart}
 use Rattle.std.specs.Int.{bit_at, bit_not, w8}
 use Rattle.std.specs.Int.Bits.{bit_and, bit_or, bit_xor, or_add_and}
-use Rattle.std.proofs.Math.Nat.{div-div-eq-div-mul, lt-div-mul-add}
-use Rattle.std.proofs.lemmas.Nat.{pow-add, pow_pos}
-use Rattle.std.proofs.lemmas.Bool.{cases_eq, cases_lt, eqb-true, eqb-false}
 use Rattle.std.proofs.lemmas.Nat.Bits.{and_pow, bit_at-lt, bit_at-pow_other, bit_at-pow_same, bit_at-suc, bit_at-zero, bit_at_above, bit_at_and, bit_at_clear_other, bit_at_clear_same, bit_at_lowest, bit_at_or, bit_at_set_other, bit_at_set_same, bit_at_xor, same_from_bits}
-use Rattle.mach_types.proofs.Laws.{has_hart-within}
-use Rattle.mach_types.specs.Kernel.Scheduling.{has_hart}
-use Rattle.block_model.specs.Requests.{with_hart, without_hart}
 
 -- the bit of a hart
 bit_in : (set h : ℕ) → has_hart set h ≡ true → bit_at set h ≡ 1
@@ -47,18 +42,13 @@ sum_other set h k isnt ne =
 
 -- a set with a hart more
 pub with_hart-itself : (h set : ℕ) → has_hart (with_hart h set) h ≡ true
-with_hart-itself h set = go (has_hart set h) refl
-  where
-    go : (b : Bool) → has_hart set h ≡ b → has_hart (cond b set (set + 2 ^ h)) h ≡ true
-    go true is = is
-    go false is = ap (λ b. eqb b 1) (sum_itself set h is)
+with_hart-itself h set =
+    cond_both (has_hart set h) set (set + 2 ^ h) (λ n. has_hart n h ≡ true) (λ is. is) (λ is. ap (λ b. eqb b 1) (sum_itself set h is))
 
 pub with_hart-other : (h set k : ℕ) → k ≢ h → has_hart (with_hart h set) k ≡ has_hart set k
-with_hart-other h set k ne = go (has_hart set h) refl
-  where
-    go : (b : Bool) → has_hart set h ≡ b → has_hart (cond b set (set + 2 ^ h)) k ≡ has_hart set k
-    go true is = refl
-    go false is = ap (λ b. eqb b 1) (sum_other set h k is ne)
+with_hart-other h set k ne =
+    cond_both (has_hart set h) set (set + 2 ^ h) (λ n. has_hart n k ≡ has_hart set k) (λ is. refl)
+    (λ is. ap (λ b. eqb b 1) (sum_other set h k is ne))
 
 -- what is in a set is in it with a hart more
 pub with_hart-keeps : (h set k : ℕ) → has_hart set k ≡ true → has_hart (with_hart h set) k ≡ true
@@ -108,18 +98,14 @@ rest_is h set is =
     ]
 
 pub without_hart-itself : (h set : ℕ) → has_hart (without_hart h set) h ≡ false
-without_hart-itself h set = go (has_hart set h) refl
-  where
-    go : (b : Bool) → has_hart set h ≡ b → has_hart (cond b (set - 2 ^ h) set) h ≡ false
-    go true is = ap (λ n. has_hart n h) (sym (rest_is h set is)) ∙ rest_out h set is
-    go false is = is
+without_hart-itself h set =
+    cond_both (has_hart set h) (set - 2 ^ h) set (λ n. has_hart n h ≡ false)
+    (λ is. ap (λ n. has_hart n h) (sym (rest_is h set is)) ∙ rest_out h set is) (λ is. is)
 
 pub without_hart-other : (h set k : ℕ) → k ≢ h → has_hart (without_hart h set) k ≡ has_hart set k
-without_hart-other h set k ne = go (has_hart set h) refl
-  where
-    go : (b : Bool) → has_hart set h ≡ b → has_hart (cond b (set - 2 ^ h) set) k ≡ has_hart set k
-    go true is = ap (λ n. has_hart n k) (sym (rest_is h set is)) ∙ ap (λ b. eqb b 1) (rest_other h set k ne)
-    go false is = refl
+without_hart-other h set k ne =
+    cond_both (has_hart set h) (set - 2 ^ h) set (λ n. has_hart n k ≡ has_hart set k)
+    (λ is. ap (λ n. has_hart n k) (sym (rest_is h set is)) ∙ ap (λ b. eqb b 1) (rest_other h set k ne)) (λ is. refl)
 
 -- what is in a set without a hart is another one, and is in the set
 pub without_hart-has : (h set k : ℕ) → has_hart (without_hart h set) k ≡ true → (k ≢ h) × (has_hart set k ≡ true)
@@ -146,44 +132,13 @@ some_within (suc n) set few some = elim (cases_eq (bit_at set 0) 1) [
 pub some_hart : (set : ℕ) → set ≢ 0 → (h : ℕ) × (has_hart set h ≡ true)
 some_hart set some = some_within set set (omega arith) some
 
--- sets with the same harts are the same
+-- a bit is that of another set where its hart is
 same_bit : (a b k : ℕ) → has_hart a k ≡ has_hart b k → bit_at a k ≡ bit_at b k
 same_bit a b k same = go (has_hart a k) refl
   where
     go : (x : Bool) → has_hart a k ≡ x → bit_at a k ≡ bit_at b k
     go true is = bit_in a k is ∙ sym (bit_in b k (sym same ∙ is))
     go false is = bit_out a k is ∙ sym (bit_out b k (sym same ∙ is))
-
-pub same_sets : (a b : ℕ) → ((k : ℕ) → has_hart a k ≡ has_hart b k) → a ≡ b
-same_sets a b same = same_from_bits a b (λ k. same_bit a b k (same k))
-
--- a set of harts below a number fits as many bits
-shifted : (set n k : ℕ) → has_hart (set / 2 ^ n) k ≡ has_hart set (n + k)
-shifted set n k =
-    let power : 2 ^ (n + k) ≡ 2 ^ n * 2 ^ k = pow-add 2 n k in
-    ap (λ q. eqb (q % 2) 1) (div-div-eq-div-mul set (2 ^ n) (2 ^ k) ∙ ap (λ m. set / m) (sym power))
-
-pub harts_fit : (set n : ℕ) → ((k : ℕ) → has_hart set k ≡ true → k < n) → set < 2 ^ n
-harts_fit set n low = elim (cases_eq (set / 2 ^ n) 0) [
-  | inl none ↦
-      let room = lt-div-mul-add {a = set} {b = 2 ^ n} (pow_pos n) in
-      let nothing : set / 2 ^ n * 2 ^ n ≡ 0 * 2 ^ n = ap (λ q. q * 2 ^ n) none in
-      omega arith
-  | inr some ↦
-      let high = some_hart (set / 2 ^ n) some in
-      let below = low (n + high.0) (sym (shifted set n high.0) ∙ high.1) in
-      absurd (omega arith)
-]
-
-pub with_hart-fits : (h set n : ℕ) → h < n → set < 2 ^ n → with_hart h set < 2 ^ n
-with_hart-fits h set n low fits = harts_fit (with_hart h set) n (λ k has. elim (cases_eq k h) [
-  | inl same ↦ omega arith
-  | inr ne ↦ has_hart-within set n k fits (sym (with_hart-other h set k ne) ∙ has)
-])
-
-pub without_hart-fits : (h set n : ℕ) → set < 2 ^ n → without_hart h set < 2 ^ n
-without_hart-fits h set n fits =
-    harts_fit (without_hart h set) n (λ k has. has_hart-within set n k fits (without_hart-has h set k has).1)
 
 -- `set | 1 << h` and `set & !(1 << h)`
 set_bit : (set h k : ℕ) → h < 8 → bit_at (bit_or set (1 * 2 ^ h % 2 ^ 8)) k ≡ bit_at (with_hart h set) k

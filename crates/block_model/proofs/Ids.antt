@@ -1,21 +1,11 @@
 -- The concurrency ids of the threads that run: each holds one, no two hold the same, and the next is below the number of harts and
 -- of live threads, where the machine has at most 8 harts.
 use Rattle.std.proofs.Common.{ℕ, zero, suc, ◌+◌, ◌<◌, ◌≤◌, ◌≡◌, ◌≢◌, ◌&&◌, ◌||◌, Bool, true, false, not, cond, eqb, ltb, List, [], ◌∷◌, ◌++◌, length, map, filter, find, Option, Some, None, is_some, refl, sym, ap, ◌∙◌, subst, inl, inr, arith}
-use Rattle.std.specs.List.{list_any}
-use Rattle.std.specs.Option.{option_map, option_map_or}
-use Rattle.std.proofs.lemmas.Bool.{cases_lt, eqb-true, false≢true, lt-ltb, not-false, not-true, or_parts}
-use Rattle.std.proofs.lemmas.Bool.Decides.{eqb_tells}
-use Rattle.std.proofs.lemmas.List.{length-map, map_push}
-use Rattle.std.proofs.lemmas.List.Elements.{All-append, All-filter, All-from_recursion}
+use Rattle.block_model.proofs.Common.{All-from_recursion, AreIdsApart, IsLeastFree, IsTables, Ready, Running, Scheduling, Thread, ThreadState, Threads, cases_lt, eqb_same, eqb_tells, false≢true, has_hart, has_hart-harts_that, held_ids, id_of, is_id_of, is_running_state, is_taken, is_thread, length-map, list_any, lt-ltb, map_filters, map_push, next_id, not-false, not-true, numbers, option_map, option_map_or, or_parts, running_on, start_threads, state_of, thread_of, times, times_cons, times_filtered_other, times_push, without_id}
+use Rattle.std.proofs.lemmas.List.Elements.{All-append, All-filter}
 use Rattle.std.specs.Prelude.{unwrap_or}
-use Rattle.mach_types.proofs.Laws.{eqb_same, has_hart-harts_that, map_filters, times_cons, times_filtered_other, times_push}
-use Rattle.mach_types.specs.Kernel.Scheduling.{Scheduling, has_hart}
-use Rattle.mach_types.specs.Kernel.Threads.{Thread, Threads, is_running_state, is_thread, numbers, running_on, start_threads, state_of, thread_of, times}
 use Rattle.mach_types.specs.declared.events.Hart.{Hart}
-use Rattle.mach_types.specs.declared.threads.ThreadState.{ThreadState}
-use Rattle.mach_types.specs.declared.threads.ThreadState.TheVariants.{Ready, Running, Waiting}
-use Rattle.block_model.specs.Ids.{AreIdsApart, IsLeastFree, held_ids, id_of, is_id_of, is_taken, next_id, with_id, without_id}
-use Rattle.block_model.specs.Tables.{IsTables}
+use Rattle.block_model.specs.Ids.{with_id}
 use Rattle.mach_types.specs.Kernel.Areas.{concurrency_ids}
 use Rattle.block_model.proofs.KernelTables.{any_of, its_ready, its_state, joined, once, ready_state, running_there, taken}
 use Rattle.block_model.proofs.KernelCalls.{any_from_times}
@@ -63,12 +53,9 @@ fits (x ∷ xs) ys once_each within =
     let rest = fits xs (filter (λ y. not (eqb y x)) ys) fewer inside in
     let there = within x in
     let here = times_cons x x xs in
-    let same = ap once (eqb_is x) in
+    let same = ap once (eqb_same x) in
     omega (arith, length_split x ys, rest, there, here, same)
   where
-    eqb_is : (n : ℕ) → eqb n n ≡ true
-    eqb_is n = elim (eqb_tells n n) [ inl p ↦ p.0 | inr q ↦ absurd (q.1 refl) ]
-
     fewer : (n : ℕ) → times n xs ≤ 1
     fewer n = let all = once_each n in let split = times_cons n x xs in omega (arith, all, split)
 
@@ -90,55 +77,19 @@ abbrev span : ℕ → ℕ → List ℕ
 span first zero = []
 span first (suc n) = first ∷ span (first + 1) n
 
-span_length : (first n : ℕ) → length (span first n) ≡ n
-span_length first zero = refl
-span_length first (suc n) = ap suc (span_length (first + 1) n)
-
-span_below : (first n k : ℕ) → k < first → times k (span first n) ≡ 0
-span_below first zero k low = refl
-span_below first (suc n) k low =
-    let rest = span_below (first + 1) n k (omega arith) in
-    let split = times_cons k first (span (first + 1) n) in
-    elim (eqb_tells first k) [
-      | inl p ↦ let same = p.1 in absurd (omega arith)
-      | inr q ↦ let none = ap once q.0 in omega (arith, rest, split, none)
-    ]
-
-span_once : (first n k : ℕ) → times k (span first n) ≤ 1
-span_once first zero k = omega arith
-span_once first (suc n) k =
-    let rest = span_once (first + 1) n k in
-    let split = times_cons k first (span (first + 1) n) in
-    elim (eqb_tells first k) [
-      | inl p ↦
-          let same = p.1 in
-          let one = ap once p.0 in
-          let none = span_below (first + 1) n k (omega arith) in
-          omega (arith, split, one, none)
-      | inr q ↦ let none = ap once q.0 in omega (arith, rest, split, none)
-    ]
-
-span_past : (first n k : ℕ) → first + n ≤ k → times k (span first n) ≡ 0
-span_past first zero k past = refl
-span_past first (suc n) k past =
-    let rest = span_past (first + 1) n k (omega arith) in
-    let split = times_cons k first (span (first + 1) n) in
-    elim (eqb_tells first k) [
-      | inl p ↦ let same = p.1 in absurd (omega arith)
-      | inr q ↦ let none = ap once q.0 in omega (arith, rest, split, none)
-    ]
-
 -- a list that has each number below one has as many
 pub has_all : (n : ℕ) (xs : List ℕ) → ((k : ℕ) → k < n → 1 ≤ times k xs) → n ≤ length xs
-has_all n xs all =
-    let few = fits (span 0 n) xs (span_once 0 n) within in
-    omega (arith, span_length 0 n, few)
+has_all zero xs all = omega arith
+has_all (suc n) xs all =
+    let rest = has_all n (filter (λ x. not (eqb x n)) xs) others in
+    let there = all n (omega arith) in
+    omega (arith, rest, there, length_split n xs)
   where
-    within : (k : ℕ) → times k (span 0 n) ≤ times k xs
-    within k = elim (cases_lt k n) [
-      | inl lt ↦ let most = span_once 0 n k in let there = all k lt in omega (arith, most, there)
-      | inr ge ↦ let none = span_past 0 n k (omega arith) in omega (arith, none)
-    ]
+    others : (k : ℕ) → k < n → 1 ≤ times k (filter (λ x. not (eqb x n)) xs)
+    others k lt =
+        let there = all k (omega arith) in
+        let same = times_filtered_other n k (λ e. absurd (omega arith)) xs in
+        omega (arith, there, same)
 
 -- WHICH IDS ARE HELD
 
@@ -267,20 +218,15 @@ on_crew (suc n) k t ts lt runs = elim (cases_lt k n) [
   | inr same ↦
       let is : n ≡ k = omega arith in
       let here : running_on n ts ≡ Some t = ap (λ j. running_on j ts) is ∙ runs in
+      let one = ap once (eqb_same t) in
+      let split = times_cons t t (crew n ts) in
+      let first : 1 ≤ times t (t ∷ crew n ts) = omega (arith, one, split) in
       subst (λ (o : Option ℕ). 1 ≤ times t (joining o (crew n ts))) (sym here) first
 ]
-  where
-    first : 1 ≤ times t (t ∷ crew n ts)
-    first = elim (eqb_tells t t) [
-      | inl p ↦ let one = ap once p.0 in let split = times_cons t t (crew n ts) in omega (arith, one, split)
-      | inr q ↦ absurd (q.1 refl)
-    ]
 
 pub run_state : (o : Option ThreadState) → its_run o ≡ true → (k : Hart) × (o ≡ Some (Running k))
-run_state None is = absurd (false≢true is)
-run_state (Some Ready) is = absurd (false≢true is)
 run_state (Some (Running k)) is = (k, refl)
-run_state (Some (Waiting at)) is = absurd (false≢true is)
+run_state o is = absurd (false≢true is)
 
 pub once_most : (b : Bool) → once b ≤ 1
 once_most true = omega arith
@@ -327,42 +273,27 @@ module _ (harts h t : ℕ) (ts : Threads) (sc : Scheduling) (ids : List (ℕ × 
     ready_stands : is_run t ts ≡ false
     ready_stands = ap its_run (ready_state (state_of t ts) ready)
 
-    lives : (u : ℕ) → times u (holders ids) ≤ times u (numbers ts.live)
-    lives u =
-        let is = are.held u in
+    with_ready : (u : ℕ) → times u (t ∷ holders ids) ≤ once (is_some (thread_of u ts))
+    with_ready u =
+        let split = times_cons u t (holders ids) in
+        let held = are.held u in
         let alive = run_lives (thread_of u ts) in
-        let there = numbered u ts.live in
-        omega (arith, is, alive, there)
-
-    with_ready_once : (u : ℕ) → times u (t ∷ holders ids) ≤ 1
-    with_ready_once u =
-        let split = times_cons u t (holders ids) in
-        let most = holder_once u in
-        elim (eqb_tells t u) [
-          | inl p ↦
-              let one = ap once p.0 in
-              let none = are.held u ∙ ap once (ap (λ n. is_run n ts) (sym p.1) ∙ ready_stands) in
-              omega (arith, split, one, none)
-          | inr q ↦ let none = ap once q.0 in omega (arith, split, none, most)
-        ]
-
-    with_ready_lives : (u : ℕ) → times u (t ∷ holders ids) ≤ times u (numbers ts.live)
-    with_ready_lives u =
-        let split = times_cons u t (holders ids) in
-        let rest = lives u in
         elim (eqb_tells t u) [
           | inl p ↦
               let one = ap once p.0 in
               let none = are.held u ∙ ap once (ap (λ n. is_run n ts) (sym p.1) ∙ ready_stands) in
               let live = ap once (ready_lives (thread_of u ts) (ap (λ n. its_ready (state_of n ts)) (sym p.1) ∙ ready)) in
-              let there = numbered u ts.live in
-              omega (arith, split, one, none, live, there)
-          | inr q ↦ let none = ap once q.0 in omega (arith, split, none, rest)
+              omega (arith, split, one, none, live)
+          | inr q ↦ let none = ap once q.0 in omega (arith, split, none, held, alive)
         ]
 
     pub fewer_than_live : length ids < length ts.live
     fewer_than_live =
-        let few = fits (t ∷ holders ids) (numbers ts.live) with_ready_once with_ready_lives in
+        let once_only : (u : ℕ) → times u (t ∷ holders ids) ≤ 1 =
+        λ u. let its = with_ready u in let most = once_most (is_some (thread_of u ts)) in omega (arith, its, most) in
+        let all_live : (u : ℕ) → times u (t ∷ holders ids) ≤ times u (numbers ts.live) =
+        λ u. let its = with_ready u in let there = numbered u ts.live in omega (arith, its, there) in
+        let few = fits (t ∷ holders ids) (numbers ts.live) once_only all_live in
         omega (arith, few, length-map ids (λ pair. pair.0), length-map ts.live (λ (th : Thread). th.tid))
 
 -- STEPS
@@ -426,51 +357,6 @@ holder_there t ts ids are runs =
 -- the id of a thread, where the first pair is its own or not
 abbrev pub first_id : ℕ → ℕ × ℕ → List (ℕ × ℕ) → Bool → ℕ
 first_id t x ids b = option_map_or (λ (pair : ℕ × ℕ). pair.1) (cond b (Some x) (find (is_id_of t) ids)) 0
-
-id_there : (t : ℕ) (ids : List (ℕ × ℕ)) → list_any (is_id_of t) ids ≡ true → 1 ≤ times (id_of t ids) (held ids)
-id_there t [] is = absurd (false≢true is)
-id_there t (x ∷ ids) is = go (eqb x.0 t) refl (id_there t ids) is
-  where
-    go : (b : Bool) → eqb x.0 t ≡ b → (list_any (is_id_of t) ids ≡ true → 1 ≤ times (id_of t ids) (held ids))
-        → (b || list_any (is_id_of t) ids) ≡ true → 1 ≤ times (first_id t x ids b) (held (x ∷ ids))
-    go true same rest is = elim (eqb_tells x.1 x.1) [
-      | inl p ↦ let one = ap once p.0 in let split = times_cons x.1 x.1 (held ids) in omega (arith, one, split)
-      | inr q ↦ absurd (q.1 refl)
-    ]
-    go false other rest is =
-        let there = rest is in
-        let split = times_cons (id_of t ids) x.1 (held ids) in
-        omega (arith, there, split)
-
--- an id at the front isn't held behind it
-module _ (x : ℕ × ℕ) (ids : List (ℕ × ℕ)) (apart : (n : ℕ) → times n (held (x ∷ ids)) ≤ 1) where
-  fewer_behind : (n : ℕ) → times n (held ids) ≤ 1
-  fewer_behind n = let all = apart n in let split = times_cons n x.1 (held ids) in omega (arith, all, split)
-
-  not_behind : (u : ℕ) → list_any (is_id_of u) ids ≡ true → x.1 ≡ id_of u ids → ⊥
-  not_behind u there same = elim (eqb_tells x.1 (id_of u ids)) [
-    | inl p ↦
-        let one = ap once p.0 in
-        let all = apart (id_of u ids) in
-        let split = times_cons (id_of u ids) x.1 (held ids) in
-        let more = id_there u ids there in
-        omega (arith, one, all, split, more)
-    | inr q ↦ q.1 same
-  ]
-
-same_step : (x : ℕ × ℕ) (ids : List (ℕ × ℕ)) (t u : ℕ) (b c : Bool) → eqb x.0 t ≡ b → eqb x.0 u ≡ c → ((n : ℕ) → times n (held (x ∷ ids)) ≤ 1)
-    → (b || list_any (is_id_of t) ids) ≡ true → (c || list_any (is_id_of u) ids) ≡ true → first_id t x ids b ≡ first_id u x ids c
-    → (list_any (is_id_of t) ids ≡ true → list_any (is_id_of u) ids ≡ true → id_of t ids ≡ id_of u ids → t ≡ u) → t ≡ u
-same_step x ids t u true true here there apart p q same rest = sym (eqb-true x.0 t here) ∙ eqb-true x.0 u there
-same_step x ids t u true false here there apart p q same rest = absurd (not_behind x ids apart u q same)
-same_step x ids t u false true here there apart p q same rest = absurd (not_behind x ids apart t p (sym same))
-same_step x ids t u false false here there apart p q same rest = rest p q same
-
-same_holder : (ids : List (ℕ × ℕ)) (t u : ℕ) → ((n : ℕ) → times n (held ids) ≤ 1) → list_any (is_id_of t) ids ≡ true → list_any (is_id_of u) ids ≡ true
-    → id_of t ids ≡ id_of u ids → t ≡ u
-same_holder [] t u apart p q same = absurd (false≢true p)
-same_holder (x ∷ ids) t u apart p q same =
-    same_step x ids t u (eqb x.0 t) (eqb x.0 u) refl refl apart p q same (same_holder ids t u (fewer_behind x ids apart))
 
 -- who begins to run and held none holds the next id
 found_last : (t : ℕ) (ids : List (ℕ × ℕ)) (y : ℕ × ℕ) → list_any (is_id_of t) ids ≡ false → eqb y.0 t ≡ true → id_of t (ids ++ y ∷ []) ≡ y.1

@@ -1,31 +1,9 @@
 -- Which concurrency ids a call leaves, and that a thread holds the same one while it runs.
 use Rattle.std.proofs.Common.{◌≡◌, ℕ, ◌⊎◌, Bool, true, false, cond, List, refl, ap, inl, inr, ◌≢◌, ◌≤◌, ◌∷◌, ◌++◌, ◌∙◌, ◌||◌, not, eqb, [], find, Option, Some, sym, subst}
-use Rattle.mach_types.specs.Kernel.Threads.{clear_of}
-use Rattle.mach_types.specs.declared.user_memory.Write.{Write}
-use Rattle.block_model.specs.Calls.{called}
-use Rattle.block_model.specs.Calls.Answers.{CallDone, argument}
-use Rattle.block_model.specs.Calls.Cloning.{clone_child_cleartid, has_flag}
-use Rattle.block_model.specs.Calls.Ending.{clears}
-use Rattle.block_model.specs.Calls.Futexes.{wake}
-use Rattle.block_model.specs.Here.{Here, Done}
-use Rattle.block_model.specs.Ids.{without_id, id_of, is_id_of, next_id}
-use Rattle.block_model.specs.Kernel.{cleared, had_child, next_number}
-use Rattle.block_model.specs.Record.{Kernel}
+use Rattle.block_model.proofs.Common.{CallDone, Done, Entry, Here, History, IsAllowedLog, IsRunHistory, Kernel, Kind, Setting, Write, argument, called, choice_of, clear_of, cleared, clears, clone_child_cleartid, done, done_of, eqb-true, eqb_tells, event, false≢true, had_child, has_flag, here_in_history, history, id_of, is_id_of, kernel, list_any, ne_eqb, next_id, next_number, option_map_or, running, wake, without_id}
 use Rattle.block_model.proofs.CallEffects.{Answers, Bears, CallDeed, Exits, Leaves, MovesOff, TableStep, Waits, Wakes}
 use Rattle.block_model.proofs.CallEffects.EachCall.{deed_called}
 use Rattle.block_model.proofs.Invariants.Calls.Futexes.{wake_keeps}
-use Rattle.std.specs.List.{list_any}
-use Rattle.std.specs.Option.{option_map_or}
-use Rattle.std.proofs.lemmas.Bool.{eqb-true, false≢true, ne_eqb}
-use Rattle.std.proofs.lemmas.Bool.Decides.{eqb_tells}
-use Rattle.mach_types.specs.declared.events.Kind.{Kind}
-use Rattle.mach_types.specs.declared.events.Entry.{Entry}
-use Rattle.mach_types.specs.Events.{choice_of}
-use Rattle.block_model.specs.Deciding.{done, event, history}
-use Rattle.block_model.specs.Events.{done_of}
-use Rattle.block_model.specs.History.{History, here_in_history, kernel, running}
-use Rattle.block_model.specs.Run.{IsAllowedLog, IsRunHistory}
-use Rattle.block_model.specs.Setting.{Setting}
 use Rattle.block_model.proofs.EventEffects.{Calls, EventDeed, Preempts, Runs, deed_of}
 use Rattle.block_model.proofs.ThreadRecords.{none_left}
 use Rattle.block_model.proofs.Ids.{first_id, holder_there, its_run}

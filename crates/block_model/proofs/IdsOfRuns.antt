@@ -1,25 +1,7 @@
 -- What the record holds for threads at each place of a block run: their ids and their areas.
-use Rattle.std.proofs.Common.{◌≡◌, ℕ, ◌<◌, ◌≤◌, ◌||◌, List, [], ◌∷◌, ◌++◌, length, map, find, refl, sym, ap, ◌∙◌, subst, arith, Bool, true, false, cond, Some, None, Ok}
-use Rattle.std.specs.List.{list_any}
-use Rattle.std.specs.Option.{IsSome, option_map}
-use Rattle.mach_types.specs.Events.{choice_of}
-use Rattle.mach_types.specs.Kernel.Areas.{area_of, is_area_of}
-use Rattle.mach_types.specs.Kernel.Threads.{is_live, is_ready, running_on, state_of, times}
-use Rattle.mach_types.specs.declared.events.Choice.{Choice}
+use Rattle.std.proofs.Common.{◌≡◌, ℕ, ◌<◌, ◌≤◌, ◌||◌, List, [], ◌∷◌, ◌++◌, length, find, refl, sym, ap, ◌∙◌, subst, arith, Bool, true, false, cond, Some, None, Ok}
+use Rattle.block_model.proofs.Common.{AreIdsApart, Area, Choice, Done, Entry, Here, History, IsAllowedLog, IsHeld, IsLeastFree, IsRunHistory, IsSome, Setting, Tid, area_of, choice_of, decide, done, done_killed, done_of, done_running, event, here_in_history, history, id_of, interruption_here, is_area_of, is_live, is_ready, kernel, list_any, lives_on, next_id, option_map, refusal_of, running, running_on, runs, state_of}
 use Rattle.mach_types.specs.declared.events.Choice.TheVariants as asked
-use Rattle.mach_types.specs.declared.events.Entry.{Entry}
-use Rattle.mach_types.specs.declared.events.Tid.{Tid}
-use Rattle.mach_types.specs.declared.sequences.Area.{Area}
-use Rattle.block_model.specs.Deciding.{decide, done, event, history}
-use Rattle.block_model.specs.Events.{done_of, refusal_of}
-use Rattle.block_model.specs.Events.Run.{done_killed, done_running, lives_on}
-use Rattle.block_model.specs.Here.{Done, Here, runs}
-use Rattle.block_model.specs.History.{History, here_in_history, kernel, running}
-use Rattle.block_model.specs.Ids.{AreIdsApart, IsLeastFree, id_of, next_id}
-use Rattle.block_model.specs.Run.{IsAllowedLog, IsRunHistory}
-use Rattle.block_model.specs.Sequences.{interruption_here}
-use Rattle.block_model.specs.Setting.{Setting}
-use Rattle.block_model.specs.Tables.{IsHeld}
 use Rattle.block_model.proofs.Runs.{allowed_at, fit_at, history-append, settled}
 use Rattle.block_model.proofs.Invariants.Events.{run_ready}
 use Rattle.block_model.proofs.ThreadRecords.{held_start}
@@ -111,6 +93,3 @@ pub areas_live : (s : Setting) (log : List Entry) (t : ℕ) → IsAllowedLog s l
 areas_live s log t run some =
     let k = kernel s (history s log) in
     (held_in s (history s log) run).areas.live t (any_found t k.areas some)
-
-pub areas_once : (s : Setting) (log : List Entry) (t : ℕ) → IsAllowedLog s log → times t (map (λ pair. pair.0) (kernel s (history s log)).areas) ≤ 1
-areas_once s log t run = (held_in s (history s log) run).areas.one t

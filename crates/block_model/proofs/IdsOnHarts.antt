@@ -1,17 +1,6 @@
 -- The ids that are held are those of the threads that harts run.
-use Rattle.std.proofs.Common.{ℕ, zero, suc, ◌*◌, ◌%◌, ◌^◌, ◌<◌, ◌≤◌, ◌≡◌, ◌≢◌, ◌||◌, Bool, true, false, eqb, List, [], ◌∷◌, Option, Some, None, refl, sym, ap, ◌∙◌, subst, inl, inr, arith}
-use Rattle.std.specs.Int.{w8}
-use Rattle.std.specs.Int.Bits.{bit_or}
-use Rattle.std.specs.List.{list_any}
-use Rattle.std.specs.Option.{option_map_or}
-use Rattle.std.proofs.lemmas.Bool.{cases_lt, eqb-true, false≢true, lt-ltb, or_right}
-use Rattle.std.proofs.lemmas.Bool.Decides.{eqb_tells}
-use Rattle.std.proofs.lemmas.Nat.Bits.{bit_at_set_other, bit_at_set_same}
-use Rattle.mach_types.proofs.Laws.{eqb_same, has_hart-harts_that, times_cons}
-use Rattle.mach_types.specs.Kernel.Scheduling.{Scheduling, has_hart}
-use Rattle.mach_types.specs.Kernel.Threads.{Threads, running_on, state_of, times}
-use Rattle.block_model.specs.Ids.{AreIdsApart, held_ids, id_of, is_id_of, is_taken}
-use Rattle.block_model.specs.Tables.{IsTables}
+use Rattle.std.proofs.Common.{ℕ, zero, suc, ◌<◌, ◌≤◌, ◌≡◌, ◌≢◌, ◌||◌, Bool, true, false, eqb, List, [], ◌∷◌, Option, Some, None, refl, sym, ap, ◌∙◌, subst, inl, inr, arith}
+use Rattle.block_model.proofs.Common.{AreIdsApart, IsTables, Scheduling, Threads, cases_lt, eqb-true, eqb_same, eqb_tells, false≢true, has_hart, has_hart-harts_that, held_ids, id_of, is_id_of, is_taken, list_any, lt-ltb, option_map_or, or_right, running_on, state_of, times, times_cons}
 use Rattle.block_model.proofs.Ids.{first_id, holder_there, holders, in_set, is_run, its_run, once_most, run_state}
 use Rattle.block_model.proofs.KernelCalls.{any_from_times}
 use Rattle.block_model.proofs.KernelTables.{any_of, once, running_is, running_there}
@@ -134,12 +123,11 @@ module _ (harts : ℕ) (ts : Threads) (sc : Scheduling) (ids : List (ℕ × ℕ)
   taken_on_harts n = go (is_taken ids n) refl (is_held_below ts ids n harts) refl
     where
       go : (a : Bool) → is_taken ids n ≡ a → (b : Bool) → is_held_below ts ids n harts ≡ b → a ≡ b
-      go true is true below = refl
       go true is false below =
           let at = taken_is_of n is in
           absurd (false≢true (sym below ∙ some_below ts ids n at.hart at.thread harts at.lt at.runs at.holds))
       go false is true below = absurd (false≢true (sym is ∙ below_is_taken n harts below))
-      go false is false below = refl
+      go a is b below = refl
 
 -- SETS OF IDS
 
@@ -150,19 +138,3 @@ full_has n low = has_hart-harts_that (λ m. true) 8 n ∙ lt-ltb n 8 low
 pub not_full : (ids : List (ℕ × ℕ)) (n : ℕ) → n < 8 → is_taken ids n ≡ false → held_ids ids ≢ 255
 not_full ids n low free full =
     absurd (false≢true (sym free ∙ sym (in_set ids n low) ∙ ap (λ set. has_hart set n) full ∙ full_has n low))
-
--- a set of 8 with one more
-pub has_hart-set : (set k n : ℕ) → k < 8 → has_hart (bit_or set (1 * 2 ^ k % 2 ^ 8)) n ≡ (has_hart set n || eqb k n)
-has_hart-set set k n low = elim (eqb_tells k n) [
-  | inl p ↦
-      ap (has_hart (bit_or set (1 * 2 ^ k % 2 ^ 8))) (sym p.1)
-      ∙ ap (λ b. eqb b 1) (bit_at_set_same w8 set k low)
-      ∙ sym (or_right (has_hart set n) (eqb k n) p.0)
-  | inr q ↦
-      ap (λ b. eqb b 1) (bit_at_set_other w8 set k low n (λ e. q.1 (sym e)))
-      ∙ sym (ap (λ b. has_hart set n || b) q.0 ∙ or_false (has_hart set n))
-]
-  where
-    or_false : (b : Bool) → (b || false) ≡ b
-    or_false true = refl
-    or_false false = refl

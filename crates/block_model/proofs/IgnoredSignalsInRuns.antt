@@ -1,23 +1,6 @@
 -- At each place of a block run no signal is pending that its action ignores: what calls and events keep of this.
 use Rattle.std.proofs.Common.{ℕ, List, Bool, true, false, not, cond, ◌∷◌, [], Some, sym, subst}
-use Rattle.std.proofs.lemmas.Bool.{and_parts}
-use Rattle.mach_types.specs.Kernel.Signals.{action_of, has_signal, is_handler, mask_of}
-use Rattle.mach_types.specs.Kernel.Threads.{clear_of}
-use Rattle.mach_types.specs.declared.events.Entry.{Entry}
-use Rattle.mach_types.specs.declared.events.Kind.{Kind}
-use Rattle.mach_types.specs.declared.user_memory.Write.{Write}
-use Rattle.block_model.specs.Calls.Answers.{CallDone, argument, call_number}
-use Rattle.block_model.specs.Calls.Cloning.{clone_child_cleartid, has_flag}
-use Rattle.block_model.specs.Calls.Ending.{clears}
-use Rattle.block_model.specs.Calls.Futexes.{wake}
-use Rattle.block_model.specs.Deciding.{done}
-use Rattle.block_model.specs.Events.Signal.{signals_taken}
-use Rattle.block_model.specs.Here.{Done, Here}
-use Rattle.block_model.specs.History.{Event, History, here_in_history, kernel}
-use Rattle.block_model.specs.Kernel.{cleared, had_child, next_number}
-use Rattle.block_model.specs.Record.{Kernel}
-use Rattle.block_model.specs.Run.{IsRunHistory}
-use Rattle.block_model.specs.Setting.{Setting}
+use Rattle.block_model.proofs.Common.{CallDone, Done, Entry, Event, Here, History, IsRunHistory, Kernel, Kind, Setting, Write, action_of, and_parts, argument, call_number, clear_of, cleared, clears, clone_child_cleartid, done, had_child, has_flag, has_signal, here_in_history, is_handler, kernel, mask_of, next_number, signals_taken, wake}
 use Rattle.block_model.proofs.CallEffects.{Answers, Bears, Breaks, CallDeed, Exits, Resumes, Signalled, TableStep, Wakes}
 use Rattle.block_model.proofs.CallEffects.EachCall.{deed_called}
 use Rattle.block_model.proofs.EventEffects.{Calls, EventDeed, Faults, Handles, SignalKills, deed_of}

@@ -1,33 +1,23 @@
 -- A file has one image, which is laid out, and its bytes are those of memory.
 use Rattle.std.proofs.Common.{◌≡◌, ◌≢◌, ◌⊎◌, ◌↔◌, ℕ, zero, suc, ◌+◌, ◌*◌, ◌<◌, List, [], ◌∷◌, length, refl, sym, ap, ◌∙◌, subst, arith, inl, inr, get_or, ◌-◌, ◌≤◌, map, add-one, None, ◌/◌, ◌%◌, ◌^◌, ◌==◌, ◌&&◌, nat_le, nat_lt, find, Bool, true, false, cond, Option, Some, slice_index, unwrap_or}
+use Rattle.block_model.proofs.Common.{All, All-from_recursion, All-head, All-tail, AllByRecursion, FIRST_MAPPING_PAGE, FIRST_STACK_PAGE, Here, MAPPING_START, PAGE_SIZE, Saved, Store, Stored, Write, Zeroed, byte_after, byte_of, byte_over, can_read, cases_eq, frame_read, is_in, length-map, memory, mod-lt, overlay, pages_of, permission_at, permission_of, word_at, word_before, words_at, written}
 use Rattle.std.proofs.lemmas.Grind.{get_or_default_zero, same_number_lists}
-use Rattle.std.proofs.lemmas.List.Elements.{All-head, All-tail, All-from_recursion}
-use Rattle.std.specs.List.{All, Contains, AllByRecursion}
+use Rattle.std.specs.List.{Contains}
 use Rattle.std.specs.List.Sorted.{IsStrictlyIncreasing}
 use Rattle.mach_types.specs.declared.limits.Limits.{Limits}
 use Rattle.elf_load.specs.Images.{IsImage, IsPage, ArePages, numbers, end_of, memory_byte, page_permission, IsBootable, number_of, byte_of_segment, covers as covers_file}
 use Rattle.elf_load.specs.declared.image.Image.{Image}
 use Rattle.elf_load.specs.declared.image.ImagePage.{ImagePage}
 use Rattle.block_model.specs.Setting.{setting_of}
-use Rattle.std.proofs.lemmas.Bool.{cases_eq}
-use Rattle.std.proofs.lemmas.List.{length-map}
-use Rattle.mach_types.specs.Kernel.Pages.{pages_of, permission_of, can_read, is_in, permission_at}
-use Rattle.mach_types.specs.declared.address_space.TheConstants.{FIRST_MAPPING_PAGE, FIRST_STACK_PAGE, MAPPING_START, PAGE_SIZE, RETURN_PAGE, STACK_PAGES}
+use Rattle.mach_types.specs.declared.address_space.TheConstants.{RETURN_PAGE, STACK_PAGES}
 use Rattle.elf_load.specs.Start.{image_run, program_of, return_run, stack_run, start_runs, Program, image_byte, loaded_byte, page_of, return_byte, return_words, start_byte, start_stores}
 use Rattle.block_model.specs.Layouts.{IsLaidOut}
 use Rattle.block_model.proofs.Pages.{outside_above, outside_below}
-use Rattle.std.proofs.Math.Nat.{mod-lt}
 use Rattle.mach_types.proofs.Laws.{word_at-fits}
-use Rattle.mach_types.specs.Bytes.{byte_after, byte_of, byte_over, covers, overlay, word_at, written}
-use Rattle.mach_types.specs.Kernel.SignalFrames.{frame_read, word_before, words_at}
-use Rattle.mach_types.specs.declared.threads.Saved.{Saved}
-use Rattle.mach_types.specs.declared.user_memory.Store.{Store}
-use Rattle.mach_types.specs.declared.user_memory.Write.{Write}
-use Rattle.mach_types.specs.declared.user_memory.Write.TheVariants.{Stored, Zeroed}
+use Rattle.mach_types.specs.Bytes.{covers}
 use Rattle.elf_load.specs.Fields.{program_headers}
 use Rattle.elf_load.specs.declared.program_headers.ProgramHeader.{ProgramHeader}
 use Rattle.block_model.specs.Calls.Answers.{number_at}
-use Rattle.block_model.specs.Here.{Here, memory}
 
 -- in a rising list the first is the least
 least_at : (x : ℕ) (xs : List ℕ) → IsStrictlyIncreasing (x ∷ xs) → (k : ℕ) → k < length xs → x < get_or xs k 0
@@ -103,14 +93,13 @@ same_page file p q one other same =
 
 same_pages : (file : List ℕ) (ps qs : List ImagePage) → numbers ps ≡ numbers qs → All (IsPage file) ps → All (IsPage file) qs → ps ≡ qs
 same_pages file [] [] same one other = refl
-same_pages file [] (q ∷ qs) same one other = absurd cc
-same_pages file (p ∷ ps) [] same one other = absurd cc
 same_pages file (p ∷ ps) (q ∷ qs) same one other =
     let number : p.number ≡ q.number = cc in
     let others : numbers ps ≡ numbers qs = cc in
     let first : p ≡ q = same_page file p q (All-head (IsPage file) p ps one) (All-head (IsPage file) q qs other) number in
     let rest : ps ≡ qs = same_pages file ps qs others (All-tail (IsPage file) p ps one) (All-tail (IsPage file) q qs other) in
     cc
+same_pages file ps qs same one other = absurd cc
 
 one_list : (file : List ℕ) (ps qs : List ImagePage) → ArePages file ps → ArePages file qs → ps ≡ qs
 one_list file ps qs one other =
@@ -294,8 +283,7 @@ module _ (here : Here) (bytes : (a : ℕ) → here.byte a < 256) where
   first_small : (o : Option ℕ) (rest : Option (List ℕ)) (words : List ℕ) → ((w : ℕ) → o ≡ Some w → w < 2 ^ 64) → word_before o rest ≡ Some words
       → slice_index words 0 < 2 ^ 64
   first_small (Some w) (Some ws) words small is = let same : w ∷ ws ≡ words = cc in subst (λ (xs : List ℕ). slice_index xs 0 < 2 ^ 64) same (small w refl)
-  first_small (Some w) None words small is = cc
-  first_small None rest words small is = cc
+  first_small o rest words small is = cc
 
   words_small : (at n : ℕ) (words : List ℕ) → words_at (memory here) at (suc n) ≡ Some words → slice_index words 0 < 2 ^ 64
   words_small at n words is = first_small (word_at (memory here) at 8) (words_at (memory here) (at + 8) n) words (word_small at) is

@@ -1,34 +1,12 @@
 -- What an interruption comes to, and that it leaves the pointer of the thread's area 0 (rseq(2)).
 use Rattle.std.proofs.Common.{◌≡◌, ℕ, ◌+◌, ◌-◌, ◌/◌, ◌%◌, ◌^◌, ◌*◌, ◌<◌, ◌≤◌, ◌&&◌, ◌⊎◌, inl, inr, List, [], ◌∷◌, ◌++◌, drop, length, take, refl, sym, ap, ◌∙◌, arith, Bool, true, false, if◌then◌else◌, cond, leb, ltb, Option, Some, None, is_some, length-append, subst, not, Any}
-use Rattle.std.proofs.lemmas.Bool.{and_right, false≢true, ltb-false}
-use Rattle.std.proofs.lemmas.List.{length-take}
-use Rattle.std.proofs.lemmas.Bool.Decides.{nat_tests}
-use Rattle.mach_types.proofs.Laws.{each_byte-same, word_at-read}
-use Rattle.mach_types.specs.Bytes.{byte_of, byte_over, written, word_at}
-use Rattle.mach_types.specs.Kernel.Areas.{Words, are_readable, pointer_cleared, pointer_of, words_entered, words_written, interruption, is_clearable, is_inside, is_inside_named, named, number_at, outcome_of, words_on, writes_of}
-use Rattle.mach_types.specs.Kernel.SignalFrames.{frame_at, frame_words, frame_writes, stack_pointer, words_stored}
-use Rattle.mach_types.specs.declared.sequences.Area.{Area}
-use Rattle.mach_types.specs.declared.sequences.TheConstants.{CPU_ID, MM_CID, NODE_ID, RSEQ_CS}
-use Rattle.mach_types.specs.declared.signals.TheConstants.{SIGNAL_FRAME_SIZE}
-use Rattle.mach_types.specs.declared.threads.Saved.{Saved}
-use Rattle.mach_types.specs.declared.user_memory.Store.{Store}
-use Rattle.mach_types.specs.declared.user_memory.Write.{Write}
-use Rattle.block_model.specs.Footprints.{meets}
+use Rattle.block_model.proofs.Common.{Area, BadWhy, CPU_ID, Done, Here, MM_CID, NODE_ID, Named, Outcome, RSEQ_CS, SIGNAL_FRAME_SIZE, Saved, Seq, Store, Stored, Words, Write, and_right, are_readable, area_here, byte_of, byte_over, can_read, can_write_words, done_running, false≢true, frame_at, frame_words, frame_writes, interruption, interruption_here, is_clearable, is_inside, is_inside_named, is_writable, length-take, lives_on, ltb-false, meets, memory, memory_in, named, nat_tests, next_id, number_at, option_map_or, permission_at, pointer_of, stack_pointer, word_at, word_at-read, words_entered, words_on, words_stored, words_to, words_written, writes_of, written}
+use Rattle.mach_types.proofs.Laws.{each_byte-same}
+use Rattle.mach_types.specs.Kernel.Areas.{pointer_cleared, outcome_of}
 use Rattle.block_model.proofs.NamedSequences.{number_agrees, IsNull, number_null, nothing_null, read_unless_bad}
-use Rattle.std.specs.Option.{option_map_or}
-use Rattle.mach_types.specs.Kernel.Pages.{can_read, permission_at}
-use Rattle.mach_types.specs.declared.sequences.BadWhy.{BadWhy}
 use Rattle.mach_types.specs.declared.sequences.BadWhy.TheVariants as bad
-use Rattle.mach_types.specs.declared.sequences.Named.{Named}
 use Rattle.mach_types.specs.declared.sequences.Named.TheVariants as names
-use Rattle.mach_types.specs.declared.sequences.Outcome.{Outcome}
 use Rattle.mach_types.specs.declared.sequences.Outcome.TheVariants as comes_to
-use Rattle.mach_types.specs.declared.sequences.Seq.{Seq}
-use Rattle.mach_types.specs.declared.user_memory.Write.TheVariants.{Stored}
-use Rattle.block_model.specs.Events.Run.{done_running, lives_on}
-use Rattle.block_model.specs.Here.{Done, Here, is_writable, memory, memory_in}
-use Rattle.block_model.specs.Ids.{next_id}
-use Rattle.block_model.specs.Sequences.{area_here, can_write_words, interruption_here, words_to}
 
 -- ONE BYTE OF THE POINTER
 
@@ -181,8 +159,6 @@ module _ (can_write : ℕ → Bool) (area : Area) (pc : ℕ) (sequence : Seq) (i
 
 inside_area : (byte : ℕ → Option ℕ) (can_write : ℕ → Bool) (area : Area) (pc : ℕ) (n : Named) → named byte area pc ≡ n → is_inside_named n pc ≡ true
     → InsideOf byte can_write (Some area) pc
-inside_area byte can_write area pc names.Nothing is inside = absurd (false≢true inside)
-inside_area byte can_write area pc (names.Bad why) is inside = absurd (false≢true inside)
 inside_area byte can_write area pc (names.Good sequence) is inside = record {
   area = area;
   sequence = sequence;
@@ -192,6 +168,7 @@ inside_area byte can_write area pc (names.Good sequence) is inside = record {
   outcome = subst (λ n. (outcome_of can_write area pc n ≡ comes_to.Aborted sequence.abort) ⊎ (outcome_of can_write area pc n ≡ comes_to.Killed bad.AreaBytes))
       (sym is) (good_outcome can_write area pc sequence inside (is_clearable can_write area) refl);
 }
+inside_area byte can_write area pc other is inside = absurd (false≢true inside)
 
 pub inside_of : (byte : ℕ → Option ℕ) (can_write : ℕ → Bool) (o : Option Area) (pc : ℕ)
     → is_inside_named (option_map_or (λ area. named byte area pc) o names.Nothing) pc ≡ true → InsideOf byte can_write o pc
@@ -238,9 +215,8 @@ module _ (here : Here) (t : ℕ) (area : Area) (has : area_here here t ≡ Some 
   null_after comes_to.Nothing is never =
       stays_then (may_read here) here.byte area rest leaves
       ∙ nothing_null (memory here) area pc (nothing_named (is_writable here) area pc (named (memory here) area pc) is)
-  null_after comes_to.Cleared is never = cleared_then (may_read here) here.byte area rest leaves
-  null_after (comes_to.Aborted at) is never = cleared_then (may_read here) here.byte area rest leaves
   null_after (comes_to.Killed why) is never = absurd (never why refl)
+  null_after outcome is never = cleared_then (may_read here) here.byte area rest leaves
 
   -- its bytes can be read, since the area names nothing bad
   word_is_null : (entered : List Write) → ((why : BadWhy) → interruption (memory here) (is_writable here) (Some area) pc ≡ comes_to.Killed why → ⊥)

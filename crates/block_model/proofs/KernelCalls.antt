@@ -1,22 +1,13 @@
 -- What holds of the threads of a process and of their scheduling together holds after each call that changes them (clone(2), futex(2), exit(2), sched_setaffinity(2)).
 use Rattle.std.proofs.Common.{ℕ, ◌+◌, ◌≡◌, ◌≢◌, Bool, true, false, not, ◌||◌, cond, eqb, List, [], ◌∷◌, ◌++◌, length, map, filter, Option, Some, None, is_some, refl, sym, ap, ◌∙◌, inl, inr, arith}
-use Rattle.std.specs.List.{list_any}
-use Rattle.std.specs.Option.{option_map}
-use Rattle.std.proofs.lemmas.Bool.Decides.{eqb_tells, Decides-eqb}
-use Rattle.std.proofs.lemmas.List.{length-map, map_push}
-use Rattle.mach_types.proofs.Laws.{map_stays, map_filters, IsThreads-child, IsThreads-without, IsThreads-woken, IsThreads-waiter, same_numbers, state_of-with_state_other, state_of-without_same, state_of-without_other, state_of-with_child_same, state_of-with_child_other, next_is_new}
-use Rattle.block_model.specs.Tables.{IsTables, on}
+use Rattle.block_model.proofs.Common.{Decides-eqb, IsTables, Ready, Running, Scheduling, Thread, Threads, Waiting, affinity_of, eqb_tells, forget, is_full, is_of, is_ready, list_any, map_filters, map_push, map_stays, new_thread, next_is_new, numbers, on, option_map, running_on, same_numbers, set_if, state_of, state_of-with_child_other, state_of-with_child_same, state_of-with_state_other, state_of-without_other, state_of-without_same, times, waits, with_affinity, with_child, with_ready, with_waiter, without}
+use Rattle.mach_types.proofs.Laws.{IsThreads-child, IsThreads-without, IsThreads-woken, IsThreads-waiter}
 use Rattle.block_model.proofs.KernelTables.{once, its_ready, held_from_alike, joined, running_is, stopped_idle, stopped_others, runs_once, not_running, state_now, tables_stopped}
-use Rattle.mach_types.specs.Kernel.Threads.{Thread, Threads, new_thread, state_of, is_full, with_child, without, with_waiter, with_woken, waits, numbers, is_ready, running_on, times}
-use Rattle.mach_types.specs.Kernel.Scheduling.{Scheduling, is_of, affinity_of, with_ready, with_thread, forget, with_affinity, set_if}
+use Rattle.mach_types.specs.Kernel.Threads.{with_woken}
+use Rattle.mach_types.specs.Kernel.Scheduling.{with_thread}
 use Rattle.mach_types.specs.declared.events.Hart.{Hart}
-use Rattle.mach_types.specs.declared.threads.ThreadState.TheVariants.{Ready, Running, Waiting}
 
--- what a caller reads in the scheduling: as many threads are held as live, and a thread is in the ready list where it is ready
-pub as_many_held : (harts : ℕ) (ts : Threads) (sc : Scheduling) → IsTables harts ts sc → length sc.affinities ≡ length ts.live
-as_many_held harts ts sc holds =
-    sym (length-map sc.affinities (λ pair. pair.0)) ∙ ap length holds.alike ∙ length-map ts.live (λ (th : Thread). th.tid)
-
+-- a thread is in the ready list where it is ready
 pub any_from_times : (t : ℕ) (order : List ℕ) (b : Bool) → times t order ≡ once b → list_any (λ u. eqb u t) order ≡ b
 any_from_times t [] true e = absurd (omega arith)
 any_from_times t [] false e = refl

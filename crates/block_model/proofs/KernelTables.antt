@@ -1,19 +1,13 @@
 -- What holds of the threads of a process and of their scheduling together, and that it holds after each change of them.
 use Rattle.std.proofs.Common.{ℕ, ◌<◌, ◌≡◌, ◌≢◌, ◌⊎◌, Bool, true, false, not, ◌||◌, cond, eqb, List, [], ◌∷◌, ◌++◌, length, map, filter, find, Option, Some, None, Less, is_some, refl, sym, ap, ◌∙◌, subst, inl, inr, arith}
-use Rattle.std.specs.List.{AllByRecursion, list_any}
+use Rattle.block_model.proofs.Common.{AllByRecursion, Decides-eqb, IsTables, IsThreads, Ready, Running, Scheduling, Thread, ThreadState, Threads, Waiting, eqb_same, eqb_tells, false≢true, is_live, is_of, is_ready, is_ready_state, is_running_state, is_thread, is_waiting_state, list_any, nat_tests, numbers, on, option_map, option_map_or, running_on, same_clear_numbers, same_numbers, start_scheduling, start_threads, state_of, state_of-with_clear, state_of-with_state_other, state_of-with_state_same, thread_of, times, times_filtered_other, times_push, waits, with_clear, with_ready, with_state}
 use Rattle.std.specs.List.Sorted.{IsStrictlySortedBy}
-use Rattle.std.specs.Option.{option_map, option_map_or}
 use Rattle.std.specs.Ordering.{nat_cmp}
-use Rattle.std.proofs.lemmas.Bool.{false≢true}
-use Rattle.std.proofs.lemmas.Bool.Decides.{nat_tests, eqb_tells, Decides-eqb}
 use Rattle.std.proofs.lemmas.Map.Keys.{sorted_from_strictly_increasing}
-use Rattle.mach_types.proofs.Laws.{times_push, times_one, times_one_other, times_filtered_same, times_filtered_other, eqb_same, IsThreads-start, IsThreads-with_state, IsThreads-with_clear, same_numbers, same_clear_numbers, state_of-with_state_same, state_of-with_state_other, state_of-with_clear}
-use Rattle.mach_types.specs.Kernel.Threads.{Thread, Threads, IsThreads, start_threads, is_thread, thread_of, state_of, is_live, with_state, with_clear, numbers, is_ready, is_ready_state, is_waiting_state, is_running_state, is_running_on, is_on, running_on, times, waits}
-use Rattle.mach_types.specs.Kernel.Scheduling.{Scheduling, start_scheduling, is_of, with_ready, without_ready}
-use Rattle.block_model.specs.Tables.{IsTables, on}
+use Rattle.mach_types.proofs.Laws.{times_one, times_one_other, times_filtered_same, IsThreads-start, IsThreads-with_state, IsThreads-with_clear}
+use Rattle.mach_types.specs.Kernel.Threads.{is_running_on, is_on}
+use Rattle.mach_types.specs.Kernel.Scheduling.{without_ready}
 use Rattle.mach_types.specs.declared.events.Hart.{Hart}
-use Rattle.mach_types.specs.declared.threads.ThreadState.{ThreadState}
-use Rattle.mach_types.specs.declared.threads.ThreadState.TheVariants.{Ready, Running, Waiting}
 
 abbrev pub once : Bool → ℕ
 once b = cond b 1 0
@@ -94,19 +88,15 @@ found_sorted p (y ∷ ys) x rising e =
 
 -- the thread that runs on a hart
 on_state : (h : ℕ) (s : ThreadState) → is_running_on h s ≡ true → s ≡ on h
-on_state h Ready e = absurd (false≢true e)
 on_state h (Running k) e =
     let same : k.0 ≡ h = (Decides-eqb k.0 h).0 e in
     ap on same
-on_state h (Waiting at) e = absurd (false≢true e)
+on_state h other e = absurd (false≢true e)
 
 pub same_hart : (k h : ℕ) → on k ≡ on h → k ≡ h
 same_hart k h e =
     let same : ◌≡◌ {A = Hart} (record { 0 = k }) (record { 0 = h }) = cc in
     ap (λ (hart : Hart). hart.0) same
-
-on_test : (h : ℕ) (s : ThreadState) → s ≡ on h → is_running_on h s ≡ true
-on_test h s e = ap (is_running_on h) e ∙ eqb_same h
 
 found_runs : (h t : ℕ) (ts : Threads) → IsThreads ts → (o : Option Thread) → find (is_on h) ts.live ≡ o → option_map (λ th. th.tid) o ≡ Some t → state_of t ts ≡ Some (on h)
 found_runs h t ts holds None e v = cc
@@ -121,11 +111,10 @@ running_is harts h t ts sc holds e = found_runs h t ts holds.threads (find (is_o
 
 -- where a hart is idle, no thread runs there
 none_step : (h t : ℕ) (ts : Threads) (o f : Option Thread) → thread_of t ts ≡ o → option_map (λ th. th.state) o ≡ Some (on h) → find (is_on h) ts.live ≡ f → option_map (λ th. th.tid) f ≡ None → ⊥
-none_step h t ts None f e was g none = cc
-none_step h t ts (Some th) (Some other) e was g none = cc
 none_step h t ts (Some th) None e was g none =
     let its : th.state ≡ on h = cc in
-    found_too (is_thread t) (is_on h) ts.live th e (on_test h th.state its) g
+    found_too (is_thread t) (is_on h) ts.live th e (ap (is_running_on h) its ∙ eqb_same h) g
+none_step h t ts o f e was g none = cc
 
 pub running_none : (h t : ℕ) (ts : Threads) → running_on h ts ≡ None → state_of t ts ≡ Some (on h) → ⊥
 running_none h t ts none was = none_step h t ts (thread_of t ts) (find (is_on h) ts.live) refl was refl none
@@ -298,10 +287,8 @@ module _ (harts h t : ℕ) (ts : Threads) (sc : Scheduling) (holds : IsTables ha
 
 -- a ready thread runs on a hart that is idle, and is taken out of the ready list
 pub ready_state : (o : Option ThreadState) → its_ready o ≡ true → o ≡ Some Ready
-ready_state None e = absurd (false≢true e)
 ready_state (Some Ready) e = refl
-ready_state (Some (Running k)) e = absurd (false≢true e)
-ready_state (Some (Waiting at)) e = absurd (false≢true e)
+ready_state o e = absurd (false≢true e)
 
 module _ (harts h t : ℕ) (ts : Threads) (sc : Scheduling) (holds : IsTables harts ts sc) (is : is_ready t ts ≡ true) (idle : running_on h ts ≡ None) (within : h < harts) where
   ran_was : state_of t ts ≡ Some Ready

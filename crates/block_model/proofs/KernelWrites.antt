@@ -1,27 +1,9 @@
 -- What the kernel writes it writes where its pages say that it may: in a call, and in an event that is no instruction and no entering of
 -- a store. So none of it lies where there is no page.
 use Rattle.std.proofs.Common.{◌≡◌, ◌≢◌, ℕ, Bool, true, false, not, cond, Option, Some, None, refl}
-use Rattle.mach_types.specs.Kernel.Areas.{Words, are_words_writable, words_entered, words_on, writes_of}
-use Rattle.mach_types.specs.Kernel.SignalFrames.{can_write_frame, frame_writes}
-use Rattle.mach_types.specs.Kernel.Signals.{action_of, is_handler, mask_of, next_for}
-use Rattle.mach_types.specs.declared.events.Choice.{Choice}
+use Rattle.block_model.proofs.Common.{Area, CallDone, Choice, Here, Outcome, SIGSEGV, Words, action_of, are_words_writable, area_here, call_number, called, called_here, can_write_frame, cond_both, done_done_by, done_killed, done_next, done_of, done_preempt_by, done_running, done_signal_by, done_take_by, file_interrupted, frame_writes, handled_unless_killed, interruption_here, is_handler, is_inside_here, is_writable, killed_in_call, kills, lives_on, mask_of, memory, next_for, next_id, runs, words_entered, words_on, words_to, writes_of}
 use Rattle.mach_types.specs.declared.events.Choice.TheVariants as asked
-use Rattle.mach_types.specs.declared.sequences.Area.{Area}
-use Rattle.mach_types.specs.declared.sequences.Outcome.{Outcome}
 use Rattle.mach_types.specs.declared.sequences.Outcome.TheVariants as comes_to
-use Rattle.mach_types.specs.declared.signals.TheConstants.{SIGSEGV}
-use Rattle.block_model.specs.Calls.{called}
-use Rattle.block_model.specs.Calls.Answers.{CallDone, call_number, killed_in_call}
-use Rattle.block_model.specs.Events.{done_of}
-use Rattle.block_model.specs.Events.Exec.{called_here}
-use Rattle.block_model.specs.Events.Finish.{done_done_by}
-use Rattle.block_model.specs.Events.Preempt.{done_preempt_by}
-use Rattle.block_model.specs.Events.Run.{done_killed, done_running, lives_on}
-use Rattle.block_model.specs.Events.Signal.{done_next, done_signal_by, file_interrupted, handled_unless_killed, kills}
-use Rattle.block_model.specs.Events.Take.{done_take_by}
-use Rattle.block_model.specs.Here.{Here, is_writable, memory, runs}
-use Rattle.block_model.specs.Ids.{next_id}
-use Rattle.block_model.specs.Sequences.{area_here, interruption_here, is_inside_here, words_to}
 use Rattle.block_model.proofs.CallEffects.{CallDeed, Answers, Bears, Ends, Exits}
 use Rattle.block_model.proofs.CallEffects.EachCall.{deed_called}
 use Rattle.block_model.proofs.CallEffects.Ending.{cleared_writable}
@@ -38,19 +20,16 @@ module _ (here : Here) (t number : ℕ) where
   deed_writes deed = tt
 
 pub call_writes : (here : Here) (t : ℕ) → AllWritable (is_writable here) (called_here here t).entered
-call_writes here t = by (is_inside_here here t)
-  where
-    by : (b : Bool) → AllWritable (is_writable here) (cond b (killed_in_call here) (called here t)).entered
-    by true = tt
-    by false = deed_writes here t (call_number here t) (deed_called here t)
+call_writes here t =
+    cond_both (is_inside_here here t) (killed_in_call here) (called here t) (λ (c : CallDone). AllWritable (is_writable here) c.entered)
+    (λ inside. tt) (λ outside. deed_writes here t (call_number here t) (deed_called here t))
 
 -- ANOTHER EVENT
 
 -- a handler is entered only where its frame can be written
 unhandled : (handler frame : Bool) (signal : ℕ) → cond (not handler) (Some signal) (cond (not frame) (Some SIGSEGV) None) ≡ None → frame ≡ true
 unhandled true true signal is = refl
-unhandled true false signal is = cc
-unhandled false frame signal is = cc
+unhandled b frame signal is = cc
 
 module _ (here : Here) (t : ℕ) where
   abbrev came_to : Outcome
@@ -60,10 +39,8 @@ module _ (here : Here) (t : ℕ) where
   interrupted = interruption_writable (is_writable here) (memory here) (area_here here t) (here.file t).pc
 
   may_enter : (signal : ℕ) (o : Outcome) → kills here t signal o ≡ None → can_write_frame (is_writable here) (file_interrupted here t o) ≡ true
-  may_enter signal comes_to.Nothing is = unhandled (is_handler (action_of signal here.kernel.signals)) _ signal is
-  may_enter signal comes_to.Cleared is = unhandled (is_handler (action_of signal here.kernel.signals)) _ signal is
-  may_enter signal (comes_to.Aborted at) is = unhandled (is_handler (action_of signal here.kernel.signals)) _ signal is
   may_enter signal (comes_to.Killed why) is = cc
+  may_enter signal outcome is = unhandled (is_handler (action_of signal here.kernel.signals)) _ signal is
 
   on_delivery : (signal : ℕ) (killer : Option ℕ) → kills here t signal came_to ≡ killer
       → AllWritable (is_writable here) (handled_unless_killed here t signal came_to killer).entered
@@ -95,9 +72,8 @@ module _ (here : Here) (t : ℕ) where
   on_run false = interrupted
 
 on_take : (here : Here) (restart : Bool) (r : Option ℕ) → AllWritable (is_writable here) (done_take_by here restart r).entered
-on_take here false r = tt
-on_take here true None = tt
 on_take here true (Some t) = interrupted here t
+on_take here b o = tt
 
 on_signal : (here : Here) (r : Option ℕ) → AllWritable (is_writable here) (done_signal_by here r).entered
 on_signal here None = tt

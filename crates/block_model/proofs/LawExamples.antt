@@ -1,23 +1,10 @@
 -- Worked examples of the laws' words: a call that gives an error, an exit that doesn't, a walk, and the choices of `run`.
 use Rattle.std.proofs.Common.{◌≡◌, ◌≢◌, ℕ, ◌-◌, ◌^◌, List, [], ◌∷◌, ◌++◌, ◌&&◌, Bool, true, false, take, refl, ap, ◌∙◌, arith, Option, Some, None, inl, inr}
-use Rattle.std.specs.Option.{option_map}
-use Rattle.mach_types.specs.declared.events.Choice.{Choice}
+use Rattle.block_model.proofs.Common.{Choice, Entry, GivesError, History, IsChosen, Luck, Setting, all_signals, amo_rows, auipc_rows, branch_rows, choice_at, done, entry_in, file, has_ended, here_in_history, history, is_choice, is_register_only, jal_rows, jalr_rows, load_rows, luck, luck_after, lui_rows, meaning, misc_mem_rows, next_entry, op_32_rows, op_imm_32_rows, op_imm_rows, op_rows, option_map, pick, pick_with, register, row_of, rows, sight_with, store_rows, system_rows}
 use Rattle.mach_types.specs.declared.events.Choice.TheVariants as asked
-use Rattle.mach_types.specs.declared.events.Entry.{Entry}
 use Rattle.mach_types.specs.declared.events.Kind.TheVariants as kind
-use Rattle.mach_types.specs.Kernel.Signals.{all_signals}
-use Rattle.mach_types.specs.Registers.{register}
-use Rattle.rv_inst.specs.Local.{is_register_only}
-use Rattle.rv_inst.specs.Meaning.{meaning}
-use Rattle.rv_inst.specs.Table.{row_of, rows, lui_rows, auipc_rows, jal_rows, jalr_rows, branch_rows, load_rows, store_rows, op_imm_rows, op_imm_32_rows, op_rows, op_32_rows, misc_mem_rows, amo_rows, system_rows}
-use Rattle.chooser.specs.Cases.{pick}
 use Rattle.chooser.specs.Generators.{first_generator, next_generator, word}
 use Rattle.chooser.specs.declared.chooser.Pick.{Pick}
-use Rattle.block_model.specs.Choosing.{IsChosen, Luck, choice_at, has_ended, is_choice, luck, luck_after, next_entry, pick_with, sight_with}
-use Rattle.block_model.specs.Deciding.{done, entry_in, history}
-use Rattle.block_model.specs.ErrorCalls.{GivesError}
-use Rattle.block_model.specs.History.{History, file, here_in_history}
-use Rattle.block_model.specs.Setting.{Setting}
 use Rattle.block_model.specs.Walks.{IsWalk, answers, computed}
 use Rattle.block_model.proofs.ExamplePrograms.{code_and_data, entry}
 
@@ -106,13 +93,11 @@ none_drawn = refl
 abbrev other_hart : List Entry
 other_hart = record (entry kind.Run 0x100B0) { hart = record { 0 = 1 } } ∷ []
 
-no_second_hart : choice_at (record stores { limits = record stores.limits { harts = 1 } }) 1 1 (history stores other_hart) ≡ None
+choices_drawn_later :
+    (choice_at (record stores { limits = record stores.limits { harts = 1 } }) 1 1 (history stores other_hart) ≡ None)  -- no second hart
+    × (choice_at exits 1 0 (history exits (before_exit ++ entry kind.Exec 0x100B8 ∷ [])) ≡ None)  -- none after the end
 unfolding history done is_register_only has_ended choice_at next_entry pick meaning row_of rows lui_rows auipc_rows jal_rows jalr_rows branch_rows load_rows store_rows op_imm_rows op_imm_32_rows op_rows op_32_rows misc_mem_rows amo_rows system_rows
-no_second_hart = refl
-
-none_after_the_end : choice_at exits 1 0 (history exits (before_exit ++ entry kind.Exec 0x100B8 ∷ [])) ≡ None
-unfolding history done is_register_only has_ended choice_at next_entry pick meaning row_of rows lui_rows auipc_rows jal_rows jalr_rows branch_rows load_rows store_rows op_imm_rows op_imm_32_rows op_rows op_32_rows misc_mem_rows amo_rows system_rows
-none_after_the_end = refl
+choices_drawn_later = (refl, refl)
 
 -- hart 0 after so many events of the walk: the history, the pick with this luck, and the luck after it
 abbrev place : ℕ → History

@@ -7,10 +7,11 @@ mod BarrierExamples
 mod Barriers
 mod CallEffects
 mod Choosing
+mod Common
 mod Counts
 mod Entries
 mod ErrorCalls
-mod EventEffects
+pub mod EventEffects
 mod ExamplePrograms
 mod Examples
 mod FileSteps

@@ -1,57 +1,11 @@
 -- Worked examples, proved by computation: calls that map, remove and protect pages, and what holds them up.
-use Rattle.std.proofs.Common.{◌≡◌, ℕ, ◌-◌, ◌^◌, List, [], ◌∷◌, ◌++◌, map, replicate, refl, true, false, cond, eqb, Option, Some, None, Ok}
-use Rattle.mach_types.specs.declared.events.Choice.TheVariants as asked
-use Rattle.mach_types.specs.declared.events.Why.{Why}
-use Rattle.mach_types.specs.declared.events.Why.TheVariants.{Others}
-use Rattle.mach_types.specs.declared.limits.End.TheVariants as over
-use Rattle.mach_types.specs.declared.threads.Saved.{Saved}
-use Rattle.mach_types.specs.declared.user_memory.Write.TheVariants.{Zeroed}
+use Rattle.std.proofs.Common.{◌≡◌, ℕ, ◌-◌, ◌^◌, List, [], ◌∷◌, map, replicate, refl, true, false, cond, eqb, Option, Some, None}
+use Rattle.block_model.proofs.Common.{Here, Neighbour, Others, Saved, Why, Zeroed, called, count_pages, here_in_history, is_held, is_storable, lowest_hole, memory, no_registers, others_gate, paged, permission_at, reached, register, with_register}
 use Rattle.mach_types.specs.Kernel.Barriers.{none_registered}
 use Rattle.mach_types.specs.Kernel.PageCalls.{break_moved}
-use Rattle.mach_types.specs.Kernel.Pages.{count_pages, each_page, first_page, lowest_hole, permission_at}
-use Rattle.mach_types.specs.Registers.{no_registers, register, with_register}
+use Rattle.mach_types.specs.Kernel.Pages.{each_page, first_page}
 use Rattle.rv_inst.specs.declared.effects.Effect.TheVariants as effect
-use Rattle.rv_inst.specs.Meaning.{meaning}
-use Rattle.rv_inst.specs.Table.{row_of, rows, lui_rows, auipc_rows, jal_rows, jalr_rows, branch_rows, load_rows, store_rows, op_imm_rows, op_imm_32_rows, op_rows, op_32_rows, misc_mem_rows, amo_rows, system_rows}
-use Rattle.block_model.specs.Beside.{Neighbour}
-use Rattle.block_model.specs.Calls.{called}
-use Rattle.block_model.specs.Deciding.{decide, done, end_of, history}
-use Rattle.block_model.specs.Events.Exec.{is_held, others_gate}
-use Rattle.block_model.specs.Here.{Here, is_storable, memory, reached}
-use Rattle.block_model.specs.Kernel.{paged}
-use Rattle.block_model.specs.History.{here_in_history}
-use Rattle.block_model.specs.Replay.{Ask, played}
-use Rattle.block_model.specs.Setting.{Setting}
-use Rattle.block_model.proofs.ExamplePrograms.{code_and_data, line, outcome, within_frames}
-
--- with 61 free frames the program maps 249,856 bytes, which are 61 pages, at 0x2000000000, and can't map 4,096 more; it stores 0xFF
--- there, and once that has entered memory it removes the pages, maps 4,096 bytes at the same place, and finds 0 there. It exits with
--- 0 where all this is so
-abbrev frames_run_out : Setting
-frames_run_out = within_frames 128 (code_and_data (
-    0x13 ∷ 0x05 ∷ 0x00 ∷ 0x00 ∷ 0xB7 ∷ 0xD5 ∷ 0x03 ∷ 0x00 ∷ 0x13 ∷ 0x06 ∷ 0x30 ∷ 0x00 ∷ 0x93 ∷ 0x06 ∷ 0x20 ∷ 0x02 ∷
-    0x13 ∷ 0x07 ∷ 0xF0 ∷ 0xFF ∷ 0x93 ∷ 0x07 ∷ 0x00 ∷ 0x00 ∷ 0x93 ∷ 0x08 ∷ 0xE0 ∷ 0x0D ∷ 0x73 ∷ 0x00 ∷ 0x00 ∷ 0x00 ∷
-    0xB7 ∷ 0x02 ∷ 0x00 ∷ 0x02 ∷ 0x93 ∷ 0x92 ∷ 0xC2 ∷ 0x00 ∷ 0x63 ∷ 0x06 ∷ 0x55 ∷ 0x00 ∷ 0x13 ∷ 0x05 ∷ 0x10 ∷ 0x00 ∷
-    0x6F ∷ 0x00 ∷ 0xC0 ∷ 0x0B ∷ 0x13 ∷ 0x05 ∷ 0x00 ∷ 0x00 ∷ 0xB7 ∷ 0x15 ∷ 0x00 ∷ 0x00 ∷ 0x13 ∷ 0x06 ∷ 0x30 ∷ 0x00 ∷
-    0x93 ∷ 0x06 ∷ 0x20 ∷ 0x02 ∷ 0x13 ∷ 0x07 ∷ 0xF0 ∷ 0xFF ∷ 0x93 ∷ 0x07 ∷ 0x00 ∷ 0x00 ∷ 0x93 ∷ 0x08 ∷ 0xE0 ∷ 0x0D ∷
-    0x73 ∷ 0x00 ∷ 0x00 ∷ 0x00 ∷ 0x93 ∷ 0x02 ∷ 0x40 ∷ 0xFF ∷ 0x63 ∷ 0x06 ∷ 0x55 ∷ 0x00 ∷ 0x13 ∷ 0x05 ∷ 0x20 ∷ 0x00 ∷
-    0x6F ∷ 0x00 ∷ 0xC0 ∷ 0x08 ∷ 0x37 ∷ 0x04 ∷ 0x00 ∷ 0x02 ∷ 0x13 ∷ 0x14 ∷ 0xC4 ∷ 0x00 ∷ 0x93 ∷ 0x02 ∷ 0xF0 ∷ 0x0F ∷
-    0x23 ∷ 0x00 ∷ 0x54 ∷ 0x00 ∷ 0x37 ∷ 0x05 ∷ 0x00 ∷ 0x02 ∷ 0x13 ∷ 0x15 ∷ 0xC5 ∷ 0x00 ∷ 0xB7 ∷ 0xD5 ∷ 0x03 ∷ 0x00 ∷
-    0x93 ∷ 0x08 ∷ 0x70 ∷ 0x0D ∷ 0x73 ∷ 0x00 ∷ 0x00 ∷ 0x00 ∷ 0x93 ∷ 0x02 ∷ 0x00 ∷ 0x00 ∷ 0x63 ∷ 0x06 ∷ 0x55 ∷ 0x00 ∷
-    0x13 ∷ 0x05 ∷ 0x30 ∷ 0x00 ∷ 0x6F ∷ 0x00 ∷ 0x80 ∷ 0x05 ∷ 0x13 ∷ 0x05 ∷ 0x00 ∷ 0x00 ∷ 0xB7 ∷ 0x15 ∷ 0x00 ∷ 0x00 ∷
-    0x13 ∷ 0x06 ∷ 0x30 ∷ 0x00 ∷ 0x93 ∷ 0x06 ∷ 0x20 ∷ 0x02 ∷ 0x13 ∷ 0x07 ∷ 0xF0 ∷ 0xFF ∷ 0x93 ∷ 0x07 ∷ 0x00 ∷ 0x00 ∷
-    0x93 ∷ 0x08 ∷ 0xE0 ∷ 0x0D ∷ 0x73 ∷ 0x00 ∷ 0x00 ∷ 0x00 ∷ 0xB7 ∷ 0x02 ∷ 0x00 ∷ 0x02 ∷ 0x93 ∷ 0x92 ∷ 0xC2 ∷ 0x00 ∷
-    0x63 ∷ 0x06 ∷ 0x55 ∷ 0x00 ∷ 0x13 ∷ 0x05 ∷ 0x40 ∷ 0x00 ∷ 0x6F ∷ 0x00 ∷ 0x40 ∷ 0x02 ∷ 0x37 ∷ 0x04 ∷ 0x00 ∷ 0x02 ∷
-    0x13 ∷ 0x14 ∷ 0xC4 ∷ 0x00 ∷ 0x03 ∷ 0x45 ∷ 0x04 ∷ 0x00 ∷ 0x93 ∷ 0x02 ∷ 0x00 ∷ 0x00 ∷ 0x63 ∷ 0x06 ∷ 0x55 ∷ 0x00 ∷
-    0x13 ∷ 0x05 ∷ 0x50 ∷ 0x00 ∷ 0x6F ∷ 0x00 ∷ 0x80 ∷ 0x00 ∷ 0x13 ∷ 0x05 ∷ 0x00 ∷ 0x00 ∷ 0x93 ∷ 0x08 ∷ 0xE0 ∷ 0x05 ∷
-    0x73 ∷ 0x00 ∷ 0x00 ∷ 0x00 ∷ []))
-
-abbrev script : List Ask
-script = line (asked.Run (record { 0 = 1 })) ∷ (replicate 29 (line asked.Exec) ++ (line asked.Drain ∷ replicate 22 (line asked.Exec)))
-
-frames_run_out_played : outcome frames_run_out (played frames_run_out script) ≡ Ok ([], over.Exit 0)
-unfolding played decide history done end_of meaning row_of rows lui_rows auipc_rows jal_rows jalr_rows branch_rows load_rows store_rows op_imm_rows op_imm_32_rows op_rows op_32_rows misc_mem_rows amo_rows system_rows lowest_hole first_page each_page count_pages
-frames_run_out_played = refl
+use Rattle.block_model.proofs.ExamplePrograms.{code_and_data, within_frames}
 
 -- a call of thread 1 at the start, with a number and arguments
 abbrev calls : ℕ → ℕ → ℕ → ℕ → ℕ → Here
@@ -72,33 +26,21 @@ answer here = answer_in (called here 1).files
 abbrev error : ℕ → ℕ
 error errno = 2 ^ 64 - errno
 
--- mmap: MAP_PRIVATE and MAP_ANONYMOUS must be given, and MAP_NORESERVE, MAP_POPULATE and MAP_STACK may be; the address is ignored
-mmap_answers : answer (calls 222 0x5000 4096 3 0x22) ≡ 0x2000000000
-unfolding lowest_hole first_page each_page count_pages
-mmap_answers = refl
-
-mmap_ignores_flags : answer (calls 222 0 4096 3 0x2C022) ≡ 0x2000000000
-unfolding lowest_hole first_page each_page count_pages
-mmap_ignores_flags = refl
-
-mmap_knows_no_shared : answer (calls 222 0 4096 3 0x21) ≡ error 22
-mmap_knows_no_shared = refl
-
-mmap_knows_no_fixed : answer (calls 222 0 4096 3 0x32) ≡ error 22
-mmap_knows_no_fixed = refl
-
--- a bad flag comes before pages that could be executed, and those before a want of frames
-mmap_tests :
-    (answer (calls 222 0 4096 4 0) ≡ error 22)  -- mmap flags first
+-- mmap: MAP_PRIVATE and MAP_ANONYMOUS must be given, and MAP_NORESERVE, MAP_POPULATE and MAP_STACK may be; the address is ignored;
+-- a bad flag comes before pages that could be executed, and those before a want of frames; the pages that are mapped are written as
+-- one run of zeros
+mmap_calls :
+    (answer (calls 222 0x5000 4096 3 0x22) ≡ 0x2000000000)  -- mmap answers
+    × (answer (calls 222 0 4096 3 0x2C022) ≡ 0x2000000000)  -- mmap ignores flags
+    × (answer (calls 222 0 4096 3 0x21) ≡ error 22)  -- mmap knows no shared
+    × (answer (calls 222 0 4096 3 0x32) ≡ error 22)  -- mmap knows no fixed
+    × (answer (calls 222 0 4096 4 0) ≡ error 22)  -- mmap flags first
     × (answer (calls 222 0 0x40000000 3 0) ≡ error 22)  -- mmap flags before frames
     × (answer (calls 222 0 0x40000000 4 0x22) ≡ error 13)  -- mmap no code
     × (answer (calls 222 0 0x3E000 3 0x22) ≡ error 12)  -- mmap lacks frames
-mmap_tests = (refl, refl, refl, refl)
-
--- the pages that are mapped are written as one run of zeros
-mmap_writes_zeros : (called (calls 222 0 4097 3 0x22) 1).entered ≡ Zeroed 0x2000000000 0x2000 ∷ []
+    × ((called (calls 222 0 4097 3 0x22) 1).entered ≡ Zeroed 0x2000000000 0x2000 ∷ [])  -- mmap writes zeros
 unfolding lowest_hole first_page each_page count_pages
-mmap_writes_zeros = refl
+mmap_calls = (refl, refl, refl, refl, refl, refl, refl, refl, refl)
 
 -- brk always answers the break: a growth by a byte maps a page of zeros; nothing is below the program's own break
 brk_answers :
@@ -131,28 +73,16 @@ beside_store here = record here { waiting = λ k. cond (eqb k 1) (record { at = 
 abbrev held : Here → Option Why
 held here = others_gate (is_held (beside_store here) 1) (Some effect.Call)
 
-munmap_is_held : held (calls 215 0x20000 4096 0 0) ≡ Some Others
-unfolding lowest_hole first_page each_page count_pages
-munmap_is_held = refl
-
-mprotect_is_held : held (calls 226 0x20000 4096 3 0) ≡ Some Others
-unfolding lowest_hole first_page each_page count_pages
-mprotect_is_held = refl
-
 -- a call that is refused takes no page, nor does one of other pages or that maps pages
-refused_is_not_held : held (calls 226 0x20000 8192 1 0) ≡ None
+held_up_calls :
+    (held (calls 215 0x20000 4096 0 0) ≡ Some Others)  -- munmap is held
+    × (held (calls 226 0x20000 4096 3 0) ≡ Some Others)  -- mprotect is held
+    × (held (calls 226 0x20000 8192 1 0) ≡ None)  -- refused is not held
+    × (held (calls 215 0x21000 4096 0 0) ≡ None)  -- other page is not held
+    × (held (calls 222 0 4096 3 0x22) ≡ None)  -- mmap is not held
+    × (held (calls 214 0x22000 0 0 0) ≡ None)  -- brk that grows is not held
 unfolding lowest_hole first_page each_page count_pages
-refused_is_not_held = refl
-
-other_page_is_not_held : held (calls 215 0x21000 4096 0 0) ≡ None
-unfolding lowest_hole first_page each_page count_pages
-other_page_is_not_held = refl
-
-mmap_is_not_held : held (calls 222 0 4096 3 0x22) ≡ None
-mmap_is_not_held = refl
-
-brk_that_grows_is_not_held : held (calls 214 0x22000 0 0 0) ≡ None
-brk_that_grows_is_not_held = refl
+held_up_calls = (refl, refl, refl, refl, refl, refl)
 
 -- the break stands two pages above the lowest, and a store of 8 bytes to 0x21FF8 waits on hart 1
 abbrev grown : Here → Here

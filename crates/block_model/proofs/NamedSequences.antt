@@ -1,20 +1,12 @@
 -- What an area names where a thread is inside (rseq(2)), and that it stays where the bytes do at which a check looks.
 use Rattle.std.proofs.Common.{◌≡◌, ◌≢◌, ℕ, zero, suc, ◌+◌, ◌-◌, ◌≤◌, ◌<◌, refl, sym, ap, ◌∙◌, arith, Bool, true, false, not, cond, ◌&&◌, eqb, leb, Option, is_some, unwrap_or, subst, eq-eqb, Some, None}
-use Rattle.std.proofs.lemmas.Bool.{false≢true, eqb-true}
-use Rattle.mach_types.specs.Bytes.{each_byte, joined, word_at}
-use Rattle.mach_types.specs.Kernel.Areas.{are_readable, can_read_area, can_read_descriptor, descriptor_at, flags_of, has_flags, is_inside, is_out_of_range, is_signed, named, named_by, number_at, pointer_of, sequence_of, is_inside_named}
-use Rattle.mach_types.specs.declared.address_space.TheConstants.{USER_END}
-use Rattle.mach_types.specs.declared.sequences.Area.{Area}
+use Rattle.block_model.proofs.Common.{Area, BadWhy, Named, RSEQ_CS, Seq, USER_END, are_readable, can_read_area, can_read_descriptor, descriptor_at, each_byte, eqb-true, false≢true, has_flags, is_inside, is_inside_named, is_out_of_range, is_signed, named, named_by, nat_tests, number_at, option_map_or, pointer_of, sequence_of, word_at, word_at-read}
+use Rattle.mach_types.specs.Bytes.{joined}
+use Rattle.mach_types.specs.Kernel.Areas.{flags_of}
 use Rattle.mach_types.specs.declared.sequences.BadWhy.TheVariants as bad
 use Rattle.mach_types.specs.declared.sequences.Descriptor.{Descriptor}
-use Rattle.mach_types.specs.declared.sequences.Named.{Named}
 use Rattle.mach_types.specs.declared.sequences.Named.TheVariants as names
-use Rattle.mach_types.specs.declared.sequences.Seq.{Seq}
-use Rattle.mach_types.specs.declared.sequences.TheConstants.{AREA_SIZE, DESCRIPTOR_SIZE, FLAGS, RSEQ_CS}
-use Rattle.std.specs.Option.{option_map_or}
-use Rattle.std.proofs.lemmas.Bool.Decides.{nat_tests}
-use Rattle.mach_types.proofs.Laws.{word_at-read}
-use Rattle.mach_types.specs.declared.sequences.BadWhy.{BadWhy}
+use Rattle.mach_types.specs.declared.sequences.TheConstants.{AREA_SIZE, DESCRIPTOR_SIZE, FLAGS}
 
 -- two readings have the same at so many bytes from an address on
 pub record Agree (byte byte' : ℕ → Option ℕ) (at n : ℕ) : Type 0 where
@@ -168,8 +160,7 @@ IsNull (Some b) = b ≡ 0
 
 null_joined : (o p : Option ℕ) → IsNull o → IsNull p → IsNull (joined o p)
 null_joined (Some b) (Some n) low high = omega arith
-null_joined (Some b) None low high = tt
-null_joined None p low high = tt
+null_joined o p low high = tt
 
 null_word : (byte : ℕ → Option ℕ) (at n : ℕ) → ((a : ℕ) → at ≤ a → a < at + n → IsNull (byte a)) → IsNull (word_at byte at n)
 null_word byte at zero null = refl
@@ -192,17 +183,15 @@ bad_or : (P : Named → Type 0) → ((why : BadWhy) → P (names.Bad why)) → (
 bad_or P fails true why n holds = fails why
 bad_or P fails false why n holds = holds refl
 
--- a good sequence is signed
-abbrev pub IsSignedGood : (ℕ → Option ℕ) → Area → Named → Type 0
-IsSignedGood byte area names.Nothing = Unit {0}
-IsSignedGood byte area (names.Good sequence) = (4 ≤ sequence.abort) × (word_at byte (sequence.abort - 4) 4 ≡ Some area.sig)
-IsSignedGood byte area (names.Bad why) = Unit {0}
+-- an area that names nothing has a pointer of 0, and a good sequence is signed
+abbrev IsNamed : (ℕ → Option ℕ) → Area → Named → Type 0
+IsNamed byte area names.Nothing = pointer_of byte area ≡ 0
+IsNamed byte area (names.Good sequence) = (4 ≤ sequence.abort) × (word_at byte (sequence.abort - 4) 4 ≡ Some area.sig)
+IsNamed byte area (names.Bad why) = Unit {0}
 
 both : (a b c : Bool) → not (a && b && c) ≡ false → (a ≡ true) × (b ≡ true) × (c ≡ true)
 both true true true is = (refl, refl, refl)
-both true true false is = absurd (false≢true (sym is))
-both true false c is = absurd (false≢true (sym is))
-both false b c is = absurd (false≢true (sym is))
+both a b c is = absurd (false≢true (sym is))
 
 signed_by : (byte : ℕ → Option ℕ) (area : Area) (sequence : Seq) → not (is_signed byte area sequence) ≡ false
     → (4 ≤ sequence.abort) × (word_at byte (sequence.abort - 4) 4 ≡ Some area.sig)
@@ -212,10 +201,10 @@ signed_by byte area sequence is =
     let above : 4 ≤ sequence.abort = grind (arith, nat_tests, p.0) in
     (above, word_at-read byte at 4 ∙ ap (λ b. cond b (Some (number_at byte at 4)) None) p.1 ∙ ap Some (eqb-true (number_at byte at 4) area.sig p.2))
 
-named_by_signed : (byte : ℕ → Option ℕ) (area : Area) (pc : ℕ) (d : Descriptor) → IsSignedGood byte area (named_by byte area pc d)
-named_by_signed byte area pc d =
+named_by_is : (byte : ℕ → Option ℕ) (area : Area) (pc : ℕ) (d : Descriptor) → IsNamed byte area (named_by byte area pc d)
+named_by_is byte area pc d =
     let sequence = sequence_of d in
-    let P = IsSignedGood byte area in
+    let P = IsNamed byte area in
     let fails : (why : BadWhy) → P (names.Bad why) = λ why. tt in
     bad_or P fails (not (eqb d.version 0)) bad.Version _ (λ a.
     bad_or P fails (is_out_of_range sequence) bad.Range _ (λ b.
@@ -224,24 +213,25 @@ named_by_signed byte area pc d =
     bad_or P fails (is_inside sequence pc && has_flags byte area d) bad.SeqFlags _ (λ f.
     signed_by byte area sequence signed)))))
 
-nothing_or : (byte : ℕ → Option ℕ) (area : Area) (b : Bool) (n : Named) → IsSignedGood byte area n → IsSignedGood byte area (cond b names.Nothing n)
-nothing_or byte area true n is = tt
-nothing_or byte area false n is = is
+null_or : (byte : ℕ → Option ℕ) (area : Area) (b : Bool) (n : Named) → eqb (pointer_of byte area) 0 ≡ b → IsNamed byte area n
+    → IsNamed byte area (cond b names.Nothing n)
+null_or byte area true n is rest = eqb-true (pointer_of byte area) 0 is
+null_or byte area false n is rest = rest
 
-named_signed : (byte : ℕ → Option ℕ) (area : Area) (pc : ℕ) → IsSignedGood byte area (named byte area pc)
-named_signed byte area pc =
+named_is : (byte : ℕ → Option ℕ) (area : Area) (pc : ℕ) → IsNamed byte area (named byte area pc)
+named_is byte area pc =
     let pointer = pointer_of byte area in
-    let P = IsSignedGood byte area in
+    let P = IsNamed byte area in
     let fails : (why : BadWhy) → P (names.Bad why) = λ why. tt in
     bad_or P fails (not (can_read_area byte area)) bad.AreaBytes _ (λ a.
-    nothing_or byte area (eqb pointer 0) _
+    null_or byte area (eqb pointer 0) _ refl
     (bad_or P fails (leb USER_END pointer) bad.Pointer _ (λ b.
     bad_or P fails (not (can_read_descriptor byte pointer)) bad.Descriptor _ (λ c.
-    named_by_signed byte area pc (descriptor_at byte pointer)))))
+    named_by_is byte area pc (descriptor_at byte pointer)))))
 
 pub good_signed : (byte : ℕ → Option ℕ) (area : Area) (pc : ℕ) (sequence : Seq) → named byte area pc ≡ names.Good sequence
     → (4 ≤ sequence.abort) × (word_at byte (sequence.abort - 4) 4 ≡ Some area.sig)
-good_signed byte area pc sequence is = subst (IsSignedGood byte area) is (named_signed byte area pc)
+good_signed byte area pc sequence is = subst (IsNamed byte area) is (named_is byte area pc)
 
 -- the pointer of an area can be read that names nothing bad
 read_unless : (pointer flags : Bool) (n : Named) → ((why : BadWhy) → cond (not (pointer && flags)) (names.Bad bad.AreaBytes) n ≡ names.Bad why → ⊥)
@@ -253,40 +243,8 @@ pub read_unless_bad : (byte : ℕ → Option ℕ) (area : Area) (pc : ℕ) → (
     → are_readable byte (area.at + RSEQ_CS) 8 ≡ true
 read_unless_bad byte area pc never = read_unless (are_readable byte (area.at + RSEQ_CS) 8) (are_readable byte (area.at + FLAGS) 4) _ never
 
--- an area that names nothing has a pointer of 0
-abbrev IsNullNothing : ℕ → Named → Type 0
-IsNullNothing pointer names.Nothing = pointer ≡ 0
-IsNullNothing pointer (names.Good sequence) = Unit {0}
-IsNullNothing pointer (names.Bad why) = Unit {0}
-
-named_by_some : (pointer : ℕ) (byte : ℕ → Option ℕ) (area : Area) (pc : ℕ) (d : Descriptor) → IsNullNothing pointer (named_by byte area pc d)
-named_by_some pointer byte area pc d =
-    let sequence = sequence_of d in
-    let P = IsNullNothing pointer in
-    let fails : (why : BadWhy) → P (names.Bad why) = λ why. tt in
-    bad_or P fails (not (eqb d.version 0)) bad.Version _ (λ a.
-    bad_or P fails (is_out_of_range sequence) bad.Range _ (λ b.
-    bad_or P fails (is_inside sequence sequence.abort) bad.AbortInside _ (λ c.
-    bad_or P fails (not (is_signed byte area sequence)) bad.Signature _ (λ e.
-    bad_or P fails (is_inside sequence pc && has_flags byte area d) bad.SeqFlags (names.Good sequence) (λ f. tt)))))
-
-null_or : (pointer : ℕ) (b : Bool) (n : Named) → eqb pointer 0 ≡ b → IsNullNothing pointer n → IsNullNothing pointer (cond b names.Nothing n)
-null_or pointer true n is rest = eqb-true pointer 0 is
-null_or pointer false n is rest = rest
-
-named_null : (byte : ℕ → Option ℕ) (area : Area) (pc : ℕ) → IsNullNothing (pointer_of byte area) (named byte area pc)
-named_null byte area pc =
-    let pointer = pointer_of byte area in
-    let P = IsNullNothing pointer in
-    let fails : (why : BadWhy) → P (names.Bad why) = λ why. tt in
-    bad_or P fails (not (can_read_area byte area)) bad.AreaBytes _ (λ a.
-    null_or pointer (eqb pointer 0) _ refl
-    (bad_or P fails (leb USER_END pointer) bad.Pointer _ (λ b.
-    bad_or P fails (not (can_read_descriptor byte pointer)) bad.Descriptor _ (λ c.
-    named_by_some pointer byte area pc (descriptor_at byte pointer)))))
-
 pub nothing_null : (byte : ℕ → Option ℕ) (area : Area) (pc : ℕ) → named byte area pc ≡ names.Nothing → pointer_of byte area ≡ 0
-nothing_null byte area pc is = subst (IsNullNothing (pointer_of byte area)) is (named_null byte area pc)
+nothing_null byte area pc is = subst (IsNamed byte area) is (named_is byte area pc)
 
 -- and with a pointer of 0 no thread is inside
 null_outside : (readable : Bool) (pointer pc : ℕ) (rest : Named) → pointer ≡ 0

@@ -1,35 +1,13 @@
 -- What a call leaves as it is of other threads: who is ready stays so with its file, and each other thread keeps its area. Each call of
 -- the table does.
 use Rattle.std.proofs.Common.{◌≡◌, ◌≢◌, ℕ, ◌+◌, List, [], refl, sym, ap, ◌∙◌, inl, inr, Bool, true, false, cond, Option, Some, None, ◌∷◌, length, map}
-use Rattle.std.specs.Option.{option_map}
-use Rattle.std.proofs.lemmas.Bool.{false≢true, ne_eqb}
-use Rattle.std.proofs.lemmas.Bool.Decides.{eqb_tells}
-use Rattle.mach_types.proofs.Laws.{area_of-with_area_other, area_of-without_area_other, next_is_new, state_of-with_child_other, state_of-with_child_same, state_of-with_clear, state_of-with_state_other, state_of-with_state_same, state_of-without_other}
-use Rattle.mach_types.specs.Kernel.Areas.{area_of}
-use Rattle.mach_types.specs.Kernel.Signals.{Signalling}
-use Rattle.mach_types.specs.Kernel.Threads.{IsThreads, Thread, Threads, is_ready, state_of, waits, with_child, with_state, clear_of}
-use Rattle.mach_types.specs.declared.sequences.Area.{Area}
-use Rattle.mach_types.specs.declared.threads.Saved.{Saved}
-use Rattle.mach_types.specs.declared.threads.ThreadState.{ThreadState}
-use Rattle.mach_types.specs.declared.threads.ThreadState.TheVariants.{Ready, Waiting}
-use Rattle.mach_types.specs.declared.user_memory.Write.{Write}
-use Rattle.block_model.specs.Calls.Answers.{CallDone, returned, said, argument}
-use Rattle.block_model.specs.Calls.Futexes.{wake, answered_wait}
-use Rattle.block_model.specs.Here.{Here, runs}
-use Rattle.block_model.specs.History.{file_among}
-use Rattle.block_model.specs.Kernel.{cleared, gone, had_child, left, registered, signalled, unregistered, waited, woken, next_number, restricted}
-use Rattle.block_model.specs.Record.{Kernel}
-use Rattle.block_model.specs.Standing.{IsGoodHere}
+use Rattle.block_model.proofs.Common.{Area, CallDone, Here, IsGoodHere, IsThreads, Kernel, Ready, Saved, Thread, ThreadState, Threads, Waiting, Write, answered_wait, area_of, argument, broken_wait, called, child_file, clear_of, cleared, clears, clone_child_cleartid, eqb_tells, false≢true, file_among, gone, had_child, has_flag, is_ready, left, ne_eqb, next_is_new, next_number, option_map, registered, restricted, returned, runs, said, signalled, state_of, state_of-with_child_other, state_of-with_child_same, state_of-with_clear, state_of-with_state_other, state_of-with_state_same, state_of-without_other, sum_64, unregistered, waited, waits, wake, with_child, with_new_child, with_state, woken}
+use Rattle.mach_types.proofs.Laws.{area_of-with_area_other, area_of-without_area_other}
 use Rattle.block_model.proofs.Invariants.Calls.Futexes.{answered, wake_by, wake_keeps}
 use Rattle.block_model.proofs.Invariants.Events.{ready_apart}
 use Rattle.block_model.proofs.KernelTables.{its_ready}
 use Rattle.mach_types.specs.Kernel.SignalFrames as frame
-use Rattle.rv_inst.specs.Words.{sum_64}
-use Rattle.block_model.specs.Calls.{called}
-use Rattle.block_model.specs.Calls.Cloning.{child_file, clone_child_cleartid, has_flag, with_new_child}
-use Rattle.block_model.specs.Calls.Ending.{clears}
-use Rattle.block_model.specs.Calls.Signals.{broken_wait}
-use Rattle.block_model.proofs.CallEffects.{Answers, Bears, Begins, Breaks, CallDeed, Clears, Ends, Exits, Leaves, MovesOff, Registers, Resumes, Same, Says, Signalled, TableStep, Unregisters, Waits, Wakes}
+use Rattle.block_model.proofs.CallEffects.{Answers, Bears, Begins, Breaks, CallDeed, Clears, Ends, Exits, Leaves, MovesOff, Registers, Resumes, Says, TableStep, Unregisters, Waits, Wakes}
 use Rattle.block_model.proofs.CallEffects.EachCall.{deed_called}
 
 -- WHO IS READY
@@ -71,8 +49,12 @@ pub record IsBeside (t : ℕ) (before after : Kernel) : Type 0 where
   pub ready : (u : ℕ) → t ≢ u → is_ready u before.threads ≡ true → is_ready u after.threads ≡ true
   pub areas : (u : ℕ) → t ≢ u → area_of u after.areas ≡ area_of u before.areas
 
-pub beside_same : (t : ℕ) (k : Kernel) → IsBeside t k k
-beside_same t k = record { ready = λ u ne is. is; areas = λ u ne. refl }
+-- as where neither threads nor areas change
+alike : (t : ℕ) (before after : Kernel) → after.threads ≡ before.threads → after.areas ≡ before.areas → IsBeside t before after
+alike t before after threads areas = record { ready = λ u ne is. rw threads is; areas = λ u ne. rw areas refl }
+
+beside_same : (t : ℕ) (k : Kernel) → IsBeside t k k
+beside_same t k = alike t k k refl refl
 
 pub beside_after : (t : ℕ) (a b c : Kernel) → IsBeside t a b → IsBeside t b c → IsBeside t a c
 beside_after t a b c p q = record {
@@ -109,9 +91,6 @@ beside_registered t area k = record { ready = λ u ne is. is; areas = λ u ne. a
 
 pub beside_unregistered : (t : ℕ) (k : Kernel) → IsBeside t k (unregistered t k)
 beside_unregistered t k = record { ready = λ u ne is. is; areas = λ u ne. area_of-without_area_other t u k.areas (λ e. ne (sym e)) }
-
-pub beside_signalled : (t : ℕ) (g : Signalling) (k : Kernel) → IsBeside t k (signalled g k)
-beside_signalled t g k = record { ready = λ u ne is. is; areas = λ u ne. refl }
 
 pub beside_if : (t : ℕ) (k x y : Kernel) (b : Bool) → IsBeside t k x → IsBeside t k y → IsBeside t k (cond b x y)
 beside_if t k x y true p q = p
@@ -158,13 +137,8 @@ module _ (here : Here) (t : ℕ) (good : IsGoodHere here) (at : runs here ≡ So
     beside = rw same (beside_same t here.kernel);
   }
 
--- pages, the console, affinities and registrations are of no thread's state
-alike : (t : ℕ) (before after : Kernel) → after.threads ≡ before.threads → after.areas ≡ before.areas → IsBeside t before after
-alike t before after threads areas = record { ready = λ u ne is. rw threads is; areas = λ u ne. rw areas refl }
-
 module _ (here : Here) (t number : ℕ) where
   beside_step : {entered : List Write} {k : Kernel} → TableStep here t number entered k → IsBeside t here.kernel k
-  beside_step Same = beside_same t here.kernel
   beside_step (Clears at) = beside_cleared t t at here.kernel
   beside_step Leaves = beside_left t t here.kernel
   beside_step (Waits at none) = beside_waited t at here.kernel
@@ -173,7 +147,6 @@ module _ (here : Here) (t number : ℕ) where
       beside_after t here.kernel k (left t k) (alike t here.kernel k refl refl) (beside_left t t k)
   beside_step (Registers area alone none writes) = beside_registered t area here.kernel
   beside_step Unregisters = beside_unregistered t here.kernel
-  beside_step (Signalled g keeps stand heeds calm) = beside_signalled t g here.kernel
   beside_step step = alike t here.kernel _ refl refl
 
 module _ (here : Here) (t : ℕ) (good : IsGoodHere here) (at : runs here ≡ Some t) where
@@ -208,7 +181,7 @@ module _ (here : Here) (t : ℕ) (good : IsGoodHere here) (at : runs here ≡ So
         files = λ v f ready.
             past_own (returned 0 (here.file t)) (broken ∷ []) v f ready
             ∙ ap (λ b. cond b broken.1 f) (ne_eqb u v (ready_not_waiting v u here.kernel.threads ready waiting));
-        beside = beside_after t here.kernel k (woken u k) (beside_signalled t g here.kernel) (beside_woken t u k);
+        beside = beside_after t here.kernel k (woken u k) (alike t here.kernel k refl refl) (beside_woken t u k);
       }
   aside_deed number (Exits more) =
       let n : ℕ = cond (clears here t) 1 0 in
@@ -229,7 +202,7 @@ module _ (here : Here) (t : ℕ) (good : IsGoodHere here) (at : runs here ≡ So
   aside_deed number (Begins targets restart others no_error its_number) =
       record { files = λ u f ready. past_own (record (here.file t) { pc = sum_64 (here.file t).pc 4 }) [] u f ready; beside = beside_same t here.kernel }
   aside_deed number (Resumes words is its) =
-      record { files = λ u f ready. past_own (frame.restored words) [] u f ready; beside = beside_signalled t _ here.kernel }
+      record { files = λ u f ready. past_own (frame.restored words) [] u f ready; beside = alike t here.kernel _ refl refl }
   aside_deed number (Ends entered e writes over) = aside_none here t good at _ refl refl
 
   pub aside_called : IsAside here t (called here t)

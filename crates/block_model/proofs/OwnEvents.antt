@@ -1,36 +1,10 @@
 -- What an event leaves of the thread on its own hart, and of that one's area.
 use Rattle.std.proofs.Common.{◌≡◌, ◌≢◌, ℕ, [], ◌∷◌, ◌⊎◌, inl, inr, List, Option, Some, None, Bool, true}
+use Rattle.block_model.proofs.Common.{Area, CallDone, Done, Effect, Event, Here, History, IsGoodHere, IsRunHistory, Kernel, Kind, Setting, Write, area_of, argument, by_call, call_number, called, choice_of, choice_with, clear_of, cleared, clears, clone_child_cleartid, done, had_child, has_flag, here_in_history, id_of, instruction_gate, is_call, is_held, kernel, left, next_effect, next_fault, next_number, option_or, others_gate, refusal_exec_by, refusal_of, running, running_on, runs, signalled, waiting_here, wake, words_on, words_written}
 use Rattle.std.proofs.Common.{false}
 use Rattle.std.proofs.Common.{cond, length, is_some, refl, sym, ap, ◌∙◌, subst}
-use Rattle.std.specs.Option.{option_or}
 use Rattle.mach_types.proofs.Laws.{area_of-with_area_same, area_of-without_area_same}
-use Rattle.mach_types.specs.Events.{choice_of, choice_with}
-use Rattle.mach_types.specs.Kernel.Areas.{area_of, words_on, words_written}
-use Rattle.mach_types.specs.Kernel.Threads.{clear_of, running_on}
-use Rattle.mach_types.specs.declared.events.Kind.{Kind}
 use Rattle.mach_types.specs.declared.events.Kind.TheVariants as kind
-use Rattle.mach_types.specs.declared.sequences.Area.{Area}
-use Rattle.mach_types.specs.declared.user_memory.Write.{Write}
-use Rattle.rv_inst.specs.Class.{is_call}
-use Rattle.rv_inst.specs.Execution.{instruction_gate}
-use Rattle.rv_inst.specs.declared.effects.Effect.{Effect}
-use Rattle.block_model.specs.Calls.{called}
-use Rattle.block_model.specs.Calls.Answers.{CallDone, argument, call_number}
-use Rattle.block_model.specs.Calls.Cloning.{clone_child_cleartid, has_flag}
-use Rattle.block_model.specs.Calls.Ending.{clears}
-use Rattle.block_model.specs.Calls.Futexes.{wake}
-use Rattle.block_model.specs.Deciding.{done}
-use Rattle.block_model.specs.Events.{refusal_of}
-use Rattle.block_model.specs.Events.Exec.{by_call, is_held, next_effect, next_fault, others_gate}
-use Rattle.block_model.specs.Events.Exec.{refusal_exec_by}
-use Rattle.block_model.specs.Here.{Done, Here, runs, waiting_here}
-use Rattle.block_model.specs.History.{Event, History, here_in_history, kernel, running}
-use Rattle.block_model.specs.Ids.{id_of}
-use Rattle.block_model.specs.Kernel.{cleared, had_child, left, next_number, signalled}
-use Rattle.block_model.specs.Record.{Kernel}
-use Rattle.block_model.specs.Run.{IsRunHistory}
-use Rattle.block_model.specs.Setting.{Setting}
-use Rattle.block_model.specs.Standing.{IsGoodHere}
 use Rattle.block_model.proofs.Runs.{allowed_at}
 use Rattle.block_model.proofs.CallEffects.{Answers, Bears, Breaks, CallDeed, Clears, Exits, Leaves}
 use Rattle.block_model.proofs.CallEffects.{MovesOff, Registers, TableStep, Unregisters, Waits, Wakes}

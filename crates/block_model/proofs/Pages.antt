@@ -1,22 +1,14 @@
 -- What holds of the pages at each place of a run, and that brk(2), mmap(2), munmap(2) and mprotect(2) keep it: code stays, no page above the
 -- break is mapped below mappings, and each frame is counted. Where mmap(2) puts a mapping, and which pages are in a run.
 use Rattle.std.proofs.Common.{◌≡◌, ℕ, ◌+◌, ◌-◌, ◌*◌, ◌<◌, ◌≤◌, inl, inr, refl, sym, arith, Bool, true, false, cond, eqb, leb, ltb, Option, Some, None, Result, Ok, Err, zero, suc, ◌/◌, ◌⊎◌, ◌∷◌, ap, ◌∙◌, ◌&&◌, is_some, ◌%◌, List, not, is_none}
-use Rattle.std.proofs.lemmas.Bool.{and_parts, cases_lt, eqb-true, false≢true, le-leb, le-ltb, leb-false, leb-true, lt-leb, lt-ltb, ltb-false, not-false, not-true}
-use Rattle.mach_types.proofs.Laws.{first_page-some, count_pages-more, count_pages-none, each_page-at}
-use Rattle.mach_types.specs.declared.address_space.TheConstants.{FIRST_MAPPING_PAGE, FIRST_STACK_PAGE, PAGE_SIZE, MAPPING_START, USER_END}
-use Rattle.mach_types.specs.declared.errors.Errno.{Errno}
-use Rattle.mach_types.specs.declared.errors.TheConstants.{EACCES, EINVAL, ENOMEM}
+use Rattle.block_model.proofs.Common.{EINVAL, Errno, FIRST_MAPPING_PAGE, FIRST_STACK_PAGE, MAPPING_START, PAGE_SIZE, PageRun, Pages, Setting, USER_END, and_parts, and_right, cases_lt, count_pages, each_page-at, eqb-true, false≢true, first_kernel, is_in, le-leb, le-ltb, leb-false, leb-true, lowest_hole, lt-leb, lt-ltb, ltb-false, not-false, not-true, pages_of, permission_of, run}
+use Rattle.mach_types.proofs.Laws.{first_page-some, count_pages-more, count_pages-none}
+use Rattle.mach_types.specs.declared.errors.TheConstants.{EACCES, ENOMEM}
 use Rattle.mach_types.specs.declared.kernel_words.TheConstants.{MOST_PROT, PROT_EXEC, PROT_READ, PROT_WRITE}
-use Rattle.mach_types.specs.Kernel.Pages.{PageRun, fits_at, is_hole, is_in, lowest_hole, pages_of, Pages, can_execute, count_pages, mapped_count, permission_of, is_mapped, is_without_code, run}
+use Rattle.mach_types.specs.Kernel.Pages.{fits_at, is_hole, can_execute, mapped_count, is_mapped, is_without_code}
 use Rattle.mach_types.specs.Kernel.PageCalls.{address_of, has_prot, mmap_answer, permission_for, break_moved, break_run, free_past, mapped_at, may_move_break, mprotect_refusal, munmap_refusal, protected, unmapped}
 use Rattle.elf_load.specs.Start.{start_runs}
-use Rattle.block_model.specs.Kernel.{first_kernel}
 use Rattle.block_model.specs.Layouts.{IsLaidOut, mapped_pages}
-use Rattle.block_model.specs.Setting.{Setting}
-
-unless_error : (b : Bool) (e : Errno) (x : Result ℕ Errno) (at : ℕ) → cond b (Err e) x ≡ Ok at → x ≡ Ok at
-unless_error true e x at is = cc
-unless_error false e x at is = is
 
 -- where a mapping begins that isn't refused
 pub record IsPlaced (permission : ℕ → Option ℕ) (len at : ℕ) : Type 0 where
@@ -43,14 +35,21 @@ placed_by permission len at (Some first) found is =
       hole = (and_parts (is_hole permission first (pages_of len)) (leb (first + pages_of len) FIRST_STACK_PAGE) one.passes).0;
     }
 
+-- a mapping that isn't refused passed each test: there are frames for it, and it begins at the lowest hole
+passed_by : (b : Bool) (e : Errno) (x : Result ℕ Errno) (at : ℕ) → cond b (Err e) x ≡ Ok at → (b ≡ false) × (x ≡ Ok at)
+passed_by true e x at is = cc
+passed_by false e x at is = (refl, is)
+
+passed_tests : (permission : ℕ → Option ℕ) (free len prot at : ℕ) → mmap_answer permission free len prot ≡ Ok at
+    → (ltb free (pages_of len) ≡ false) × (address_of (lowest_hole permission (pages_of len)) ≡ Ok at)
+passed_tests permission free len prot at is =
+    passed_by (ltb free (pages_of len)) ENOMEM _ at
+    (passed_by (has_prot PROT_EXEC prot) EACCES _ at (passed_by (ltb MOST_PROT prot) EINVAL _ at (passed_by (eqb len 0) EINVAL _ at is).1).1).1
+
 pub placed : (permission : ℕ → Option ℕ) (free len prot at : ℕ) → mmap_answer permission free len prot ≡ Ok at
     → IsPlaced permission len at
 placed permission free len prot at is =
-    placed_by permission len at (lowest_hole permission (pages_of len)) refl
-    (unless_error (ltb free (pages_of len)) ENOMEM _ at
-    (unless_error (has_prot PROT_EXEC prot) EACCES _ at
-    (unless_error (ltb MOST_PROT prot) EINVAL _ at
-    (unless_error (eqb len 0) EINVAL _ at is))))
+    placed_by permission len at (lowest_hole permission (pages_of len)) refl (passed_tests permission free len prot at is).1
 
 pub is_inside : (r : PageRun) (n : ℕ) → is_in r n ≡ true → (r.first ≤ n) × (n < r.first + r.count)
 is_inside r n is = elim (cases_lt n r.first) [
@@ -137,12 +136,8 @@ no_code prot = no_code_by (has_prot PROT_WRITE prot) (has_prot PROT_READ prot)
 pub outside_below : (r : PageRun) (n : ℕ) → n < r.first → is_in r n ≡ false
 outside_below r n low = rw (lt-leb r.first n low) refl
 
-and_false : (b : Bool) → (b && false) ≡ false
-and_false true = refl
-and_false false = refl
-
 pub outside_above : (r : PageRun) (n : ℕ) → r.first + r.count ≤ n → is_in r n ≡ false
-outside_above r n high = rw (le-ltb n (r.first + r.count) high) (and_false (leb r.first n))
+outside_above r n high = and_right (leb r.first n) (ltb n (r.first + r.count)) (le-ltb n (r.first + r.count) high)
 
 pub inside_is : (r : PageRun) (n : ℕ) → r.first ≤ n → n < r.first + r.count → is_in r n ≡ true
 inside_is r n low high = rw (le-leb r.first n low, lt-ltb n (r.first + r.count) high) refl
@@ -336,10 +331,6 @@ paged_mprotect s p at len prot free is =
     protected_by s p at len prot (eqb len 0) refl (eqb-true (at % 4096) 0 (not-false (eqb (at % 4096) 0) one.0)) one.1 is
 
 -- mmap(2)
-room_by : (b : Bool) (e : Errno) (x : Result ℕ Errno) (at : ℕ) → cond b (Err e) x ≡ Ok at → (b ≡ false) × (x ≡ Ok at)
-room_by true e x at is = cc
-room_by false e x at is = (refl, is)
-
 none_there : (o : Option ℕ) → is_none o ≡ true → o ≡ None
 none_there None is = refl
 none_there (Some x) is = absurd (false≢true is)
@@ -348,11 +339,7 @@ pub paged_mmap : (s : Setting) (p : Pages) (len prot at : ℕ) → mmap_answer (
     → IsPaged s p → IsPaged s (mapped_at at len prot p)
 paged_mmap s p len prot at answer is =
     let place = placed (permission_of p.runs) p.free len prot at answer in
-    let one = room_by (eqb len 0) EINVAL _ at answer in
-    let two = room_by (ltb MOST_PROT prot) EINVAL _ at one.1 in
-    let three = room_by (has_prot PROT_EXEC prot) EACCES _ at two.1 in
-    let four = room_by (ltb p.free (pages_of len)) ENOMEM _ at three.1 in
-    let room = ltb-false p.free (pages_of len) four.0 in
+    let room = ltb-false p.free (pages_of len) (passed_tests (permission_of p.runs) p.free len prot at answer).0 in
     let place_is = place.is in
     let begins : at / 4096 ≡ place.first = omega arith in
     let ends = place.ends in

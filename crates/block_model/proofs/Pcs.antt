@@ -1,15 +1,9 @@
 -- Each instruction goes on at an address below 2^64, as `rv_inst` proves row by row.
 use Rattle.std.proofs.Common.{◌≡◌, ℕ, ◌+◌, ◌^◌, ◌<◌, subst, arith, Option, Some, None}
-use Rattle.std.proofs.Math.Nat.{mod-lt}
-use Rattle.std.specs.Option.{option_map}
-use Rattle.mach_types.specs.declared.threads.Saved.{Saved}
+use Rattle.block_model.proofs.Common.{Effect, Saved, instruction_of, meaning, mod-lt, option_map, outcome, sum_64}
 use Rattle.rv_inst.proofs.Laws.{pc-fits}
-use Rattle.rv_inst.specs.Execution.{outcome}
-use Rattle.rv_inst.specs.Meaning.{meaning}
-use Rattle.rv_inst.specs.Words.{sum_64}
-use Rattle.rv_inst.specs.declared.effects.Effect.{Effect}
 use Rattle.rv_inst.specs.declared.instruction.Inst.{Inst}
-use Rattle.block_model.specs.Instruction.{instruction_of, effect_of}
+use Rattle.block_model.specs.Instruction.{effect_of}
 
 -- a sum of words is a word
 pub in_word : (a b : ℕ) → sum_64 a b < 2 ^ 64

@@ -1,22 +1,10 @@
 -- What holds at each place of a run, and what an event has to do so that it goes on to hold. No kind of event occurs here.
-use Rattle.std.proofs.Common.{◌≡◌, ◌≢◌, ℕ, ◌+◌, ◌≤◌, ◌<◌, List, [], ◌∷◌, ◌++◌, length, drop, refl, sym, ap, ◌∙◌, arith, subst, Bool, true, false, cond, eqb, Option, Some, None, length-append, length-drop, zero, suc}
-use Rattle.std.specs.List.{AllByRecursion}
-use Rattle.std.specs.Option.{option_map}
-use Rattle.std.proofs.lemmas.Bool.{eqb-true, eqb-false}
-use Rattle.mach_types.specs.Kernel.Threads.{running_on}
-use Rattle.mach_types.specs.declared.user_memory.Store.{Store}
+use Rattle.std.proofs.Common.{◌≡◌, ◌≢◌, ℕ, ◌+◌, ◌≤◌, ◌<◌, List, [], ◌∷◌, ◌++◌, length, drop, refl, sym, ap, ◌∙◌, arith, subst, Bool, true, false, cond, eqb, Option, Some, None, length-append, length-drop, suc}
+use Rattle.block_model.proofs.Common.{AllByRecursion, Done, Here, IsGoodHere, IsHeld, IsSound, MayEnter, Plain, Saved, Setting, Store, apply, awaits_of_own, eqb-false, eqb-true, file_among, here_in_plain, option_map, running_on, waiting_here, without_hart}
 use Rattle.mach_types.specs.declared.user_memory.TheConstants.{STORE_BUFFER_CAPACITY}
-use Rattle.mach_types.specs.declared.threads.Saved.{Saved}
-use Rattle.block_model.specs.Setting.{Setting}
-use Rattle.block_model.specs.History.{file_among}
-use Rattle.block_model.specs.Here.{Here, Done, waiting_here}
-use Rattle.block_model.specs.Plain.{Plain, here_in_plain, apply}
-use Rattle.block_model.specs.Requests.{awaits_of_own, without_hart}
 use Rattle.block_model.proofs.Barriers.Requests.{IsAwaited}
 use Rattle.block_model.proofs.Barriers.Events.{IsFitBarriers, IsStill, awaited_next, own_still, restart_next, waited_before}
 use Rattle.block_model.proofs.Pages.{IsPaged}
-use Rattle.block_model.specs.Standing.{IsGoodHere, IsSound, MayEnter}
-use Rattle.block_model.specs.Tables.{IsHeld}
 
 -- what waits may enter memory, and as many stores wait as a buffer holds; an idle hart has no waiting store;
 -- an event gives at most one number to a thread. A hart whose thread waits in a barrier runs a thread, and has no waiting store; what
@@ -59,9 +47,8 @@ all_append P [] ys p q = q
 all_append P (x ∷ xs) ys p q = (p.0, all_append P xs ys p.1 q)
 
 all_drop : (P : Store → Type 0) (n : ℕ) (xs : List Store) → AllByRecursion P xs → AllByRecursion P (drop n xs)
-all_drop P zero xs p = p
-all_drop P (suc n) [] p = p
 all_drop P (suc n) (x ∷ xs) p = all_drop P n xs p.1
+all_drop P n xs p = p
 
 pub good_here : (s : Setting) (m : Plain) (h : ℕ) → h < s.limits.harts → IsGood s m → IsGoodHere (here_in_plain s m h)
 good_here s m h lt good = record {

@@ -1,15 +1,7 @@
 -- The plain machine's state after a run is what is read by looking back. No kind of event occurs here.
 use Rattle.std.proofs.Common.{◌≡◌, ℕ, List, [], ◌∷◌, ◌++◌, length, refl, sym, ap, ◌∙◌, subst}
-use Rattle.std.specs.List.{fold}
-use Rattle.std.proofs.lemmas.List.Sums.{fold-append}
-use Rattle.mach_types.specs.declared.events.Choice.{Choice}
-use Rattle.mach_types.specs.declared.events.Entry.{Entry}
-use Rattle.block_model.specs.Setting.{Setting}
-use Rattle.block_model.specs.History.{History, here_in_history}
-use Rattle.block_model.specs.Deciding.{event, history, decide, end_of}
-use Rattle.block_model.specs.Plain.{Plain, plain_start, here_in_plain, plain_next, plain_after, plain_decide, plain_end, plain_solo_choice}
+use Rattle.block_model.proofs.Common.{Choice, Entry, History, IsAllowedLog, IsRunHistory, Plain, Setting, decide, end_of, event, fold, fold-append, here_in_history, here_in_plain, history, plain_after, plain_decide, plain_end, plain_next, plain_solo_choice, plain_start}
 use Rattle.block_model.specs.PlainSays.{SaysOf}
-use Rattle.block_model.specs.Run.{IsAllowedLog, IsRunHistory}
 use Rattle.block_model.proofs.PlainEvents.{plain_of}
 use Rattle.block_model.proofs.PlaceInvariant.{IsGood}
 use Rattle.block_model.proofs.Runs.{IsSettled, settled, applied_entry, run_before, length-history}

@@ -1,11 +1,7 @@
 -- What one event does to the plain state is what it does to what is read by looking back. No kind of event occurs here.
 use Rattle.std.proofs.Common.{◌≡◌, ℕ, ◌+◌, ◌≤◌, List, [], ◌∷◌, ◌++◌, length, drop, refl, sym, ap, arith, Bool, true, false, cond, eqb, length-append, length-drop, zero, suc}
+use Rattle.block_model.proofs.Common.{Event, History, Plain, Setting, Store, apply, drains, eqb-true, stores, waiting}
 use Rattle.std.proofs.Math.Path.{fun_ext}
-use Rattle.std.proofs.lemmas.Bool.{eqb-true}
-use Rattle.mach_types.specs.declared.user_memory.Store.{Store}
-use Rattle.block_model.specs.Setting.{Setting}
-use Rattle.block_model.specs.History.{Event, History, stores, drains, waiting}
-use Rattle.block_model.specs.Plain.{Plain, apply}
 pub use Rattle.block_model.specs.PlainOf.{plain_of}
 
 -- so many were executed that at most so many entered

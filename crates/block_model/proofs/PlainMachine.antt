@@ -1,23 +1,13 @@
 -- The plain machine's run over a script, and by the fixed rule of `solo`, makes the log of the block run.
 use Rattle.std.proofs.Common.{◌≡◌, ℕ, ◌+◌, List, [], ◌∷◌, ◌++◌, length, refl, sym, ap, ◌∙◌, subst, Bool, true, false, cond, Option, Some, None, Result, Ok, Err, ◌≢◌, ◌-◌, ◌≤◌, zero, suc, arith, append-nil, append_assoc, add-zero, add-suc}
-use Rattle.std.specs.List.{fold}
-use Rattle.mach_types.specs.declared.events.Choice.{Choice}
-use Rattle.mach_types.specs.declared.events.Entry.{Entry}
-use Rattle.mach_types.specs.declared.events.Tid.{Tid}
-use Rattle.block_model.specs.declared.refusals.Refused.{Refused}
-use Rattle.block_model.specs.Setting.{Setting}
-use Rattle.block_model.specs.Deciding.{decide, history, event, end_of}
-use Rattle.block_model.specs.Run.{IsAllowedLog}
-use Rattle.block_model.specs.Replay.{Ask, is_as_said, checked, extended, play_line, played, script_of}
-use Rattle.block_model.specs.Plain.{Plain, PlainRun, plain_after, plain_begin, plain_decide, plain_line, plain_next, plain_run, confirmed, gone_on, log_made, plain_solo, plain_solo_choice, solo_chosen, solo_gone_on}
+use Rattle.block_model.proofs.Common.{Ask, Choice, Entry, History, IsAllowedLog, IsSolo, Plain, Refused, Setting, Tid, checked, choice_of, decide, end_of, event, extended, fold, history, is_as_said, plain_after, plain_decide, plain_next, plain_solo, plain_solo_choice, play_line, played, script_of, solo_choice}
+use Rattle.block_model.specs.Plain.{PlainRun, plain_begin, plain_line, plain_run, confirmed, gone_on, log_made, solo_chosen, solo_gone_on}
 use Rattle.block_model.specs.PlainSays.{SaysOf, MakesLog}
 use Rattle.block_model.proofs.PlainAgreement.{agreement_decide, plain-append, plain-made, plain-nil, says_of}
 use Rattle.block_model.proofs.Runs.{IsAllowedLog-append, IsAllowedLog-nil, history-append}
 use Rattle.block_model.proofs.Replay.{replays, IsAllowedLog-next, history-more}
-use Rattle.mach_types.specs.Events.{choice_of}
 use Rattle.mach_types.specs.declared.limits.End.TheVariants as over
-use Rattle.block_model.specs.History.{History}
-use Rattle.block_model.specs.Solo.{IsSolo, IsSoloHistory, solo_choice}
+use Rattle.block_model.specs.Solo.{IsSoloHistory}
 use Rattle.block_model.proofs.RunEnds.{within_limit, is_over}
 
 -- a log that was played and a run of the machine belong together
@@ -65,9 +55,8 @@ line_alike s line (Ok log) (Ok run) x =
     let d = decide s (history s log) line.hart.0 line.choice in
     subst (λ (r : Result Entry Refused). PlayAlike s (extended log (checked line.check d)) (gone_on s run (confirmed line.check r))) (sym (same_answer s log run line.hart.0 line.choice x))
     (by_answer s log run line.hart.0 line.choice line.check d x refl)
-line_alike s line (Ok log) (Err n) x = absurd x
-line_alike s line (Err n) (Ok run) x = absurd x
 line_alike s line (Err n) (Err k) x = x
+line_alike s line a b x = absurd x
 
 lines_alike : (s : Setting) (lines : List Ask) (a : Result (List Entry) ℕ) (b : Result PlainRun ℕ) → PlayAlike s a b → PlayAlike s (fold (play_line s) a lines) (fold (plain_line s) b lines)
 lines_alike s [] a b x = x
@@ -84,9 +73,8 @@ plays_alike s lines = lines_alike s lines (Ok []) (Ok (plain_begin s)) (begin_is
 
 same_made : (s : Setting) (a : Result (List Entry) ℕ) (b : Result PlainRun ℕ) → PlayAlike s a b → log_made b ≡ a
 same_made s (Ok log) (Ok run) x = ap Ok x.same_log
-same_made s (Ok log) (Err n) x = absurd x
-same_made s (Err n) (Ok run) x = absurd x
 same_made s (Err n) (Err k) x = ap Err x
+same_made s a b x = absurd x
 
 -- the machine makes the log of the script, or refuses its line
 pub plain_plays : (s : Setting) (lines : List Ask) → log_made (plain_run s lines) ≡ played s lines

@@ -1,21 +1,7 @@
 -- A ready thread stays ready, with its file, until it begins to run; and a thread keeps its area but where it runs itself.
 use Rattle.std.proofs.Common.{◌≡◌, ◌≢◌, ℕ, List, [], ◌∷◌, refl, sym, ap, ◌∙◌, subst, true, cond, Some}
-use Rattle.std.proofs.lemmas.Bool.{ne_eqb}
-use Rattle.mach_types.proofs.Laws.{state_of-with_state_other}
-use Rattle.mach_types.specs.Events.{choice_of}
-use Rattle.mach_types.specs.Kernel.Areas.{area_of}
-use Rattle.mach_types.specs.Kernel.Threads.{is_ready}
-use Rattle.mach_types.specs.declared.events.Kind.{Kind}
+use Rattle.block_model.proofs.Common.{Done, Event, Here, History, IsGoodHere, IsRunHistory, Kind, Saved, Setting, area_of, choice_of, done, file, file_among, files_interrupted, here_in_history, interruption_here, is_ready, kernel, ne_eqb, on, running, runs, state_of-with_state_other}
 use Rattle.mach_types.specs.declared.events.Kind.TheVariants as kind
-use Rattle.mach_types.specs.declared.threads.Saved.{Saved}
-use Rattle.block_model.specs.Deciding.{done}
-use Rattle.block_model.specs.Here.{Done, Here, runs}
-use Rattle.block_model.specs.History.{Event, History, file, file_among, here_in_history, kernel, running}
-use Rattle.block_model.specs.Run.{IsRunHistory}
-use Rattle.block_model.specs.Sequences.{files_interrupted, interruption_here}
-use Rattle.block_model.specs.Setting.{Setting}
-use Rattle.block_model.specs.Tables.{on}
-use Rattle.block_model.specs.Standing.{IsGoodHere}
 use Rattle.block_model.proofs.Runs.{allowed_at, settled}
 use Rattle.block_model.proofs.PlainEvents.{plain_of}
 use Rattle.block_model.proofs.OtherThreads.{beside_left, caller_apart, aside_called}

@@ -1,32 +1,16 @@
 -- Each thread has 32 registers at every place of a run.
 use Rattle.std.proofs.Common.{◌≡◌, ℕ, zero, suc, ◌+◌, List, [], ◌∷◌, length, map, drop, set, length-set, refl}
+use Rattle.block_model.proofs.Common.{AllByRecursion, CallDone, Done, Effect, Event, Here, History, IsRunHistory, Kind, Regs, Saved, Setting, answered_wait, argument, child_file, cond_both, done, file, file_among, files_interrupted, frame_read, has_flag, here_in_history, interruption_here, is_reserved, length-take, memory, outcome, view_of_all, wake, with_register, woken_at_exit, word_at, word_before, words_at}
 use Rattle.std.proofs.Common.{sym, ap, ◌∙◌}
-use Rattle.std.proofs.Common.{arith, subst, Bool, true, false, cond, not, eqb, Option, Some, None}
+use Rattle.std.proofs.Common.{arith, subst, Bool, true, false, cond, not, eqb, Option, Some}
 use Rattle.std.proofs.Common.{length-drop}
-use Rattle.std.proofs.lemmas.List.{length-take}
-use Rattle.std.specs.List.{AllByRecursion}
-use Rattle.mach_types.specs.Bytes.{word_at}
-use Rattle.mach_types.specs.Kernel.SignalFrames.{frame_read, restored, word_before, words_at}
-use Rattle.mach_types.specs.Registers.{with_register}
+use Rattle.mach_types.specs.Kernel.SignalFrames.{restored}
 use Rattle.mach_types.specs.declared.address_space.TheConstants.{HANDLER_RETURN}
-use Rattle.mach_types.specs.declared.events.Kind.{Kind}
-use Rattle.mach_types.specs.declared.registers.Regs.{Regs}
 use Rattle.mach_types.specs.declared.sequences.Outcome as interruptions
 use Rattle.mach_types.specs.declared.sequences.Outcome.TheVariants as comes_to
-use Rattle.mach_types.specs.declared.threads.Saved.{Saved}
-use Rattle.rv_inst.specs.Execution.{Outcome, is_reserved, outcome}
-use Rattle.rv_inst.specs.declared.effects.Effect.{Effect}
+use Rattle.rv_inst.specs.Execution.{Outcome}
 use Rattle.rv_inst.specs.declared.effects.Effect.TheVariants as effect
-use Rattle.block_model.specs.Calls.Answers.{CallDone, argument}
-use Rattle.block_model.specs.Calls.Cloning.{child_file, clone_settls, has_flag, set_if}
-use Rattle.block_model.specs.Calls.Ending.{woken_at_exit}
-use Rattle.block_model.specs.Calls.Futexes.{answered_wait, wake}
-use Rattle.block_model.specs.Deciding.{done}
-use Rattle.block_model.specs.Here.{Done, Here, memory, view_of_all}
-use Rattle.block_model.specs.History.{Event, History, file, file_among, here_in_history}
-use Rattle.block_model.specs.Run.{IsRunHistory}
-use Rattle.block_model.specs.Sequences.{files_interrupted, interruption_here}
-use Rattle.block_model.specs.Setting.{Setting}
+use Rattle.block_model.specs.Calls.Cloning.{clone_settls, set_if}
 use Rattle.block_model.proofs.CallEffects.{Answers, Bears, Begins, Breaks, CallDeed, Ends, Exits, Resumes, Says}
 use Rattle.block_model.proofs.CallEffects.{Wakes}
 use Rattle.block_model.proofs.CallEffects.EachCall.{deed_called}
@@ -42,11 +26,9 @@ HaveRegisters files = AllByRecursion (λ (p : ℕ × Saved). HasRegisters p.1) f
 
 -- a register that is set leaves their number
 as_many : (regs : Regs) (rd v : ℕ) → length (with_register regs rd v).x ≡ length regs.x
-as_many regs rd v = by_rd (eqb rd 0)
-  where
-    by_rd : (b : Bool) → length (cond b regs (record { x = set regs.x rd v })).x ≡ length regs.x
-    by_rd true = refl
-    by_rd false = length-set regs.x rd v
+as_many regs rd v =
+    cond_both (eqb rd 0) regs (record { x = set regs.x rd v }) (λ (r : Regs). length r.x ≡ length regs.x)
+    (λ zero. refl) (λ other. length-set regs.x rd v)
 
 as_many_if : (b : Bool) (rd v : ℕ) (regs : Regs) → length (set_if b rd v regs).x ≡ length regs.x
 as_many_if true rd v regs = as_many regs rd v
@@ -63,16 +45,11 @@ module _ (seen : ℕ → Option ℕ) (regs : Regs) (pc : ℕ) (r : Option ℕ) w
   as_many_after : (e : Effect) → length (outcome seen regs pc r e).regs.x ≡ length regs.x
   as_many_after (effect.Next rd value to) = as_many regs rd value
   as_many_after (effect.Load at size is_signed rd) = as_many regs rd _
-  as_many_after (effect.Store at size value) = refl
   as_many_after (effect.Amo op at size value rd) = as_many regs rd _
   as_many_after (effect.Lr at size rd) = as_many regs rd _
   as_many_after (effect.Sc at size value rd) =
       either_many (is_reserved r at) _ _ (as_many regs rd 0) (as_many regs rd 1)
-  as_many_after (effect.Fence full) = refl
-  as_many_after effect.FenceI = refl
-  as_many_after effect.Call = refl
-  as_many_after effect.Break = refl
-  as_many_after effect.Misaligned = refl
+  as_many_after e = refl
 
 -- CALLS
 
@@ -89,11 +66,10 @@ words_counted byte at (suc n) ws is =
   where
     by_words : (o : Option ℕ) (p : Option (List ℕ)) → ((rest : List ℕ) → p ≡ Some rest → length rest ≡ n)
         → (ws : List ℕ) → word_before o p ≡ Some ws → length ws ≡ suc n
-    by_words None p counted ws is = absurd cc
-    by_words (Some w) None counted ws is = absurd cc
     by_words (Some w) (Some rest) counted ws is =
         let same : w ∷ rest ≡ ws = cc in
         sym (ap (λ (xs : List ℕ). length xs) same) ∙ ap suc (counted rest refl)
+    by_words o p counted ws is = absurd cc
 
 frame_counted : (byte : ℕ → Option ℕ) (f : Saved) (ws : List ℕ) → frame_read byte f ≡ Some ws → length ws ≡ 34
 unfolding frame_read
@@ -134,10 +110,8 @@ module _ (here : Here) (all : (t : ℕ) → HasRegisters (here.file t)) where
   -- EVENTS
 
   interrupted_has : (t : ℕ) (o : interruptions.Outcome) → HaveRegisters (files_interrupted here t o)
-  interrupted_has t comes_to.Nothing = tt
-  interrupted_has t comes_to.Cleared = tt
   interrupted_has t (comes_to.Aborted at) = (all t, tt)
-  interrupted_has t (comes_to.Killed why) = tt
+  interrupted_has t outcome = tt
 
   handler_has : (t s at : ℕ) → length (with_register (with_register (with_register (with_register
       (with_register (here.file t).file 10 s) 11 0) 12 at) 2 at) 1 HANDLER_RETURN).x ≡ 32

@@ -1,15 +1,7 @@
 -- What a script makes is a block run that answers it, and each block run answers the script that it is.
 use Rattle.std.proofs.Common.{◌≡◌, ℕ, ◌+◌, List, [], ◌∷◌, ◌++◌, length, map, refl, sym, ap, ◌∙◌, subst, Bool, true, false, cond, Option, Some, None, Result, Ok, Err, arith, append-nil, append_assoc, eq-eqb}
-use Rattle.std.specs.List.{fold}
-use Rattle.std.proofs.lemmas.List.{map_push}
-use Rattle.std.proofs.lemmas.List.Sums.{fold-append}
-use Rattle.mach_types.specs.Events.{choice_of}
-use Rattle.mach_types.specs.declared.events.Entry.{Entry}
-use Rattle.block_model.specs.declared.refusals.Refused.{Refused}
-use Rattle.block_model.specs.Setting.{Setting}
-use Rattle.block_model.specs.Deciding.{decide, event, history}
-use Rattle.block_model.specs.Run.{IsRunHistory, IsAllowedLog}
-use Rattle.block_model.specs.Replay.{Ask, Answers, AllAnswer, IsFirstBad, IsFirstRefused, is_as_said, checked, made_by, extended, play_line, played, play_read_line, played_read, line_of, script_of}
+use Rattle.block_model.proofs.Common.{AllAnswer, Ask, Entry, IsAllowedLog, IsRunHistory, Refused, Setting, checked, choice_of, decide, event, extended, fold, fold-append, history, is_as_said, map_push, play_line, played, played_read, script_of}
+use Rattle.block_model.specs.Replay.{Answers, IsFirstBad, IsFirstRefused, made_by, play_read_line, line_of}
 use Rattle.block_model.proofs.Runs.{decided_is, IsAllowedLog-append, IsAllowedLog-nil, run_before}
 
 -- one more line
@@ -106,14 +98,13 @@ answer_made s log line e d a =
 -- a block run is made by each script that it answers
 made_from : (s : Setting) (lines : List Ask) (log rest : List Entry) → IsAllowedLog s (log ++ rest) → AllAnswer lines rest → fold (play_line s) (Ok log) lines ≡ Ok (log ++ rest)
 made_from s [] log [] run all = rw append-nil refl
-made_from s [] log (e ∷ rest) run all = absurd all
-made_from s (line ∷ lines) log [] run all = absurd all
 made_from s (line ∷ lines) log (e ∷ rest) run all =
     let made = answer_made s log line e (IsAllowedLog-next s log rest e run) all.0 in
     let joined : (log ++ e ∷ []) ++ rest ≡ log ++ e ∷ rest = append_assoc log (e ∷ []) rest in
     ap (λ o. fold (play_line s) (extended log o) lines) made
     ∙ made_from s lines (log ++ e ∷ []) rest (subst (IsAllowedLog s) (sym joined) run) all.1
     ∙ ap Ok joined
+made_from s lines log rest run all = absurd all
 
 -- what lines make after a log
 pub record IsMadeFrom (s : Setting) (log : List Entry) (lines : List Ask) (whole : List Entry) : Type 0 where
@@ -161,11 +152,17 @@ replays s log run = run_is_played s (script_of log) log run (answers_itself log)
 -- as many entries as lines
 pub length-answers : (lines : List Ask) (log : List Entry) → AllAnswer lines log → length log ≡ length lines
 length-answers [] [] all = refl
-length-answers [] (e ∷ log) all = absurd all
-length-answers (line ∷ lines) [] all = absurd all
 length-answers (line ∷ lines) (e ∷ log) all = let more = length-answers lines log all.1 in cc
+length-answers lines log all = absurd all
 
 -- the number of a refusal is that of the first line that is refused
+first_number : (s : Setting) (earlier : List Ask) (log : List Entry) (n : ℕ) → played s earlier ≡ Ok log → ◌≡◌ {A = Result (List Entry) ℕ} (Err (length log + 1)) (Err n)
+    → n ≡ length earlier + 1
+first_number s earlier log n allowed err =
+    let same : length log + 1 ≡ n = cc in
+    let counted : length log ≡ length earlier = length-answers earlier log (played_is_run s earlier log allowed).1 in
+    omega arith
+
 refused_from : (s : Setting) (n : ℕ) (whole earlier lines : List Ask) (log : List Entry) → whole ≡ earlier ++ lines → played s earlier ≡ Ok log →
     fold (play_line s) (Ok log) lines ≡ Err n → IsFirstRefused s whole n
 refused_from s n whole earlier [] log parts allowed is = cc
@@ -175,10 +172,8 @@ refused_from s n whole earlier (line ∷ lines) log parts allowed is =
     go : (o : Option Entry) → made_by s log line ≡ o → fold (play_line s) (extended log o) lines ≡ Err n →
         ((e : Entry) → played s (earlier ++ line ∷ []) ≡ Ok (log ++ e ∷ []) → fold (play_line s) (Ok (log ++ e ∷ [])) lines ≡ Err n → IsFirstRefused s whole n) → IsFirstRefused s whole n
     go None at end later =
-        let err : ◌≡◌ {A = Result (List Entry) ℕ} (Err (length log + 1)) (Err n) = sym (stays_refused s (length log + 1) lines) ∙ end in
-        let same : length log + 1 ≡ n = cc in
-        let counted : length log ≡ length earlier = length-answers earlier log (played_is_run s earlier log allowed).1 in
-        record { earlier = earlier; line = line; later = lines; log = log; parts = parts; number = omega arith; allowed = allowed; refused = at }
+        let number = first_number s earlier log n allowed (sym (stays_refused s (length log + 1) lines) ∙ end) in
+        record { earlier = earlier; line = line; later = lines; log = log; parts = parts; number = number; allowed = allowed; refused = at }
     go (Some e) at end later = later e (played-append s earlier line ∙ ap (λ r. play_line s r line) allowed ∙ ap (extended log) at) end
 
 pub refused_is : (s : Setting) (lines : List Ask) (n : ℕ) → played s lines ≡ Err n → IsFirstRefused s lines n
@@ -201,10 +196,8 @@ bad_from : (s : Setting) (n : ℕ) (whole : List (Option Ask)) (earlier : List A
     fold (play_read_line s) (Ok log) lines ≡ Err n → IsFirstBad s whole n
 bad_from s n whole earlier [] log parts allowed is = cc
 bad_from s n whole earlier (None ∷ lines) log parts allowed is =
-    let err : ◌≡◌ {A = Result (List Entry) ℕ} (Err (length log + 1)) (Err n) = sym (stays_refused_read s (length log + 1) lines) ∙ is in
-    let same : length log + 1 ≡ n = cc in
-    let counted : length log ≡ length earlier = length-answers earlier log (played_is_run s earlier log allowed).1 in
-    record { earlier = earlier; line = None; later = lines; log = log; parts = parts; number = omega arith; allowed = allowed; refused = refl }
+    let number = first_number s earlier log n allowed (sym (stays_refused_read s (length log + 1) lines) ∙ is) in
+    record { earlier = earlier; line = None; later = lines; log = log; parts = parts; number = number; allowed = allowed; refused = refl }
 bad_from s n whole earlier (Some line ∷ lines) log parts allowed is =
     let joined : map Some (earlier ++ line ∷ []) ++ lines ≡ map Some earlier ++ Some line ∷ lines =
     ap (λ ls. ls ++ lines) (map_push Some earlier line) ∙ append_assoc (map Some earlier) (Some line ∷ []) lines in
@@ -213,10 +206,8 @@ bad_from s n whole earlier (Some line ∷ lines) log parts allowed is =
     go : (o : Option Entry) → made_by s log line ≡ o → fold (play_read_line s) (extended log o) lines ≡ Err n →
         ((e : Entry) → played s (earlier ++ line ∷ []) ≡ Ok (log ++ e ∷ []) → fold (play_read_line s) (Ok (log ++ e ∷ [])) lines ≡ Err n → IsFirstBad s whole n) → IsFirstBad s whole n
     go None at end later =
-        let err : ◌≡◌ {A = Result (List Entry) ℕ} (Err (length log + 1)) (Err n) = sym (stays_refused_read s (length log + 1) lines) ∙ end in
-        let same : length log + 1 ≡ n = cc in
-        let counted : length log ≡ length earlier = length-answers earlier log (played_is_run s earlier log allowed).1 in
-        record { earlier = earlier; line = Some line; later = lines; log = log; parts = parts; number = omega arith; allowed = allowed; refused = at }
+        let number = first_number s earlier log n allowed (sym (stays_refused_read s (length log + 1) lines) ∙ end) in
+        record { earlier = earlier; line = Some line; later = lines; log = log; parts = parts; number = number; allowed = allowed; refused = at }
     go (Some e) at end later = later e (played-append s earlier line ∙ ap (λ r. play_line s r line) allowed ∙ ap (extended log) at) end
 
 pub bad_is : (s : Setting) (lines : List (Option Ask)) (n : ℕ) → played_read s lines ≡ Err n → IsFirstBad s lines n

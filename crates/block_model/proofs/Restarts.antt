@@ -1,31 +1,9 @@
 -- The taking of requests one of which asks for a restart interrupts the thread of its hart, which goes on at once with the file that
 -- this leaves it; or the process ends.
-use Rattle.std.proofs.Common.{◌≡◌, ℕ, ◌+◌, [], ◌∷◌, refl, sym, ap, ◌∙◌, subst, Bool, true, false, List, Option, Some, None, is_some}
-use Rattle.std.proofs.lemmas.Bool.{false≢true}
-use Rattle.std.proofs.lemmas.List.{append-nil}
-use Rattle.mach_types.specs.Bytes.{word_at}
-use Rattle.mach_types.specs.Kernel.Areas.{writes_of}
+use Rattle.std.proofs.Common.{◌≡◌, ℕ, ◌+◌, [], ◌∷◌, refl, sym, ap, ◌∙◌, subst, Bool, true, false, List, Option, Some, is_some}
+use Rattle.block_model.proofs.Common.{Area, BadWhy, Done, End, EndsWhole, Event, FindsBad, GoesOnWith, Here, History, IsDeadBy, IsLeftNull, IsRunHistory, Killed, Outcome, RSEQ_CS, RunsThroughout, SIGSEGV, Saved, Sequence, Setting, Write, append-nil, area_here, done_take_by, false≢true, file, file_among, file_interrupted, files_interrupted, has_killed, interruption_here, killed_by, number_of, runs, sequence_on, took_and_interrupted, waiting_here, word_at, writes_of}
 use Rattle.mach_types.specs.declared.events.Kind.TheVariants as kind
-use Rattle.mach_types.specs.declared.limits.End.{End}
-use Rattle.mach_types.specs.declared.limits.End.TheVariants.{Killed}
-use Rattle.mach_types.specs.declared.sequences.Area.{Area}
-use Rattle.mach_types.specs.declared.sequences.BadWhy.{BadWhy}
-use Rattle.mach_types.specs.declared.sequences.Outcome.{Outcome}
 use Rattle.mach_types.specs.declared.sequences.Outcome.TheVariants as comes_to
-use Rattle.mach_types.specs.declared.sequences.TheConstants.{RSEQ_CS}
-use Rattle.mach_types.specs.declared.signals.TheConstants.{SIGSEGV}
-use Rattle.mach_types.specs.declared.threads.Saved.{Saved}
-use Rattle.mach_types.specs.declared.user_memory.Write.{Write}
-use Rattle.block_model.specs.Acts.{Sequence, has_killed, sequence_on}
-use Rattle.block_model.specs.Deciding.{number_of}
-use Rattle.block_model.specs.Events.Signal.{file_interrupted}
-use Rattle.block_model.specs.Events.Take.{done_take_by, killed_by, took_and_interrupted}
-use Rattle.block_model.specs.Here.{Done, Here, runs, waiting_here}
-use Rattle.block_model.specs.History.{Event, History, file, file_among}
-use Rattle.block_model.specs.Run.{IsRunHistory}
-use Rattle.block_model.specs.Sequences.{area_here, files_interrupted, interruption_here}
-use Rattle.block_model.specs.Setting.{Setting}
-use Rattle.block_model.specs.Whole.{EndsWhole, FindsBad, GoesOnWith, IsDeadBy, IsLeftNull, RunsThroughout}
 use Rattle.block_model.proofs.Invariants.Events.{takes_where}
 use Rattle.block_model.proofs.Sequences.{runs_throughout}
 use Rattle.block_model.proofs.WholeCauses.{IsKilled, bad_found, found_by}
@@ -42,27 +20,22 @@ record IsRestarted (here : Here) (t : ℕ) (d : Done) : Type 0 where
 
 restarted_by : (here : Here) (t : ℕ) (restart : Bool) (r : Option ℕ) → r ≡ Some t → waiting_here here ≡ []
     → is_some (done_take_by here restart r).interrupted ≡ true → IsRestarted here t (done_take_by here restart r)
-restarted_by here t false r at none some = absurd (false≢true some)
-restarted_by here t true None at none some = absurd (false≢true some)
 restarted_by here t true (Some u) at none some =
     let same : u ≡ t = cc in
     subst (λ n. IsRestarted here n (done_take_by here true (Some u))) same (record { none_waits = none; done = refl })
+restarted_by here t b o at none some = absurd (false≢true some)
 
 -- WHAT AN INTERRUPTION LEAVES
 
 -- only what is bad ends the process
 killed_so : (o : Outcome) → is_some (killed_by o) ≡ true → IsKilled o
-killed_so comes_to.Nothing is = absurd (false≢true is)
-killed_so comes_to.Cleared is = absurd (false≢true is)
-killed_so (comes_to.Aborted at) is = absurd (false≢true is)
 killed_so (comes_to.Killed why) is = (why, refl)
+killed_so outcome is = absurd (false≢true is)
 
 -- the file of the thread
 file_set : (here : Here) (t : ℕ) (o : Outcome) → file_among (files_interrupted here t o) t (here.file t) ≡ file_interrupted here t o
-file_set here t comes_to.Nothing = refl
-file_set here t comes_to.Cleared = refl
 file_set here t (comes_to.Aborted at) = among_own t (here.file t) (record (here.file t) { pc = at })
-file_set here t (comes_to.Killed why) = refl
+file_set here t outcome = refl
 
 module _ (s : Setting) (e : Event) (before : History) (q : Sequence) (run : IsRunHistory s (e ∷ before)) (is : e.entry.kind ≡ kind.Take)
     (newest : sequence_on s e.entry.hart.0 before ≡ Some q) (some : is_some e.done.interrupted ≡ true) where

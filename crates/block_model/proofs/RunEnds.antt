@@ -1,29 +1,12 @@
 -- A run has no more entries than the step limit, no event leaves it open, and while it isn't ended some thread is live; where a run goes
 -- on, where it has room, and how it ends.
 use Rattle.std.proofs.Common.{◌≡◌, ◌≢◌, refl, ◌≤◌, List, [], ◌∷◌, length, sym, arith, subst, Option, Some, None, ℕ, ◌<◌, ap, ◌∙◌, Bool, true, false, cond, Err, leb}
-use Rattle.std.specs.Option.{option_or}
-use Rattle.mach_types.specs.Events.{choice_of, choice_with}
-use Rattle.mach_types.specs.declared.events.Entry.{Entry}
-use Rattle.mach_types.specs.declared.limits.End.{End}
+use Rattle.block_model.proofs.Common.{Choice, End, Ended, Entry, Event, Full, Here, History, IsAllowedLog, IsRunHistory, Refused, Setting, choice_of, decide, decide_in, done, done_of, end_of, ended, entry_in, here_in_history, history, is_stuck, kernel, le-leb, leb-false, leb-true, lt-leb, option_or, over_at, refusal_of, unless}
 use Rattle.mach_types.specs.declared.limits.End.TheVariants as over
-use Rattle.block_model.specs.Setting.{Setting}
-use Rattle.block_model.specs.Here.{Here}
-use Rattle.block_model.specs.History.{Event, History, ended, here_in_history, kernel}
-use Rattle.block_model.specs.Deciding.{done, history, decide, decide_in, end_of, end_unless, entry_in, over_at, unless}
-use Rattle.block_model.specs.Run.{IsRunHistory, IsAllowedLog}
-use Rattle.block_model.proofs.Runs.{allowed_at, length-history, settled}
+use Rattle.block_model.specs.Deciding.{end_unless}
+use Rattle.block_model.proofs.Runs.{allowed_at, choice_in, length-history, settled}
 use Rattle.block_model.proofs.Addresses.{IsProper, proper_of}
 use Rattle.block_model.proofs.AddressesOfCalls.{NotOpen, SomeLive}
-use Rattle.std.proofs.lemmas.Bool.{le-leb, lt-leb, leb-true, leb-false}
-use Rattle.mach_types.specs.declared.events.Choice.{Choice}
-use Rattle.mach_types.specs.declared.events.Choice.TheVariants as asked
-use Rattle.mach_types.specs.declared.events.Kind.{Kind}
-use Rattle.mach_types.specs.declared.events.Kind.TheVariants as kind
-use Rattle.mach_types.specs.declared.events.Tid.{Tid}
-use Rattle.mach_types.specs.Kernel.Threads.{is_stuck}
-use Rattle.block_model.specs.declared.refusals.Refused.{Refused}
-use Rattle.block_model.specs.declared.refusals.Refused.TheVariants.{Ended, Full}
-use Rattle.block_model.specs.Events.{done_of, refusal_of}
 
 -- a run has no more entries than the step limit
 within : (s : Setting) (before : History) → IsRunHistory s before → length before ≤ s.limits.steps
@@ -43,17 +26,9 @@ proper_at s e before run =
     subst (λ (x : Event). IsProper (here_in_history s before e.entry.hart.0) x.done) (sym run.2) (proper_done s before e.entry)
 
 -- what a choice does ends a process by its exit or by a signal, if it ends one
-named_by : (here : Here) (k : Kind) (t : Tid) → NotOpen (done_of (choice_with k (record { hart = record { 0 = here.hart }; kind = k; tid = t; pc = 0 })) here).ended
-named_by here k t = (proper_of here k (record { hart = record { 0 = here.hart }; kind = k; tid = t; pc = 0 })).ended
-
 pub ends_by_process : (here : Here) (c : Choice) → NotOpen (done_of c here).ended
-ends_by_process here asked.Exec = named_by here kind.Exec (record { 0 = 0 })
-ends_by_process here asked.Drain = named_by here kind.Drain (record { 0 = 0 })
-ends_by_process here asked.Take = named_by here kind.Take (record { 0 = 0 })
-ends_by_process here asked.Done = named_by here kind.Done (record { 0 = 0 })
-ends_by_process here asked.Preempt = named_by here kind.Preempt (record { 0 = 0 })
-ends_by_process here (asked.Run t) = named_by here kind.Run t
-ends_by_process here asked.Signal = named_by here kind.Signal (record { 0 = 0 })
+ends_by_process here c =
+    subst (λ d. NotOpen (done_of d here).ended) (choice_in c here) (proper_of here (entry_in c here).kind (entry_in c here)).ended
 
 -- nothing that is done leaves a run open, or ends it as one that is stuck
 either_end : (o p : Option End) → NotOpen o → NotOpen p → NotOpen (option_or o p)

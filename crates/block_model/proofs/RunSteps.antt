@@ -2,25 +2,9 @@
 -- leaves as
 -- it is on other harts.
 use Rattle.std.proofs.Common.{◌≡◌, ◌≢◌, ℕ, ◌+◌, ◌∷◌, ◌++◌, drop, refl, sym, ap, ◌∙◌, false, cond, eqb}
+use Rattle.block_model.proofs.Common.{Done, Event, Here, History, IsGoodHere, IsRunHistory, Kernel, Kind, Setting, ThreadState, choice_of, done, done_of, drains, entry_in, eqb-false, eqb_same, file, here_in_history, is_ready, is_ready_state, kernel, on, option_map_or, refusal_of, running, stores, waiting}
 use Rattle.std.proofs.Common.{Option, Some, None}
-use Rattle.std.proofs.lemmas.Bool.{eqb-false}
-use Rattle.std.specs.Option.{option_map_or}
-use Rattle.mach_types.proofs.Laws.{eqb_same}
-use Rattle.mach_types.specs.Events.{choice_of}
-use Rattle.mach_types.specs.Kernel.Threads.{is_ready, is_ready_state}
-use Rattle.mach_types.specs.declared.events.Kind.{Kind}
 use Rattle.mach_types.specs.declared.events.Kind.TheVariants as kind
-use Rattle.mach_types.specs.declared.threads.ThreadState.{ThreadState}
-use Rattle.block_model.specs.Deciding.{done, entry_in}
-use Rattle.block_model.specs.Events.{done_of, refusal_of}
-use Rattle.block_model.specs.Here.{Done, Here}
-use Rattle.block_model.specs.History.{Event, History, drains, file, here_in_history, kernel, running, stores}
-use Rattle.block_model.specs.History.{waiting}
-use Rattle.block_model.specs.Record.{Kernel}
-use Rattle.block_model.specs.Run.{IsRunHistory}
-use Rattle.block_model.specs.Setting.{Setting}
-use Rattle.block_model.specs.Tables.{on}
-use Rattle.block_model.specs.Standing.{IsGoodHere}
 use Rattle.block_model.proofs.Runs.{allowed_at}
 use Rattle.block_model.proofs.PlainEvents.{drop_more}
 use Rattle.block_model.proofs.EventEffects.{Drains, EventDeed, deed_of}

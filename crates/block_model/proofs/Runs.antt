@@ -1,26 +1,8 @@
 -- What an entry that is decided tells, what is good at each place of a run, and that a run that goes on is a run; what holds of the harts
 -- and of the kernel's record at each place of a block run.
 use Rattle.std.proofs.Common.{◌≡◌, ℕ, ◌<◌, refl, ap, ◌∙◌, Bool, true, false, cond, Option, Some, None, Result, Ok, Err, length, leb, ◌+◌, List, [], ◌∷◌, ◌++◌, sym, arith, subst, ◌≢◌}
-use Rattle.std.proofs.lemmas.Bool.{leb-false}
-use Rattle.mach_types.specs.declared.events.Choice.{Choice}
+use Rattle.block_model.proofs.Common.{All, All-from_recursion, Choice, End, Entry, Event, Full, Here, History, IsAllowedLog, IsGoodHere, IsRunHistory, IsSound, NoHart, NotEnabled, Refused, Setting, Store, Why, awaits, can_be_written, choice_of, decide, decide_in, done, done_of, each_byte, entry_in, event, fold, fold-append, here_in_history, history, kernel, leb-false, on, over_at, plain_next, plain_start, refusal_of, running, unless, waiting}
 use Rattle.mach_types.specs.declared.events.Choice.TheVariants as asked
-use Rattle.mach_types.specs.declared.events.Entry.{Entry}
-use Rattle.mach_types.specs.declared.events.Why.{Why}
-use Rattle.mach_types.specs.declared.events.Why.TheVariants.{NoHart}
-use Rattle.mach_types.specs.declared.limits.End.{End}
-use Rattle.mach_types.specs.Events.{choice_of}
-use Rattle.block_model.specs.declared.refusals.Refused.{Refused}
-use Rattle.block_model.specs.declared.refusals.Refused.TheVariants.{Full, NotEnabled}
-use Rattle.block_model.specs.Setting.{Setting}
-use Rattle.block_model.specs.Here.{Here}
-use Rattle.block_model.specs.Events.{refusal_of, done_of}
-use Rattle.block_model.specs.History.{History, here_in_history, Event, awaits, can_be_written, kernel, running, waiting}
-use Rattle.block_model.specs.Deciding.{decide, decide_in, entry_in, over_at, unless, done, event, history}
-use Rattle.std.specs.List.{fold, All}
-use Rattle.std.proofs.lemmas.List.Sums.{fold-append}
-use Rattle.block_model.specs.Run.{IsRunHistory, IsAllowedLog}
-use Rattle.block_model.specs.Plain.{plain_start, plain_next}
-use Rattle.block_model.specs.Standing.{IsGoodHere, IsSound}
 use Rattle.block_model.proofs.PlainEvents.{plain_of, IsCounted, counted_next, applied}
 use Rattle.block_model.proofs.AllowedHarts.{start_allowed}
 use Rattle.block_model.proofs.Barriers.Requests.{awaited_start}
@@ -28,12 +10,8 @@ use Rattle.block_model.proofs.KernelTables.{tables_start, running_is, same_hart}
 use Rattle.block_model.proofs.PlaceInvariant.{IsGood, IsFit, good_here, good_next}
 use Rattle.block_model.proofs.Invariants.Instructions.{good_exec}
 use Rattle.block_model.proofs.Invariants.Events.{good_drain, good_done, good_preempt, good_run, good_signal, good_take}
-use Rattle.std.proofs.lemmas.List.Elements.{All-from_recursion}
-use Rattle.mach_types.specs.Bytes.{each_byte}
-use Rattle.mach_types.specs.declared.user_memory.Store.{Store}
 use Rattle.block_model.specs.Layouts.{IsLaidOut}
 use Rattle.block_model.proofs.Pages.{IsPaged, paged_start}
-use Rattle.block_model.specs.Tables.{on}
 
 -- an entry that is decided: the run goes on, the log has room, the hart is one of the machine, no condition fails, and it is the
 -- entry of its choice
@@ -167,9 +145,6 @@ run_before s [] before run = run
 run_before s (e ∷ rest) before run = (run_before s rest (event s before e ∷ before) run).0
 
 -- harts
-pub idle_harts : (s : Setting) (log : List Entry) (h : ℕ) → IsAllowedLog s log → running s h (history s log) ≡ None → waiting h (history s log) ≡ []
-idle_harts s log h run idle = (settled s (history s log) run).good.idle h idle
-
 pub one_hart : (s : Setting) (log : List Entry) (h k t : ℕ) → IsAllowedLog s log → running s h (history s log) ≡ Some t → running s k (history s log) ≡ Some t → h ≡ k
 one_hart s log h k t run here there =
     let record_at = kernel s (history s log) in

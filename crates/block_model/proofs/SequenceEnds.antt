@@ -1,45 +1,20 @@
 -- What the next event of its hart makes of a sequence that it isn't of: where it doesn't interrupt the thread, and where it does.
 use Rattle.std.proofs.Common.{◌≡◌, ◌≢◌, ℕ, [], ◌∷◌, ◌&&◌, ◌||◌, refl, sym, ap, ◌∙◌, subst, Bool, true, false, not, cond, eqb, Option, Some, None, is_some, ◌+◌, ◌⊎◌, inl, inr, List, ◌++◌, Any}
-use Rattle.std.specs.Option.{option_or, option_map_or}
-use Rattle.std.proofs.lemmas.Bool.{false≢true}
-use Rattle.mach_types.proofs.Laws.{eqb_same}
-use Rattle.mach_types.specs.Events.{choice_with}
-use Rattle.mach_types.specs.declared.events.Entry.{Entry}
-use Rattle.mach_types.specs.declared.events.Kind.{Kind}
+use Rattle.block_model.proofs.Common.{Area, Done, End, EndsWhole, Entry, Event, FindsBad, GoesOnWith, Here, History, IsCutProperly, IsDeadBy, IsLeftNull, IsRunHistory, Killed, Kind, NotInBarrier, Outcome, RSEQ_CS, RunsThroughout, SIGSEGV, Saved, Sequence, Setting, Stored, WasTouched, Write, abort_of, area_here, choice_with, cut_or, end_before, end_so_far, ended, eqb_same, false≢true, file, file_interrupted, hanging, hanging_after, has_died, has_killed, here_in_history, interruption_here, is_inside_at, is_inside_here, is_inside_named, is_inside_waiting, is_taken_in, is_writable, memory, moved_out, named, number_of, option_map_or, option_or, refusal_done_by, refusal_of, refusal_return, refusal_run_by, runs, sequence_on, taken_up, view, waiting_here, with_event, writes_of}
 use Rattle.mach_types.specs.declared.events.Kind.TheVariants as kind
-use Rattle.mach_types.specs.declared.events.Why.TheVariants.{NotInBarrier}
-use Rattle.mach_types.specs.declared.limits.End.{End}
-use Rattle.mach_types.specs.declared.limits.End.TheVariants.{Killed}
-use Rattle.mach_types.specs.declared.sequences.Area.{Area}
-use Rattle.mach_types.specs.declared.sequences.Outcome.{Outcome}
 use Rattle.mach_types.specs.declared.sequences.Outcome.TheVariants as comes_to
-use Rattle.mach_types.specs.declared.signals.TheConstants.{SIGSEGV}
 use Rattle.block_model.specs.declared.acts.SeqEnd.{SeqEnd}
 use Rattle.block_model.specs.declared.acts.SeqEnd.TheVariants as ends
-use Rattle.block_model.specs.Acts.{Sequence, abort_of, cut_or, end_before, end_so_far, hanging, hanging_after, has_died, has_killed, is_inside_at, is_taken_in, left_or_dropped, moved_out, sequence_on, taken_up, with_event}
-use Rattle.block_model.specs.Deciding.{number_of}
-use Rattle.block_model.specs.Events.{refusal_of}
-use Rattle.block_model.specs.Events.Finish.{refusal_done_by, refusal_return}
-use Rattle.block_model.specs.Events.Run.{refusal_run_by}
-use Rattle.block_model.specs.Here.{Done, Here, runs, is_writable, memory, view, waiting_here}
-use Rattle.block_model.specs.History.{Event, History, ended, file, here_in_history}
-use Rattle.block_model.specs.Run.{IsRunHistory}
-use Rattle.block_model.specs.Sequences.{area_here, interruption_here, is_inside_here, is_inside_waiting, named_over}
-use Rattle.block_model.specs.Setting.{Setting}
-use Rattle.block_model.specs.Whole.{EndsWhole, FindsBad, GoesOnWith, IsCutOrDead, IsCutProperly, IsDeadBy, IsLeftNull, IsLeftOrDropped, WasTouched, RunsThroughout}
+use Rattle.block_model.specs.Acts.{left_or_dropped}
+use Rattle.block_model.specs.Sequences.{named_over}
+use Rattle.block_model.specs.Whole.{IsCutOrDead, IsLeftOrDropped}
 use Rattle.block_model.proofs.RunEnds.{neither}
 use Rattle.block_model.proofs.EventEffects.{EventDeed, Handles, Restarts, RunKills, Runs, SignalKills, deed_of}
 use Rattle.block_model.proofs.Sequences.{runs_throughout, Elsewhere, Own, SequenceStep, is_reached, by_sequence}
 use Rattle.block_model.proofs.Touched.{dropped_is_touched}
 use Rattle.block_model.proofs.Barriers.OutsideSequences.{in_no_barrier}
 use Rattle.block_model.proofs.WholeEvents.{did, is_free, its_thread, not_over, place, reached_file}
-use Rattle.mach_types.specs.Kernel.Areas.{is_inside_named, named, writes_of}
 use Rattle.mach_types.specs.declared.sequences.Named.TheVariants as names
-use Rattle.mach_types.specs.declared.sequences.TheConstants.{RSEQ_CS}
-use Rattle.mach_types.specs.declared.threads.Saved.{Saved}
-use Rattle.mach_types.specs.declared.user_memory.Write.{Write}
-use Rattle.mach_types.specs.declared.user_memory.Write.TheVariants.{Stored}
-use Rattle.block_model.specs.Events.Signal.{file_interrupted}
 use Rattle.block_model.proofs.TouchedHanging.{sees_memory}
 use Rattle.block_model.proofs.WholeCauses.{found_by, outside_goes_on}
 use Rattle.block_model.proofs.Interruptions.{InsideOf, first_cleared, inside_of}
@@ -94,9 +69,8 @@ quiet s e before q run no_signal no_take is =
 -- where nothing had ended and nothing interrupts
 plain_end : (died killed moved inside : Bool) (i : Option Outcome) (other : SeqEnd) → died ≡ false → i ≡ None
     → cond (died || (is_some i && killed) && not (moved && not inside)) ends.Dead (cut_or other inside (abort_of i)) ≡ other
-plain_end true killed moved inside i other p q = absurd cc
-plain_end false killed moved inside (Some o) other p q = absurd cc
 plain_end false killed moved inside None other p q = refl
+plain_end b killed moved inside o other p q = absurd cc
 
 dropped_by : (s : Setting) (q : Sequence) (inside : Bool) → left_or_dropped s q inside ≡ ends.Dropped → (inside ≡ false) × (moved_out s q ≡ false)
 dropped_by s q true is = absurd cc
@@ -130,13 +104,11 @@ never_returns here (Some t) out free =
 
 preempts : (k : Kind) (x : Entry) (here : Here) (u : ℕ) → k ≢ kind.Signal → here.awaits ≡ None → runs here ≡ Some u
     → refusal_of (choice_with k x) here ≡ None → is_taken_in k None ≡ false → k ≡ kind.Preempt
-preempts kind.Exec x here u other out on free isnt = absurd (false≢true (sym isnt))
-preempts kind.Drain x here u other out on free isnt = absurd (false≢true (sym isnt))
-preempts kind.Take x here u other out on free isnt = absurd (false≢true (sym isnt))
 preempts kind.Done x here u other out on free isnt = absurd (never_returns here (runs here) out free)
 preempts kind.Preempt x here u other out on free isnt = refl
 preempts kind.Run x here u other out on free isnt = absurd (busy here x.tid.0 u (runs here) on free)
 preempts kind.Signal x here u other out on free isnt = absurd (other refl)
+preempts k x here u other out on free isnt = absurd (false≢true (sym isnt))
 
 module _ (s : Setting) (e : Event) (before : History) (q : Sequence) (run : IsRunHistory s (e ∷ before))
     (isnt : e.entry.kind ≢ kind.Signal) (none : e.done.interrupted ≡ None) (is : sequence_on s e.entry.hart.0 before ≡ Some q)
@@ -251,10 +223,8 @@ inside_is here t none =
 
 -- a thread that isn't inside keeps its file
 same_file : (here : Here) (t : ℕ) (o : Outcome) → interruption_here here t ≡ o → is_inside_waiting here t ≡ false → file_interrupted here t o ≡ here.file t
-same_file here t comes_to.Nothing is outside = refl
-same_file here t comes_to.Cleared is outside = refl
 same_file here t (comes_to.Aborted at) is outside = absurd (outside_goes_on here (here.file t).pc (area_here here t) at outside is)
-same_file here t (comes_to.Killed why) is outside = refl
+same_file here t outcome is outside = refl
 
 -- AN INTERRUPTION
 
@@ -293,9 +263,8 @@ outside_uncut other (Some at) = refl
 ends_outside : (s : Setting) (q : Sequence) (killed moved : Bool) (o : Outcome)
     → ((ending s q false killed moved false (Some o) ≡ ends.Dead) × (killed ≡ true))
     ⊎ (ending s q false killed moved false (Some o) ≡ left_or_dropped s q false)
-ends_outside s q true true o = inr (outside_uncut (left_or_dropped s q false) (abort_of (Some o)))
 ends_outside s q true false o = inl (refl, refl)
-ends_outside s q false moved o = inr (outside_uncut (left_or_dropped s q false) (abort_of (Some o)))
+ends_outside s q b moved o = inr (outside_uncut (left_or_dropped s q false) (abort_of (Some o)))
 
 -- one that is cut is neither left nor dropped
 not_left_cut : (at : ℕ) → IsLeftOrDropped (ends.Cut at) → ⊥

@@ -1,29 +1,13 @@
 -- Worked examples, proved by computation: interruptions of a thread inside and outside its sequence, rseq(2) and its refusals, and
 -- a call inside a sequence.
 use Rattle.std.proofs.Common.{◌≡◌, ℕ, Bool, false, List, [], ◌∷◌, ◌++◌, replicate, map, refl, Option, Some, None}
-use Rattle.mach_types.specs.declared.errors.TheConstants.{EBUSY, EFAULT, EINVAL, EPERM}
-use Rattle.mach_types.specs.declared.limits.End.{End}
-use Rattle.mach_types.specs.declared.limits.End.TheVariants.{Killed}
-use Rattle.mach_types.specs.declared.sequences.Area.{Area}
+use Rattle.block_model.proofs.Common.{Area, Done, EFAULT, EINVAL, EPERM, End, Here, IsWholeHistory, Killed, SIGSEGV, Saved, Setting, Stored, Write, are_readable, called_here, done_run, here_in_history, interruption_here, negative, next_id, no_registers, number_at, register, sequence_on, with_register}
+use Rattle.mach_types.specs.declared.errors.TheConstants.{EBUSY}
 use Rattle.mach_types.specs.declared.sequences.BadWhy.TheVariants as bad
 use Rattle.mach_types.specs.declared.sequences.Outcome.TheVariants as comes_to
-use Rattle.mach_types.specs.declared.signals.TheConstants.{SIGSEGV}
-use Rattle.mach_types.specs.declared.threads.Saved.{Saved}
-use Rattle.mach_types.specs.declared.user_memory.Write.{Write}
-use Rattle.mach_types.specs.declared.user_memory.Write.TheVariants.{Stored}
-use Rattle.mach_types.specs.Kernel.Areas.{are_readable, number_at, word_stored}
-use Rattle.mach_types.specs.Registers.{no_registers, register, with_register}
-use Rattle.block_model.specs.Acts.{sequence_on}
-use Rattle.block_model.specs.Calls.Answers.{negative}
+use Rattle.mach_types.specs.Kernel.Areas.{word_stored}
 use Rattle.block_model.specs.Calls.Sequences.{rseq}
-use Rattle.block_model.specs.Events.Exec.{called_here}
-use Rattle.block_model.specs.Events.Run.{done_run}
-use Rattle.block_model.specs.Here.{Done, Here}
-use Rattle.block_model.specs.History.{here_in_history}
-use Rattle.block_model.specs.Ids.{is_running, next_id}
-use Rattle.block_model.specs.Sequences.{interruption_here}
-use Rattle.block_model.specs.Setting.{Setting}
-use Rattle.block_model.specs.Whole.{IsWholeHistory}
+use Rattle.block_model.specs.Ids.{is_running}
 
 -- the first bytes of a page of data at 0x20000: an area, which names the descriptor behind it, at 0x20020. Its sequence begins at
 -- 0x100B0, has 16 bytes, and its abort handler at 0x20044 stands behind the signature 0xF1401073
@@ -62,23 +46,14 @@ stands_at pc = with_area_at 0x20000 0xF1401073 pc
 
 -- INTERRUPTIONS
 
-inside : map (λ pc. interruption_here (stands_at pc) 1) (0x100B0 ∷ 0x100BC ∷ []) ≡ comes_to.Aborted 0x20044 ∷ comes_to.Aborted 0x20044 ∷ []
+-- the address behind the last instruction is outside; another signature, and no area
+interruptions :
+    (map (λ pc. interruption_here (stands_at pc) 1) (0x100B0 ∷ 0x100BC ∷ []) ≡ comes_to.Aborted 0x20044 ∷ comes_to.Aborted 0x20044 ∷ [])  -- inside
+    × (map (λ pc. interruption_here (stands_at pc) 1) (0x100AC ∷ 0x100C0 ∷ []) ≡ comes_to.Cleared ∷ comes_to.Cleared ∷ [])  -- outside
+    × (interruption_here (with_area_at 0x20000 0xF1401072 0x100B0) 1 ≡ comes_to.Killed bad.Signature)  -- badly signed
+    × (interruption_here (stands_at 0x100B0) 2 ≡ comes_to.Nothing)  -- without area
 unfolding are_readable number_at
-inside = refl
-
--- the address behind the last instruction is outside
-outside : map (λ pc. interruption_here (stands_at pc) 1) (0x100AC ∷ 0x100C0 ∷ []) ≡ comes_to.Cleared ∷ comes_to.Cleared ∷ []
-unfolding are_readable number_at
-outside = refl
-
--- another signature, and no area
-badly_signed : interruption_here (with_area_at 0x20000 0xF1401072 0x100B0) 1 ≡ comes_to.Killed bad.Signature
-unfolding are_readable number_at
-badly_signed = refl
-
-without_area : interruption_here (stands_at 0x100B0) 2 ≡ comes_to.Nothing
-unfolding are_readable number_at
-without_area = refl
+interruptions = (refl, refl, refl, refl)
 
 -- the pointer becomes 0, and then the words are those of hart 1, where no other thread runs
 abbrev words : List Write
@@ -90,38 +65,32 @@ cleared = Stored (record { at = 0x20008; size = 8; value = 0 }) ∷ []
 abbrev pub pcs : List (ℕ × Saved) → List (ℕ × ℕ)
 pcs files = map (λ pair. (pair.0, pair.1.pc)) files
 
-begins_inside : (done_run (stands_at 0x100B0) 1).entered ≡ cleared ++ words
+begun_in_sequence :
+    ((done_run (stands_at 0x100B0) 1).entered ≡ cleared ++ words)  -- begins inside
+    × (pcs (done_run (stands_at 0x100B0) 1).files ≡ (1, 0x20044) ∷ [])  -- goes to its handler
 unfolding are_readable number_at
-begins_inside = refl
-
-goes_to_its_handler : pcs (done_run (stands_at 0x100B0) 1).files ≡ (1, 0x20044) ∷ []
-unfolding are_readable number_at
-goes_to_its_handler = refl
+begun_in_sequence = (refl, refl)
 
 -- its registers stay: a0 of each thread is its number
 abbrev numbered_at : ℕ → Here
 numbered_at pc = record (stands_at pc) { file = λ t. record { file = with_register no_registers 10 t; pc = pc } }
 
-keeps_its_registers : (done_run (numbered_at 0x100B0) 1).files ≡ (1, record { file = with_register no_registers 10 1; pc = 0x20044 }) ∷ []
+files_of_begun :
+    ((done_run (numbered_at 0x100B0) 1).files ≡ (1, record { file = with_register no_registers 10 1; pc = 0x20044 }) ∷ [])  -- keeps its registers
+    × (pcs (done_run (stands_at 0x100C0) 1).files ≡ [])  -- stays where it was
 unfolding are_readable number_at
-keeps_its_registers = refl
-
-stays_where_it_was : pcs (done_run (stands_at 0x100C0) 1).files ≡ []
-unfolding are_readable number_at
-stays_where_it_was = refl
+files_of_begun = (refl, refl)
 
 -- a thread that is killed doesn't begin to run, and nothing is written
 abbrev result : Done → Bool × List Write × Option End
 result d = (is_running 1 d.kernel.threads, d.entered, d.ended)
 
-killed_by_its_signature : result (done_run (with_area_at 0x20000 0xF1401072 0x100B0) 1) ≡ (false, [], Some (Killed SIGSEGV))
-unfolding are_readable number_at
-killed_by_its_signature = refl
-
 -- the same where its words can't be written
-killed_by_its_page : result (done_run (with_area_at 0x21000 0xF1401073 0x100B0) 1) ≡ (false, [], Some (Killed SIGSEGV))
+killed_when_begun :
+    (result (done_run (with_area_at 0x20000 0xF1401072 0x100B0) 1) ≡ (false, [], Some (Killed SIGSEGV)))  -- killed by its signature
+    × (result (done_run (with_area_at 0x21000 0xF1401073 0x100B0) 1) ≡ (false, [], Some (Killed SIGSEGV)))  -- killed by its page
 unfolding are_readable number_at
-killed_by_its_page = refl
+killed_when_begun = (refl, refl)
 
 -- IDS
 
@@ -153,46 +122,31 @@ answer here = answer_in (rseq here 1).files
 abbrev held : List (ℕ × Area)
 held = (1, record { at = 0x20000; sig = 7 }) ∷ []
 
-registers_an_area : (rseq (asks [] 0x20000 32 0 7) 1).kernel.areas ≡ held
-registers_an_area = refl
-
-writes_its_words : (rseq (asks [] 0x20000 32 0 7) 1).entered ≡ words
-writes_its_words = refl
-
--- each refusal: flags, length, pointer 0, a pointer that isn't aligned, and one past the end of addresses
-refused_first : map answer (asks [] 0x20000 32 2 7 ∷ asks [] 0x20000 33 0 7 ∷ asks [] 0 32 0 7 ∷ asks [] 0x20010 32 0 7 ∷ asks [] 0x4000000000 32 0 7 ∷ [])
-    ≡ negative EINVAL.0 ∷ negative EINVAL.0 ∷ negative EINVAL.0 ∷ negative EINVAL.0 ∷ negative EFAULT.0 ∷ []
-refused_first = refl
-
--- of a thread that has an area: another area, another signature, and the same again
-refused_again : map answer (asks held 0x20020 32 0 7 ∷ asks held 0x20000 32 0 8 ∷ asks held 0x20000 32 0 7 ∷ [])
-    ≡ negative EINVAL.0 ∷ negative EPERM.0 ∷ negative EBUSY.0 ∷ []
-refused_again = refl
-
--- an area whose words can't be written: the process is killed, and no area is registered
-killed_by_registration : (rseq (asks [] 0x21000 32 0 7) 1).ended ≡ Some (Killed SIGSEGV)
-killed_by_registration = refl
-
-registers_none_then : (rseq (asks [] 0x21000 32 0 7) 1).kernel.areas ≡ []
-registers_none_then = refl
-
--- unregistration, and each of its refusals: none registered, other flags, another area, another signature
-unregistration :
-    ((rseq (asks held 0x20000 32 1 7) 1).kernel.areas ≡ [])  -- unregisters it
+-- each refusal: flags, length, pointer 0, a pointer that isn't aligned, and one past the end of addresses; of a thread that has an
+-- area: another area, another signature, and the same again; an area whose words can't be written: the process is killed, and no
+-- area is registered; unregistration, and each of its refusals: none registered, other flags, another area, another signature
+registration_calls :
+    ((rseq (asks [] 0x20000 32 0 7) 1).kernel.areas ≡ held)  -- registers an area
+    × ((rseq (asks [] 0x20000 32 0 7) 1).entered ≡ words)  -- writes its words
+    × (map answer (asks [] 0x20000 32 2 7 ∷ asks [] 0x20000 33 0 7 ∷ asks [] 0 32 0 7 ∷ asks [] 0x20010 32 0 7 ∷ asks [] 0x4000000000 32 0 7 ∷ [])
+    ≡ negative EINVAL.0 ∷ negative EINVAL.0 ∷ negative EINVAL.0 ∷ negative EINVAL.0 ∷ negative EFAULT.0 ∷ [])  -- refused first
+    × (map answer (asks held 0x20020 32 0 7 ∷ asks held 0x20000 32 0 8 ∷ asks held 0x20000 32 0 7 ∷ [])
+    ≡ negative EINVAL.0 ∷ negative EPERM.0 ∷ negative EBUSY.0 ∷ [])  -- refused again
+    × ((rseq (asks [] 0x21000 32 0 7) 1).ended ≡ Some (Killed SIGSEGV))  -- killed by registration
+    × ((rseq (asks [] 0x21000 32 0 7) 1).kernel.areas ≡ [])  -- registers none then
+    × ((rseq (asks held 0x20000 32 1 7) 1).kernel.areas ≡ [])  -- unregisters it
     × ((rseq (asks held 0x20000 32 1 7) 1).entered
     ≡ word_stored 0x20000 0 ∷ word_stored 0x20004 0xFFFFFFFF ∷ word_stored 0x20014 0 ∷ word_stored 0x20018 0 ∷ [])  -- writes no processor
     × (map answer (asks [] 0x20000 32 1 7 ∷ asks held 0x20000 32 3 7 ∷ asks held 0x20020 32 1 7 ∷ asks held 0x20000 32 1 8 ∷ [])
     ≡ negative EINVAL.0 ∷ negative EINVAL.0 ∷ negative EINVAL.0 ∷ negative EPERM.0 ∷ [])  -- refused unregistration
-unregistration = (refl, refl, refl)
+registration_calls = (refl, refl, refl, refl, refl, refl, refl, refl, refl)
 
 -- a call inside a sequence kills the process, and one outside doesn't
-call_inside : (called_here (stands_at 0x100B4) 1).ended ≡ Some (Killed SIGSEGV)
+calls_by_place :
+    ((called_here (stands_at 0x100B4) 1).ended ≡ Some (Killed SIGSEGV))  -- call inside
+    × ((called_here (stands_at 0x100C0) 1).ended ≡ None)  -- call outside
 unfolding are_readable number_at
-call_inside = refl
-
-call_outside : (called_here (stands_at 0x100C0) 1).ended ≡ None
-unfolding are_readable number_at
-call_outside = refl
+calls_by_place = (refl, refl)
 
 -- no sequence at the start
 none_at_start : sequence_on program 0 [] ≡ None

@@ -1,24 +1,8 @@
 -- What an event makes of the newest sequence of a hart, and of one that hangs; and where the thread of a sequence is: it runs on the
 -- sequence's hart from the place before the first event on.
 use Rattle.std.proofs.Common.{◌≡◌, ◌≢◌, ℕ, ◌∷◌, refl, sym, ◌∙◌, subst, Bool, true, false, not, cond, eqb, Option, Some, None, [], ap}
-use Rattle.std.proofs.lemmas.Bool.{eqb-true, eqb-false, false≢true}
-use Rattle.mach_types.specs.declared.events.Kind.{Kind}
+use Rattle.block_model.proofs.Common.{Done, Entry, Event, Here, History, IsRunHistory, Kernel, Kind, Outcome, RunsThroughout, Sequence, Setting, begun_with, choice_of, choice_with, done, done_of, eqb-false, eqb-true, false≢true, hanging, hanging_after, here_in_history, is_inside_at, is_inside_here, is_instruction, is_of_hart, is_taken_in, number_of, option_map_or, running, running_on, runs, sequence_on, taken_up, thread_in, with_event}
 use Rattle.mach_types.specs.declared.events.Kind.TheVariants as kind
-use Rattle.mach_types.specs.declared.sequences.Outcome.{Outcome}
-use Rattle.block_model.specs.Acts.{Sequence, begun_with, hanging, hanging_after, is_inside_at, is_instruction, is_taken_in, sequence_on, taken_up, with_event}
-use Rattle.block_model.specs.History.{Event, History, is_of_hart, here_in_history, running}
-use Rattle.block_model.specs.Setting.{Setting}
-use Rattle.block_model.specs.Run.{IsRunHistory}
-use Rattle.std.specs.Option.{option_map_or}
-use Rattle.mach_types.specs.Events.{choice_of, choice_with}
-use Rattle.mach_types.specs.Kernel.Threads.{running_on}
-use Rattle.mach_types.specs.declared.events.Entry.{Entry}
-use Rattle.block_model.specs.Deciding.{done, number_of, thread_in}
-use Rattle.block_model.specs.Events.{done_of}
-use Rattle.block_model.specs.Here.{Done, Here, runs}
-use Rattle.block_model.specs.Record.{Kernel}
-use Rattle.block_model.specs.Sequences.{is_inside_here}
-use Rattle.block_model.specs.Whole.{RunsThroughout}
 use Rattle.block_model.proofs.Runs.{allowed_at, fit_at}
 use Rattle.block_model.proofs.EventEffects.{Calls, EventDeed, Preempts, Runs, deed_of}
 use Rattle.block_model.proofs.SignalTables.{OnlySignals}

@@ -1,34 +1,15 @@
 -- The delivery of a signal interrupts the thread of its hart, which goes on with the file that this leaves it once the handler of the
 -- signal returns; or the process ends.
 use Rattle.std.proofs.Common.{◌≡◌, ℕ, ◌+◌, [], ◌∷◌, refl, sym, ap, ◌∙◌, subst, Bool, true, false, not, cond, Option, Some, None, is_some}
-use Rattle.std.specs.Option.{option_map}
-use Rattle.std.proofs.lemmas.Bool.{false≢true}
-use Rattle.mach_types.specs.Bytes.{word_at}
-use Rattle.mach_types.specs.Kernel.Areas.{writes_of}
-use Rattle.mach_types.specs.Kernel.SignalFrames.{can_write_frame, frame_writes, handler_file}
-use Rattle.mach_types.specs.Kernel.Signals.{action_of, is_handler, mask_of, next_for}
+use Rattle.block_model.proofs.Common.{Area, BadWhy, Done, End, EndsWhole, Event, FindsBad, GoesOnWith, Here, History, IsDeadBy, IsLeftNull, IsRunHistory, Killed, Outcome, RSEQ_CS, RunsThroughout, SIGSEGV, Saved, Sequence, Setting, action_of, area_here, can_write_frame, done_next, done_signal_by, false≢true, file, file_among, file_interrupted, frame_writes, handled, handled_unless_killed, handler_file, has_killed, interruption_here, is_handler, is_writable, kills, mask_of, next_for, number_of, option_map, refusal_delivery, refusal_signal_by, runs, sequence_on, waiting_here, word_at, writes_of}
 use Rattle.mach_types.specs.declared.events.Kind.TheVariants as kind
-use Rattle.mach_types.specs.declared.limits.End.{End}
-use Rattle.mach_types.specs.declared.limits.End.TheVariants.{Killed}
-use Rattle.mach_types.specs.declared.sequences.Area.{Area}
-use Rattle.mach_types.specs.declared.sequences.BadWhy.{BadWhy}
-use Rattle.mach_types.specs.declared.sequences.Outcome.{Outcome}
 use Rattle.mach_types.specs.declared.sequences.Outcome.TheVariants as comes_to
-use Rattle.mach_types.specs.declared.sequences.TheConstants.{RSEQ_CS}
-use Rattle.mach_types.specs.declared.signals.TheConstants.{SIGSEGV}
-use Rattle.mach_types.specs.declared.threads.Saved.{Saved}
-use Rattle.block_model.specs.Acts.{Sequence, has_killed, sequence_on}
-use Rattle.block_model.specs.Deciding.{number_of}
-use Rattle.block_model.specs.Events.Signal.{done_delivery, done_next, done_signal_by, file_interrupted, handled, handled_unless_killed, kills, kills_unhandled, refusal_delivery, refusal_signal_by}
-use Rattle.block_model.specs.Here.{Done, Here, is_writable, runs, waiting_here}
-use Rattle.block_model.specs.History.{Event, History, file, file_among}
-use Rattle.block_model.specs.Run.{IsRunHistory}
-use Rattle.block_model.specs.Sequences.{area_here, interruption_here}
-use Rattle.block_model.specs.Setting.{Setting}
-use Rattle.block_model.specs.Whole.{EndsWhole, FindsBad, GoesOnWith, IsDeadBy, IsHandled, IsKilledByDelivery, IsLeftNull, RunsThroughout, lies_on_pointer}
+use Rattle.block_model.specs.Events.Signal.{done_delivery, kills_unhandled}
+use Rattle.block_model.specs.Whole.{IsHandled, IsKilledByDelivery, lies_on_pointer}
 use Rattle.block_model.proofs.Invariants.Events.{none_waits, out_of_barrier}
 use Rattle.block_model.proofs.Sequences.{runs_throughout}
 use Rattle.block_model.proofs.WholeCauses.{bad_found, found_by}
+use Rattle.block_model.proofs.SignalsOfWaiters.{none_left}
 use Rattle.block_model.proofs.SequenceEnds.{IsInterrupting, ends_whole_interrupted}
 use Rattle.block_model.proofs.WholeEvents.{among_own, did, is_free, its_thread, place}
 use Rattle.block_model.proofs.Interruptions.{memory_after, pointer_word, frame_leaves}
@@ -63,10 +44,8 @@ module _ (here : Here) (t signal : ℕ) where
   found_kills found = ap (kills here t signal) (bad_found here t found).1
 
   not_found : (o : Outcome) → came_to ≡ o → (FindsBad here t → ⊥) → kills here t signal o ≡ kills_unhandled here t signal o
-  not_found comes_to.Nothing is never = refl
-  not_found comes_to.Cleared is never = refl
-  not_found (comes_to.Aborted at) is never = refl
   not_found (comes_to.Killed why) is never = absurd (never (found_by here t why is))
+  not_found outcome is never = refl
 
   abbrev by_tests : Bool → Bool → Option ℕ
   by_tests handles frames = cond (not handles) (Some signal) (cond (not frames) (Some SIGSEGV) None)
@@ -129,10 +108,6 @@ some_killer : (k : Option ℕ) → is_some k ≡ true → (n : ℕ) × (k ≡ So
 some_killer None is = absurd (false≢true is)
 some_killer (Some n) is = (n, refl)
 
-no_killer : (k : Option ℕ) → is_some k ≡ false → k ≡ None
-no_killer None is = refl
-no_killer (Some n) is = absurd (false≢true (sym is))
-
 some_mapped : (k : Option ℕ) → is_some (option_map (λ n. Killed n) k) ≡ is_some k
 some_mapped None = refl
 some_mapped (Some n) = refl
@@ -176,9 +151,6 @@ module _ (s : Setting) (e : Event) (before : History) (q : Sequence) (run : IsRu
 
   -- THE PROCESS IS KILLED
 
-  of_own : FindsBad here e.entry.tid.0 → FindsBad here t
-  of_own found = subst (FindsBad here) own found
-
   never_own : (FindsBad here e.entry.tid.0 → ⊥) → FindsBad here t → ⊥
   never_own never found = never (subst (FindsBad here) (sym own) found)
 
@@ -188,7 +160,7 @@ module _ (s : Setting) (e : Event) (before : History) (q : Sequence) (run : IsRu
       record {
         signal = delivered.signal;
         next = ap (λ u. next_for u here.kernel.signals) own ∙ delivered.next;
-        checked = λ found. found_ends (of_own found);
+        checked = λ found. found_ends (subst (FindsBad here) own found);
         unhandled = λ never none.
             ended_is ∙ ap (option_map (λ m. Killed m)) (unhandled_kills here t delivered.signal (never_own never) none);
         unframed = λ never handler.
@@ -227,7 +199,7 @@ module _ (s : Setting) (e : Event) (before : History) (q : Sequence) (run : IsRu
         (pointer_word here t area registered (frame_writes saved mask) (frame_leaves area saved mask apart) never_dies)
 
   alive_so : has_killed e ≡ false → its_killer ≡ None
-  alive_so lives = no_killer its_killer (sym killed_is ∙ lives)
+  alive_so lives = none_left its_killer (sym killed_is ∙ lives)
 
   interrupting : IsInterrupting s e before here t
   interrupting = record {

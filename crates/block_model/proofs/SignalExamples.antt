@@ -1,50 +1,15 @@
 -- Worked examples, proved by computation: signals that are posted, masked and delivered, their handlers, faults that become pending,
 -- and waits that a signal breaks.
-use Rattle.std.proofs.Common.{◌≡◌, ℕ, ◌+◌, ◌*◌, true, false, List, [], ◌∷◌, ◌++◌, replicate, map, take, drop, refl, Option, Some, None, Ok, Err}
-use Rattle.mach_types.specs.Bytes.{written}
-use Rattle.mach_types.specs.declared.errors.TheConstants.{EAGAIN, EFAULT, EINTR, EINVAL, ESRCH}
-use Rattle.mach_types.specs.declared.events.Choice.{Choice}
-use Rattle.mach_types.specs.declared.events.Choice.TheVariants as asked
-use Rattle.mach_types.specs.declared.events.Entry.{Entry}
+use Rattle.std.proofs.Common.{◌≡◌, ℕ, ◌+◌, ◌*◌, true, false, List, [], ◌∷◌, ◌++◌, replicate, map, take, drop, refl, Option, Some, None}
+use Rattle.block_model.proofs.Common.{Action, Done, EFAULT, EINTR, EINVAL, End, Entry, Here, Idle, IsBlockRun, Kernel, Killed, NoSignal, Regs, Saved, Setting, Signalling, Store, ThreadState, Threads, Write, action_of, all_signals, amo_rows, are_readable, auipc_rows, branch_rows, called, can_write_frame, choice_at, decide, done, done_exec, done_signal, double_written, file_among, frame_read, gone, had_child, has_ended, has_signal, here_in_history, history, is_ignored, is_register_only, jal_rows, jalr_rows, kernel, load_rows, lui_rows, mask_of, meaning, misc_mem_rows, negative, next_entry, next_for, no_registers, number_at, op_32_rows, op_imm_32_rows, op_imm_rows, op_rows, pending_of, pick, refusal_signal, register, row_of, rows, sight_in, start_signalling, start_threads, state_of, store_rows, system_rows, waits, with_child, with_mask, with_pending, with_register, with_state, with_thread, with_waiter, written}
+use Rattle.mach_types.specs.declared.errors.TheConstants.{EAGAIN, ESRCH}
 use Rattle.mach_types.specs.declared.events.Kind.TheVariants as kind
-use Rattle.mach_types.specs.declared.events.Why.TheVariants.{Idle, NoSignal, Waiting}
-use Rattle.mach_types.specs.declared.limits.End.{End}
-use Rattle.mach_types.specs.declared.limits.End.TheVariants.{Killed}
-use Rattle.mach_types.specs.declared.registers.Regs.{Regs}
+use Rattle.mach_types.specs.declared.events.Why.TheVariants.{Waiting}
 use Rattle.mach_types.specs.declared.sequences.Outcome.TheVariants as comes_to
-use Rattle.mach_types.specs.declared.signal_words.Action.{Action}
-use Rattle.mach_types.specs.declared.threads.Saved.{Saved}
-use Rattle.mach_types.specs.declared.threads.ThreadState.{ThreadState}
 use Rattle.mach_types.specs.declared.threads.ThreadState.TheVariants as state
-use Rattle.mach_types.specs.declared.user_memory.Store.{Store}
-use Rattle.mach_types.specs.declared.user_memory.Write.{Write}
-use Rattle.mach_types.specs.Kernel.Areas.{are_readable, number_at}
-use Rattle.mach_types.specs.Kernel.SignalFrames.{can_write_frame, frame_read}
-use Rattle.mach_types.specs.Kernel.Signals.{Signalling, action_of, all_signals, mask_of, pending_of, start_signalling, with_action, with_mask, with_pending, with_thread, has_signal, is_ignored, next_for}
-use Rattle.mach_types.specs.Kernel.Threads.{Threads, start_threads, state_of, with_child, with_state, with_waiter, waits}
-use Rattle.mach_types.specs.Registers.{no_registers, register, with_register}
-use Rattle.chooser.specs.Cases.{pick}
-use Rattle.rv_inst.specs.Local.{is_register_only}
-use Rattle.rv_inst.specs.Meaning.{meaning}
-use Rattle.rv_inst.specs.Table.{row_of, rows, lui_rows, auipc_rows, jal_rows, jalr_rows, branch_rows, load_rows, store_rows, op_imm_rows, op_imm_32_rows, op_rows, op_32_rows, misc_mem_rows, amo_rows, system_rows}
-use Rattle.block_model.specs.Calls.{called}
-use Rattle.block_model.specs.Calls.Answers.{double_written, negative}
-use Rattle.block_model.specs.Choosing.{choice_at, has_ended, next_entry}
-use Rattle.block_model.specs.Deciding.{decide, done, end_of, history}
-use Rattle.block_model.specs.Events.Exec.{done_exec}
-use Rattle.block_model.specs.Events.Signal.{done_signal, refusal_signal}
-use Rattle.block_model.specs.Here.{Done, Here}
-use Rattle.block_model.specs.History.{file_among, here_in_history, kernel}
-use Rattle.block_model.specs.Kernel.{gone, had_child}
-use Rattle.block_model.specs.Record.{Kernel}
-use Rattle.block_model.specs.Replay.{Ask, played}
-use Rattle.block_model.specs.Setting.{Setting}
-use Rattle.block_model.specs.Sights.{sight_in}
-use Rattle.block_model.specs.Solo.{solo_choice}
-use Rattle.block_model.specs.declared.refusals.Refused.TheVariants.{NotEnabled}
+use Rattle.mach_types.specs.Kernel.Signals.{with_action}
 use Rattle.block_model.proofs.SequenceExamples.{pcs, program}
-use Rattle.block_model.proofs.ExamplePrograms.{entry, line, code_and_data}
-use Rattle.block_model.specs.Run.{IsBlockRun}
+use Rattle.block_model.proofs.ExamplePrograms.{entry, code_and_data}
 use Rattle.block_model.proofs.Laws.{block_run}
 
 -- WHO IS ASKED
@@ -106,41 +71,33 @@ handles_10 = acting 10 (handler 0 0)
 abbrev posts_10 : Here
 posts_10 = asks handles_10 130 1 10 0 0
 
-none_before : refusal_signal posts_10 ≡ Some NoSignal
+posted_signal :
+    (refusal_signal posts_10 ≡ Some NoSignal)  -- none before
+    × (refusal_signal (after posts_10) ≡ None)  -- deliverable then
 unfolding all_signals
-none_before = refl
-
-deliverable_then : refusal_signal (after posts_10) ≡ None
-unfolding all_signals
-deliverable_then = refl
+posted_signal = (refl, refl)
 
 -- but not while a store of its hart waits; and nothing is delivered on an idle hart
 abbrev one_store : List Store
 one_store = record { at = 0x20000; size = 1; value = 7 } ∷ []
 
-waits_for_its_store : refusal_signal (record (after posts_10) { waiting = λ h. one_store }) ≡ Some Waiting
-unfolding all_signals
-waits_for_its_store = refl
-
-idle_hart : refusal_signal (record (after posts_10) { hart = 1 }) ≡ Some Idle
-unfolding all_signals
-idle_hart = refl
-
 -- a scheduler sees it there, and not before
-seen_then : map (λ here. (sight_in here 0 0).deliverable) (posts_10 ∷ after posts_10 ∷ record (after posts_10) { hart = 1 } ∷ []) ≡ false ∷ true ∷ false ∷ []
+held_up_delivery :
+    (refusal_signal (record (after posts_10) { waiting = λ h. one_store }) ≡ Some Waiting)  -- waits for its store
+    × (refusal_signal (record (after posts_10) { hart = 1 }) ≡ Some Idle)  -- idle hart
+    × (map (λ here. (sight_in here 0 0).deliverable) (posts_10 ∷ after posts_10 ∷ record (after posts_10) { hart = 1 } ∷ []) ≡ false ∷ true ∷ false ∷ [])  -- seen then
 unfolding all_signals
-seen_then = refl
+held_up_delivery = (refl, refl, refl)
 
 -- a masked signal is pending, and isn't deliverable
 abbrev masks_10 : Here
 masks_10 = asks (with_mask 1 0x200 handles_10) 130 1 10 0 0
 
-masked_is_pending : pending_of 1 (signals_after masks_10) ≡ 0x200
-masked_is_pending = refl
-
-masked_is_not_deliverable : refusal_signal (after masks_10) ≡ Some NoSignal
+masked_signal :
+    (pending_of 1 (signals_after masks_10) ≡ 0x200)  -- masked is pending
+    × (refusal_signal (after masks_10) ≡ Some NoSignal)  -- masked is not deliverable
 unfolding all_signals
-masked_is_not_deliverable = refl
+masked_signal = (refl, refl)
 
 -- SIGCHLD is dropped under its default, and so is signal 15 where its action ignores it; each answers 0. SIGCHLD is pending where it has a handler
 dropped_where_ignored : map answer_and_pending
@@ -148,28 +105,23 @@ dropped_where_ignored : map answer_and_pending
     ≡ (0, 0) ∷ (0, 0) ∷ (0, 0x10000) ∷ []
 dropped_where_ignored = refl
 
--- what tkill refuses, in order: a thread that is 0 or negative, one that isn't there, and a signal that can't be sent, as those that
--- stop a process. A thread is the low 32 bits of its register
-tkill_refused : map (λ (ask : ℕ × ℕ). answer (asks handles_10 130 ask.0 ask.1 0 0))
+-- what tkill refuses, in order: a thread that is 0 or negative, one that isn't there, and a signal that can't be sent, as those
+-- that stop a process. A thread is the low 32 bits of its register; signal 0 is never pending
+thread_signals :
+    (map (λ (ask : ℕ × ℕ). answer (asks handles_10 130 ask.0 ask.1 0 0))
     ((0, 32) ∷ (0xFFFFFFFF, 32) ∷ (2, 32) ∷ (1, 32) ∷ (1, 19) ∷ (1, 22) ∷ [])
-    ≡ negative EINVAL.0 ∷ negative EINVAL.0 ∷ negative ESRCH.0 ∷ negative EINVAL.0 ∷ negative EINVAL.0 ∷ negative EINVAL.0 ∷ []
-tkill_refused = refl
-
-tkill_answers : map (λ (ask : ℕ × ℕ). answer (asks handles_10 130 ask.0 ask.1 0 0)) ((1, 18) ∷ (1, 23) ∷ (1, 31) ∷ (0x100000001, 10) ∷ []) ≡ 0 ∷ 0 ∷ 0 ∷ 0 ∷ []
-tkill_answers = refl
-
--- signal 0 is never pending
-nothing_is_posted : answer_and_pending (asks handles_10 130 1 0 0 0) ≡ (0, 0)
-nothing_is_posted = refl
+    ≡ negative EINVAL.0 ∷ negative EINVAL.0 ∷ negative ESRCH.0 ∷ negative EINVAL.0 ∷ negative EINVAL.0 ∷ negative EINVAL.0 ∷ [])  -- tkill refused
+    × (map (λ (ask : ℕ × ℕ). answer (asks handles_10 130 ask.0 ask.1 0 0)) ((1, 18) ∷ (1, 23) ∷ (1, 31) ∷ (0x100000001, 10) ∷ []) ≡ 0 ∷ 0 ∷ 0 ∷ 0 ∷ [])  -- tkill answers
+    × (answer_and_pending (asks handles_10 130 1 0 0 0) ≡ (0, 0))  -- nothing is posted
+thread_signals = (refl, refl, refl)
 
 -- the same of tgkill, which names the process too
-tgkill_refused : map (λ (ask : ℕ × ℕ × ℕ). answer (asks handles_10 131 ask.0 ask.1 ask.2 0))
+process_signals :
+    (map (λ (ask : ℕ × ℕ × ℕ). answer (asks handles_10 131 ask.0 ask.1 ask.2 0))
     ((0, 2, 32) ∷ (2, 0, 32) ∷ (2, 1, 32) ∷ (1, 2, 32) ∷ (1, 1, 32) ∷ [])
-    ≡ negative EINVAL.0 ∷ negative EINVAL.0 ∷ negative ESRCH.0 ∷ negative ESRCH.0 ∷ negative EINVAL.0 ∷ []
-tgkill_refused = refl
-
-tgkill_posts : pending_of 1 (signals_after (asks handles_10 131 1 1 10 0)) ≡ 0x200
-tgkill_posts = refl
+    ≡ negative EINVAL.0 ∷ negative EINVAL.0 ∷ negative ESRCH.0 ∷ negative ESRCH.0 ∷ negative EINVAL.0 ∷ [])  -- tgkill refused
+    × (pending_of 1 (signals_after (asks handles_10 131 1 1 10 0)) ≡ 0x200)  -- tgkill posts
+process_signals = (refl, refl)
 
 -- ACTIONS AND MASKS
 
@@ -182,18 +134,15 @@ with_action_there here =
 abbrev sets_an_action : Here
 sets_an_action = with_action_there (asks (acting 10 (handler 3 4)) 134 10 0x20800 0x20900 8)
 
-new_action : action_of 10 (signals_after sets_an_action) ≡ record { at = 0x10200; flags = 5; mask = 0x302 }
-new_action = refl
-
-old_action : (called sets_an_action 1).entered ≡ double_written 0x20900 0x10100 ∷ double_written 0x20908 3 ∷ double_written 0x20910 4 ∷ []
-old_action = refl
-
--- what it refuses, in order: the size of a set; an action that can't be read; a signal that isn't there, or has one action always; and
--- an old action that can't be written
-action_refused : map (λ (ask : ℕ × ℕ × ℕ × ℕ). answer (with_action_there (asks start_signalling 134 ask.0 ask.1 ask.2 ask.3)))
+-- what it refuses, in order: the size of a set; an action that can't be read; a signal that isn't there, or has one action always;
+-- and an old action that can't be written
+action_calls :
+    (action_of 10 (signals_after sets_an_action) ≡ record { at = 0x10200; flags = 5; mask = 0x302 })  -- new action
+    × ((called sets_an_action 1).entered ≡ double_written 0x20900 0x10100 ∷ double_written 0x20908 3 ∷ double_written 0x20910 4 ∷ [])  -- old action
+    × (map (λ (ask : ℕ × ℕ × ℕ × ℕ). answer (with_action_there (asks start_signalling 134 ask.0 ask.1 ask.2 ask.3)))
     ((32, 0x30000, 0x21000, 4) ∷ (32, 0x30000, 0x21000, 8) ∷ (32, 0x20800, 0x21000, 8) ∷ (9, 0x20800, 0x21000, 8) ∷ (10, 0x20800, 0x21000, 8) ∷ (9, 0, 0x20900, 8) ∷ [])
-    ≡ negative EINVAL.0 ∷ negative EFAULT.0 ∷ negative EINVAL.0 ∷ negative EINVAL.0 ∷ negative EFAULT.0 ∷ 0 ∷ []
-action_refused = refl
+    ≡ negative EINVAL.0 ∷ negative EFAULT.0 ∷ negative EINVAL.0 ∷ negative EINVAL.0 ∷ negative EFAULT.0 ∷ 0 ∷ [])  -- action refused
+action_calls = (refl, refl, refl)
 
 -- an action that ignores its signal drops it for each thread
 abbrev pending_for_two : Signalling
@@ -209,18 +158,15 @@ dropped_for_both = refl
 abbrev sets_its_mask : ℕ → Here
 sets_its_mask how = with_action_there (asks (with_mask 1 0x6 start_signalling) 135 how 0x20810 0x20900 8)
 
-new_masks : map (λ how. mask_of 1 (signals_after (sets_its_mask how))) (0 ∷ 1 ∷ 2 ∷ []) ≡ 0x206 ∷ 0x4 ∷ 0x202 ∷ []
-new_masks = refl
-
-old_mask : (called (sets_its_mask 0) 1).entered ≡ double_written 0x20900 0x6 ∷ []
-old_mask = refl
-
 -- what it refuses, in order: the size of a set, a set that can't be read, `how` where there is a set, and an old mask that can't be
 -- written
-mask_refused : map (λ (ask : ℕ × ℕ × ℕ × ℕ). answer (with_action_there (asks start_signalling 135 ask.0 ask.1 ask.2 ask.3)))
+mask_calls :
+    (map (λ how. mask_of 1 (signals_after (sets_its_mask how))) (0 ∷ 1 ∷ 2 ∷ []) ≡ 0x206 ∷ 0x4 ∷ 0x202 ∷ [])  -- new masks
+    × ((called (sets_its_mask 0) 1).entered ≡ double_written 0x20900 0x6 ∷ [])  -- old mask
+    × (map (λ (ask : ℕ × ℕ × ℕ × ℕ). answer (with_action_there (asks start_signalling 135 ask.0 ask.1 ask.2 ask.3)))
     ((3, 0x30000, 0x21000, 4) ∷ (3, 0x30000, 0x21000, 8) ∷ (3, 0x20810, 0x21000, 8) ∷ (2, 0x20810, 0x21000, 8) ∷ (3, 0, 0x20900, 8) ∷ [])
-    ≡ negative EINVAL.0 ∷ negative EFAULT.0 ∷ negative EINVAL.0 ∷ negative EFAULT.0 ∷ 0 ∷ []
-mask_refused = refl
+    ≡ negative EINVAL.0 ∷ negative EFAULT.0 ∷ negative EINVAL.0 ∷ negative EFAULT.0 ∷ 0 ∷ [])  -- mask refused
+mask_calls = (refl, refl, refl)
 
 -- a child masks what its parent masks, and nothing is pending for it; a thread that is gone has neither
 abbrev masks_and_posts : Kernel
@@ -229,11 +175,10 @@ masks_and_posts = (runs_at (with_pending 1 10 (with_mask 1 0x204 start_signallin
 abbrev mask_and_pending : ℕ → Kernel → ℕ × ℕ
 mask_and_pending t k = (mask_of t k.signals, pending_of t k.signals)
 
-of_parent_and_child : map (λ t. mask_and_pending t (had_child 1 masks_and_posts)) (1 ∷ 2 ∷ []) ≡ (0x204, 0x200) ∷ (0x204, 0) ∷ []
-of_parent_and_child = refl
-
-of_both_when_one_is_gone : map (λ t. mask_and_pending t (gone 1 (had_child 1 masks_and_posts))) (1 ∷ 2 ∷ []) ≡ (0, 0) ∷ (0x204, 0) ∷ []
-of_both_when_one_is_gone = refl
+children_and_gone :
+    (map (λ t. mask_and_pending t (had_child 1 masks_and_posts)) (1 ∷ 2 ∷ []) ≡ (0x204, 0x200) ∷ (0x204, 0) ∷ [])  -- of parent and child
+    × (map (λ t. mask_and_pending t (gone 1 (had_child 1 masks_and_posts))) (1 ∷ 2 ∷ []) ≡ (0, 0) ∷ (0x204, 0) ∷ [])  -- of both when one is gone
+children_and_gone = (refl, refl)
 
 -- A SIGNAL IS DELIVERED
 
@@ -248,7 +193,9 @@ delivered flags = done_signal (record (runs_at (two_pending flags) 0x100B4) { re
 abbrev word : ℕ → ℕ → Write
 word n value = double_written (0x206F0 + 8 * n) value
 
-handler_entered :
+-- it isn't pending any more, and the other one is; while the handler runs 2 and 10 are masked too; no reservation is left, no
+-- instruction was executed, and the process goes on
+after_delivery :
     ((delivered 0).files ≡ (
       1,
       record {
@@ -258,33 +205,22 @@ handler_entered :
     ) ∷ [])  -- enters its handler
     × (take 7 (delivered 0).entered ≡ word 0 0x100B4 ∷ word 1 0 ∷ word 2 0x20808 ∷ word 3 0 ∷ word 4 0 ∷ word 5 55 ∷ word 6 0 ∷ [])  -- frame begins
     × (drop 31 (delivered 0).entered ≡ word 31 0 ∷ word 32 0x4 ∷ word 33 0 ∷ [])  -- frame ends
+    × (pending_of 1 (delivered 0).kernel.signals ≡ 0x800)  -- one is left
+    × (mask_of 1 (delivered 0).kernel.signals ≡ 0x206)  -- masked in handler
 unfolding all_signals can_write_frame
-handler_entered = (refl, refl, refl)
-
--- it isn't pending any more, and the other one is; while the handler runs 2 and 10 are masked too; no reservation is left, no
--- instruction was executed, and the process goes on
-one_is_left : pending_of 1 (delivered 0).kernel.signals ≡ 0x800
-unfolding all_signals can_write_frame
-one_is_left = refl
-
-masked_in_handler : mask_of 1 (delivered 0).kernel.signals ≡ 0x206
-unfolding all_signals can_write_frame
-masked_in_handler = refl
+after_delivery = (refl, refl, refl, refl, refl)
 
 abbrev rest_of : Done → Option ℕ × ℕ × Option End
 rest_of d = (d.reserved, d.instructions, d.ended)
 
-nothing_else : rest_of (delivered 0) ≡ (None, 0, None)
-unfolding all_signals can_write_frame
-nothing_else = refl
-
 -- with SA_NODEFER 10 isn't masked; with SA_RESETHAND its action is the default then, and is as it was without
-by_action_flags :
-    (mask_of 1 (delivered 0x40000000).kernel.signals ≡ 0x6)  -- not deferred
+handler_flags :
+    (rest_of (delivered 0) ≡ (None, 0, None))  -- nothing else
+    × (mask_of 1 (delivered 0x40000000).kernel.signals ≡ 0x6)  -- not deferred
     × (action_of 10 (delivered 0x40000000).kernel.signals ≡ record { at = 0x10100; flags = 0x40000000; mask = 0x102 })  -- handler stays
     × (action_of 10 (delivered 0x80000000).kernel.signals ≡ record { at = 0; flags = 0x80000000; mask = 0x102 })  -- handler is reset
 unfolding all_signals can_write_frame
-by_action_flags = (refl, refl, refl)
+handler_flags = (refl, refl, refl, refl)
 
 -- with SA_RESETHAND the default of SIGCHLD comes back, which ignores it: it is dropped for the other thread too
 abbrev resets_17 : ℕ → Signalling
@@ -298,20 +234,14 @@ dropped_when_reset = refl
 abbrev result : Here → List Write × Option End
 result here = ((done_signal here).entered, (done_signal here).ended)
 
-killed_by_default : map (λ sp. result (with_stack (with_pending 1 15 start_signalling) sp 0x100B4)) (0x20808 ∷ 0x21800 ∷ []) ≡ ([], Some (Killed 15)) ∷ ([], Some (Killed 15)) ∷ []
+-- a frame of which a byte can't be written: the process is killed by SIGSEGV; the last frame that fits under the end of the page
+killed_at_delivery :
+    (map (λ sp. result (with_stack (with_pending 1 15 start_signalling) sp 0x100B4)) (0x20808 ∷ 0x21800 ∷ []) ≡ ([], Some (Killed 15)) ∷ ([], Some (Killed 15)) ∷ [])  -- killed by default
+    × (map (λ sp. result (with_stack (with_pending 1 10 handles_10) sp 0x100B4)) (0x21800 ∷ 0x21010 ∷ 8 ∷ [])
+    ≡ ([], Some (Killed 11)) ∷ ([], Some (Killed 11)) ∷ ([], Some (Killed 11)) ∷ [])  -- killed by its stack
+    × ((result (with_stack (with_pending 1 10 handles_10) 0x2100F 0x100B4)).1 ≡ None)  -- fits
 unfolding all_signals can_write_frame
-killed_by_default = refl
-
--- a frame of which a byte can't be written: the process is killed by SIGSEGV
-killed_by_its_stack : map (λ sp. result (with_stack (with_pending 1 10 handles_10) sp 0x100B4)) (0x21800 ∷ 0x21010 ∷ 8 ∷ [])
-    ≡ ([], Some (Killed 11)) ∷ ([], Some (Killed 11)) ∷ ([], Some (Killed 11)) ∷ []
-unfolding all_signals can_write_frame
-killed_by_its_stack = refl
-
--- the last frame that fits under the end of the page
-fits : (result (with_stack (with_pending 1 10 handles_10) 0x2100F 0x100B4)).1 ≡ None
-unfolding all_signals can_write_frame
-fits = refl
+killed_at_delivery = (refl, refl, refl)
 
 -- A HANDLER RETURNS
 
@@ -322,18 +252,13 @@ returns_from sp = record (stands handles_10 (with_register (with_register (with_
   byte = λ a. written (word 0 0x100B4 ∷ word 2 0x20808 ∷ word 5 55 ∷ word 32 0x304 ∷ []) a 0;
 }
 
-goes_on_as_before : (called (returns_from 0x206F0) 1).files ≡ (1, record { file = record { x = 0 ∷ 0 ∷ 0x20808 ∷ 0 ∷ 0 ∷ 55 ∷ replicate 26 0 }; pc = 0x100B4 }) ∷ []
-unfolding frame_read
-goes_on_as_before = refl
-
-mask_comes_back : mask_of 1 (signals_after (returns_from 0x206F0)) ≡ 0x204
-unfolding frame_read
-mask_comes_back = refl
-
 -- a frame of which a byte can't be read: the process is killed by SIGSEGV
-frame_is_cut : map (λ sp. (called (returns_from sp) 1).ended) (0x21EF0 ∷ 0x21EF8 ∷ []) ≡ None ∷ Some (Killed 11) ∷ []
+returned_handler :
+    ((called (returns_from 0x206F0) 1).files ≡ (1, record { file = record { x = 0 ∷ 0 ∷ 0x20808 ∷ 0 ∷ 0 ∷ 55 ∷ replicate 26 0 }; pc = 0x100B4 }) ∷ [])  -- goes on as before
+    × (mask_of 1 (signals_after (returns_from 0x206F0)) ≡ 0x204)  -- mask comes back
+    × (map (λ sp. (called (returns_from sp) 1).ended) (0x21EF0 ∷ 0x21EF8 ∷ []) ≡ None ∷ Some (Killed 11) ∷ [])  -- frame is cut
 unfolding frame_read
-frame_is_cut = refl
+returned_handler = (refl, refl, refl)
 
 -- what a delivery wrote, read back
 abbrev returns : Here
@@ -355,21 +280,16 @@ fault_of d = (d.ended, d.files, d.instructions, pending_of 1 d.kernel.signals)
 abbrev faults : Signalling → ℕ → Done
 faults signals pc = done_exec (runs_at signals pc)
 
--- where its signal has a handler it becomes pending, and the thread stays; the handler's frame has the pc of the instruction
-fault_is_pending : fault_of (faults (acting 4 (handler 0 0)) 0x100B0) ≡ (None, [], 1, 0x8)
-unfolding meaning row_of rows lui_rows auipc_rows jal_rows jalr_rows branch_rows load_rows store_rows op_imm_rows op_imm_32_rows op_rows op_32_rows misc_mem_rows amo_rows system_rows
-fault_is_pending = refl
-
-fault_is_delivered : take 1 (done_signal (runs_at (faults (acting 4 (handler 0 0)) 0x100B0).kernel.signals 0x100B0)).entered ≡ word 0 0x100B0 ∷ []
-unfolding all_signals can_write_frame meaning row_of rows lui_rows auipc_rows jal_rows jalr_rows branch_rows load_rows store_rows op_imm_rows op_imm_32_rows op_rows op_32_rows misc_mem_rows amo_rows system_rows
-fault_is_delivered = refl
-
--- where it is masked, ignored, or another signal has the handler, the process is killed by it
-fault_kills : map (λ signals. fault_of (faults signals 0x100B2))
+-- where its signal has a handler it becomes pending, and the thread stays; the handler's frame has the pc of the instruction; where
+-- it is masked, ignored, or another signal has the handler, the process is killed by it
+faults_by_action :
+    (fault_of (faults (acting 4 (handler 0 0)) 0x100B0) ≡ (None, [], 1, 0x8))  -- fault is pending
+    × (take 1 (done_signal (runs_at (faults (acting 4 (handler 0 0)) 0x100B0).kernel.signals 0x100B0)).entered ≡ word 0 0x100B0 ∷ [])  -- fault is delivered
+    × (map (λ signals. fault_of (faults signals 0x100B2))
     (with_mask 1 0x40 (acting 7 (handler 0 0)) ∷ acting 7 ignoring ∷ acting 4 (handler 0 0) ∷ start_signalling ∷ [])
-    ≡ replicate 4 (Some (Killed 7), [], 1, 0)
-unfolding meaning row_of rows lui_rows auipc_rows jal_rows jalr_rows branch_rows load_rows store_rows op_imm_rows op_imm_32_rows op_rows op_32_rows misc_mem_rows amo_rows system_rows
-fault_kills = refl
+    ≡ replicate 4 (Some (Killed 7), [], 1, 0))  -- fault kills
+unfolding all_signals can_write_frame meaning row_of rows lui_rows auipc_rows jal_rows jalr_rows branch_rows load_rows store_rows op_imm_rows op_imm_32_rows op_rows op_32_rows misc_mem_rows amo_rows system_rows
+faults_by_action = (refl, refl, refl)
 
 -- WAITS
 
@@ -398,20 +318,17 @@ posts_to_waiter signals signal =
 abbrev answers : Here → List (ℕ × ℕ × ℕ)
 answers here = map (λ p. (p.0, register p.1.file 10, p.1.pc)) (called here 1).files
 
-after_a_broken_wait :
+-- one that would kill it breaks its wait too; one that it masks, or that is ignored, doesn't
+broken_waits :
     (answers (posts_to_waiter handles_10 10) ≡ (1, 0, 0x10084) ∷ (2, negative EINTR.0, 0x10080) ∷ [])  -- wait is broken
     × (state_after 2 (posts_to_waiter handles_10 10) ≡ Some state.Ready)  -- is ready then
     × ((called (posts_to_waiter handles_10 10) 1).kernel.scheduling.order ≡ 3 ∷ 2 ∷ [])  -- last ready
     × ((called (posts_to_waiter handles_10 10) 1).kernel.threads.waiters ≡ [])  -- no waiter is left
     × (pending_of 2 (signals_after (posts_to_waiter handles_10 10)) ≡ 0x200)  -- is pending then
+    × (map (state_after 2) (posts_to_waiter start_signalling 15 ∷ posts_to_waiter (with_mask 1 0x200 handles_10) 10 ∷ posts_to_waiter start_signalling 17 ∷ [])
+    ≡ Some state.Ready ∷ Some (state.Waiting 0x20000) ∷ Some (state.Waiting 0x20000) ∷ [])  -- which break
 unfolding all_signals
-after_a_broken_wait = (refl, refl, refl, refl, refl)
-
--- one that would kill it breaks its wait too; one that it masks, or that is ignored, doesn't
-which_break : map (state_after 2) (posts_to_waiter start_signalling 15 ∷ posts_to_waiter (with_mask 1 0x200 handles_10) 10 ∷ posts_to_waiter start_signalling 17 ∷ [])
-    ≡ Some state.Ready ∷ Some (state.Waiting 0x20000) ∷ Some (state.Waiting 0x20000) ∷ []
-unfolding all_signals
-which_break = refl
+broken_waits = (refl, refl, refl, refl, refl, refl)
 
 -- SEQUENCES
 
@@ -425,78 +342,30 @@ abbrev in_sequence : ℕ → Done
 in_sequence pc = done_signal (with_area 0xF1401073 pc (with_pending 1 10 handles_10))
 
 -- inside, the frame has the abort handler; before it, the pc. First the pointer of the area is cleared, and no other word of it is
--- written
-entered_inside :
+-- written; the check comes before the default action, and what is bad kills by SIGSEGV
+delivered_in_sequence :
     (map (λ pc. (in_sequence pc).interrupted) (0x100AC ∷ 0x100B0 ∷ 0x100BC ∷ 0x100C0 ∷ [])
     ≡ Some comes_to.Cleared ∷ Some (comes_to.Aborted 0x20044) ∷ Some (comes_to.Aborted 0x20044) ∷ Some comes_to.Cleared ∷ [])  -- aborts first
     × (map (λ pc. take 2 (in_sequence pc).entered) (0x100AC ∷ 0x100B0 ∷ [])
     ≡ (double_written 0x20008 0 ∷ word 0 0x100AC ∷ []) ∷ (double_written 0x20008 0 ∷ word 0 0x20044 ∷ []) ∷ [])  -- handler returns to
     × (pcs (in_sequence 0x100B4).files ≡ (1, 0x10100) ∷ [])  -- enters from sequence
+    × (map (λ sig. result (with_area sig 0x100B4 (with_pending 1 15 start_signalling))) (0xF1401072 ∷ 0xF1401073 ∷ [])
+    ≡ ([], Some (Killed 11)) ∷ (double_written 0x20008 0 ∷ [], Some (Killed 15)) ∷ [])  -- killed by its signature
 unfolding all_signals can_write_frame are_readable number_at
-entered_inside = (refl, refl, refl)
-
--- the check comes before the default action, and what is bad kills by SIGSEGV
-killed_by_its_signature : map (λ sig. result (with_area sig 0x100B4 (with_pending 1 15 start_signalling))) (0xF1401072 ∷ 0xF1401073 ∷ [])
-    ≡ ([], Some (Killed 11)) ∷ (double_written 0x20008 0 ∷ [], Some (Killed 15)) ∷ []
-unfolding all_signals can_write_frame are_readable number_at
-killed_by_its_signature = refl
+delivered_in_sequence = (refl, refl, refl, refl)
 
 -- LOGS
 
 -- `addi x10, x0, 1`, `addi x11, x0, 15`, `addi x17, x0, 130`, `ecall`, `lui x8, 0x20`, `sd x0, 0(x8)`: a thread posts signal 15 to
 -- itself, and stores then
 abbrev kills_itself : Setting
-kills_itself = record program {
-  program = record program.program {
-    pages = record {
-      number = 0x10;
-      perm = 5;
-      bytes = replicate 0xB0 0 ++ 0x13 ∷ 0x05 ∷ 0x10 ∷ 0x00 ∷ 0x93 ∷ 0x05 ∷ 0xF0 ∷ 0x00 ∷ 0x93 ∷ 0x08 ∷ 0x20 ∷ 0x08 ∷ 0x73 ∷ 0x00 ∷ 0x00 ∷ 0x00
-          ∷ 0x37 ∷ 0x04 ∷ 0x02 ∷ 0x00 ∷ 0x23 ∷ 0x30 ∷ 0x04 ∷ 0x00 ∷ [];
-    } ∷ record { number = 0x20; perm = 6; bytes = [] } ∷ [];
-  };
-}
-
-abbrev script : ℕ → List Choice → List Ask
-script executed more = line (asked.Run (record { 0 = 1 })) ∷ replicate executed (line asked.Exec) ++ map line more
+kills_itself = code_and_data (0x13 ∷ 0x05 ∷ 0x10 ∷ 0x00 ∷ 0x93 ∷ 0x05 ∷ 0xF0 ∷ 0x00 ∷ 0x93 ∷ 0x08 ∷ 0x20 ∷ 0x08 ∷ 0x73 ∷ 0x00 ∷ 0x00 ∷ 0x00
+    ∷ 0x37 ∷ 0x04 ∷ 0x02 ∷ 0x00 ∷ 0x23 ∷ 0x30 ∷ 0x04 ∷ 0x00 ∷ [])
 
 abbrev posted_log : List Entry
 posted_log = entry kind.Run 0x100B0 ∷ entry kind.Exec 0x100B0 ∷ entry kind.Exec 0x100B4 ∷ entry kind.Exec 0x100B8 ∷ entry kind.Exec 0x100BC ∷ []
 
-abbrev stored_log : List Entry
-stored_log = posted_log ++ entry kind.Exec 0x100C0 ∷ entry kind.Exec 0x100C4 ∷ []
-
--- it is delivered once it was posted, and not before; the thread may go on before that; and what it stored enters memory first
-delivered_log : played kills_itself (script 4 (asked.Signal ∷ [])) ≡ Ok (posted_log ++ entry kind.Signal 0x100C0 ∷ [])
-unfolding all_signals played decide history done meaning row_of rows lui_rows auipc_rows jal_rows jalr_rows branch_rows load_rows store_rows op_imm_rows op_imm_32_rows op_rows op_32_rows misc_mem_rows amo_rows system_rows
-delivered_log = refl
-
-too_early : played kills_itself (script 3 (asked.Signal ∷ [])) ≡ Err 5
-unfolding all_signals played decide history done meaning row_of rows lui_rows auipc_rows jal_rows jalr_rows branch_rows load_rows store_rows op_imm_rows op_imm_32_rows op_rows op_32_rows misc_mem_rows amo_rows system_rows
-too_early = refl
-
-killed_at_its_end : end_of kills_itself (history kills_itself (posted_log ++ entry kind.Signal 0x100C0 ∷ [])) ≡ Killed 15
-unfolding all_signals history done end_of meaning row_of rows lui_rows auipc_rows jal_rows jalr_rows branch_rows load_rows store_rows op_imm_rows op_imm_32_rows op_rows op_32_rows misc_mem_rows amo_rows system_rows
-killed_at_its_end = refl
-
-goes_on_before : played kills_itself (script 6 (asked.Drain ∷ asked.Signal ∷ [])) ≡ Ok (stored_log ++ entry kind.Drain 0x100C8 ∷ entry kind.Signal 0x100C8 ∷ [])
-unfolding all_signals played decide history done meaning row_of rows lui_rows auipc_rows jal_rows jalr_rows branch_rows load_rows store_rows op_imm_rows op_imm_32_rows op_rows op_32_rows misc_mem_rows amo_rows system_rows
-goes_on_before = refl
-
-store_enters_first : decide kills_itself (history kills_itself stored_log) 0 asked.Signal ≡ Err (NotEnabled Waiting)
-unfolding all_signals decide history done meaning row_of rows lui_rows auipc_rows jal_rows jalr_rows branch_rows load_rows store_rows op_imm_rows op_imm_32_rows op_rows op_32_rows misc_mem_rows amo_rows system_rows
-store_enters_first = refl
-
--- the fixed rule delivers it as soon as it may
-rule_delivers : solo_choice kills_itself (history kills_itself posted_log) ≡ Some asked.Signal
-unfolding all_signals history done meaning row_of rows lui_rows auipc_rows jal_rows jalr_rows branch_rows load_rows store_rows op_imm_rows op_imm_32_rows op_rows op_32_rows misc_mem_rows amo_rows system_rows
-rule_delivers = refl
-
-rule_drains_before : solo_choice kills_itself (history kills_itself stored_log) ≡ Some asked.Drain
-unfolding all_signals history done meaning row_of rows lui_rows auipc_rows jal_rows jalr_rows branch_rows load_rows store_rows op_imm_rows op_imm_32_rows op_rows op_32_rows misc_mem_rows amo_rows system_rows
-rule_drains_before = refl
-
--- so does `run` where the hart has no credit, as where the thread has begun to run
+-- `run` delivers a signal that was posted where the hart has no credit, as where the thread has begun to run
 abbrev begun_again : List Entry
 begun_again = posted_log ++ entry kind.Preempt 0x100C0 ∷ entry kind.Run 0x100C0 ∷ []
 

@@ -1,22 +1,10 @@
 -- What steps of signals keep, and events that change only signals of the record.
 use Rattle.std.proofs.Common.{◌≡◌, ◌≢◌, ℕ, refl, ap, cond, ◌-◌, ◌<◌, ◌^◌, Bool, true, false, List, [], ◌∷◌, map, get_or, set, replicate, Option, Some, None, zero, suc, ◌∙◌, subst, arith}
-use Rattle.std.proofs.lemmas.Bool.{ne_eqb}
-use Rattle.mach_types.specs.declared.sequences.Outcome.{Outcome}
+use Rattle.block_model.proofs.Common.{Action, AllByRecursion, Here, Kernel, Outcome, SIG_DFL, Saved, Signalling, ThreadSignals, acted, action_of, default_action, dropped, entered_action, file_among, files_interrupted, handler_mask, is_ignored, joined, map_stays, mask_if, mask_of, ne_eqb, only, post_if, posted, restored_mask, set_action, signalled, signals_handled, start_signalling, take_if, with_mask, with_pending, without_pending, without_signal}
 use Rattle.mach_types.specs.declared.sequences.Outcome.TheVariants as comes_to
-use Rattle.mach_types.specs.declared.threads.Saved.{Saved}
-use Rattle.block_model.specs.Here.{Here}
-use Rattle.block_model.specs.History.{file_among}
-use Rattle.block_model.specs.Kernel.{signalled}
-use Rattle.block_model.specs.Record.{Kernel}
-use Rattle.block_model.specs.Sequences.{files_interrupted}
-use Rattle.std.specs.List.{AllByRecursion}
-use Rattle.mach_types.proofs.Laws.{map_stays}
-use Rattle.mach_types.specs.Kernel.SignalFrames.{entered, entered_action, handler_mask, has_flag, returned, restored_mask}
-use Rattle.mach_types.specs.Kernel.Signals.{Signalling, acted, action_of, default_action, dropped, is_ignored, is_of, mask_if, mask_of, only, joined, post_if, posted, set_action, take_if, with_mask, with_pending, without_pending, without_signal, start_signalling}
-use Rattle.mach_types.specs.declared.signal_words.Action.{Action}
-use Rattle.mach_types.specs.declared.signal_words.ThreadSignals.{ThreadSignals}
-use Rattle.mach_types.specs.declared.signals.TheConstants.{LAST_SIGNAL, SA_RESETHAND, SIG_DFL}
-use Rattle.block_model.specs.Events.Signal.{signals_handled}
+use Rattle.mach_types.specs.Kernel.SignalFrames.{entered, has_flag, returned}
+use Rattle.mach_types.specs.Kernel.Signals.{is_of}
+use Rattle.mach_types.specs.declared.signals.TheConstants.{LAST_SIGNAL, SA_RESETHAND}
 
 -- of the record only the signals change
 abbrev pub OnlySignals : Kernel → Kernel → Type 0
@@ -24,10 +12,8 @@ OnlySignals before after = after ≡ signalled after.signals before
 
 -- the file that an interruption sets is that of its thread
 pub interrupted_file : (here : Here) (t u : ℕ) (o : Outcome) (f : Saved) → t ≢ u → file_among (files_interrupted here t o) u f ≡ f
-interrupted_file here t u comes_to.Nothing f other = refl
-interrupted_file here t u comes_to.Cleared f other = refl
 interrupted_file here t u (comes_to.Aborted at) f other = ap (λ b. cond b (record (here.file t) { pc = at }) f) (ne_eqb t u other)
-interrupted_file here t u (comes_to.Killed why) f other = refl
+interrupted_file here t u outcome f other = refl
 
 -- WHOSE SIGNALS ARE KEPT
 

@@ -1,17 +1,9 @@
 -- No thread waits with a signal that can be delivered to it (signal(7), "Interruption of system calls"): what each step of threads and
 -- of signals keeps of this.
 use Rattle.std.proofs.Common.{◌≡◌, ◌≢◌, ℕ, ◌+◌, ◌&&◌, Bool, true, false, not, cond, eqb, List, [], ◌∷◌, ◌++◌, map, filter, find, Option, Some, None, is_some, refl, sym, ap, subst, ◌∙◌, inl, inr}
-use Rattle.std.proofs.lemmas.Bool.{cases_eq, eqb-true, false≢true, ne_eqb}
-use Rattle.std.specs.Option.{option_map, option_map_or}
-use Rattle.mach_types.proofs.Laws.{state_of-with_child_other, state_of-with_child_same, state_of-with_clear, state_of-without_other, state_of-without_same}
-use Rattle.mach_types.specs.Kernel.SignalFrames.{entered_action, handler_mask, restored_mask, returned}
-use Rattle.mach_types.specs.Kernel.Signals.{Signalling, acted, action_of, all_signals, dropped, forget, has_signal, is_ignored, is_of, joined, less, mask_of, new_thread, next_for, only, posted, set_action, with_mask, with_pending, with_thread, without_pending, without_signal}
-use Rattle.mach_types.specs.Kernel.Threads.{IsThreads, Threads, is_waiting_state, state_of, waits, with_child, with_clear, with_state, without}
-use Rattle.mach_types.specs.declared.signal_words.Action.{Action}
-use Rattle.mach_types.specs.declared.signal_words.ThreadSignals.{ThreadSignals}
-use Rattle.mach_types.specs.declared.threads.ThreadState.{ThreadState}
-use Rattle.mach_types.specs.declared.threads.ThreadState.TheVariants.{Ready, Waiting}
-use Rattle.block_model.specs.Events.Signal.{signals_handled}
+use Rattle.block_model.proofs.Common.{Action, IsThreads, Ready, Signalling, ThreadSignals, ThreadState, Threads, Waiting, acted, action_of, all_signals, cases_eq, cond_both, dropped, entered_action, eqb-true, false≢true, handler_mask, has_signal, is_ignored, is_waiting_state, joined, less, mask_of, ne_eqb, next_for, only, option_map, option_map_or, posted, restored_mask, set_action, signals_handled, state_of, state_of-with_child_other, state_of-with_child_same, state_of-with_clear, state_of-without_other, state_of-without_same, waits, with_child, with_clear, with_mask, with_pending, with_state, with_thread, without, without_pending, without_signal}
+use Rattle.mach_types.specs.Kernel.SignalFrames.{returned}
+use Rattle.mach_types.specs.Kernel.Signals.{forget, is_of, new_thread}
 use Rattle.block_model.proofs.IgnoredSignals.{less_before}
 use Rattle.block_model.proofs.KernelTables.{state_moved}
 
@@ -114,11 +106,9 @@ module _ (t u : ℕ) (ne : u ≢ t) where
   next_returned (Some words) g = next_masked (restored_mask words) g
 
   pub next_posted : (s : ℕ) (g : Signalling) → next_for u (posted t s g) ≡ next_for u g
-  next_posted s g = by (is_ignored s (action_of s g))
-    where
-      by : (b : Bool) → next_for u (cond b g (with_pending t s g)) ≡ next_for u g
-      by true = refl
-      by false = next_pending s g
+  next_posted s g =
+      cond_both (is_ignored s (action_of s g)) g (with_pending t s g) (λ (k : Signalling). next_for u k ≡ next_for u g)
+      (λ ignored. refl) (λ heeded. next_pending s g)
 
 -- a search that finds nothing finds nothing where less passes
 find_less : (p q : ℕ → Bool) → ((n : ℕ) → q n ≡ true → p n ≡ true) → (xs : List ℕ) → find p xs ≡ None → find q xs ≡ None

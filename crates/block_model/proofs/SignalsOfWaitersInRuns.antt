@@ -1,25 +1,6 @@
 -- At each place of a block run no thread waits with a signal that can be delivered to it: what calls and events keep of this.
 use Rattle.std.proofs.Common.{◌≡◌, ◌≢◌, ℕ, List, Bool, true, false, cond, eqb, ◌∷◌, [], Some, None, sym, subst, ◌∙◌}
-use Rattle.std.specs.Option.{option_map}
-use Rattle.mach_types.specs.Kernel.Signals.{next_for, start_signalling}
-use Rattle.mach_types.specs.Kernel.Threads.{Thread, clear_of, new_thread, start_threads, waits}
-use Rattle.mach_types.specs.declared.events.Entry.{Entry}
-use Rattle.mach_types.specs.declared.events.Kind.{Kind}
-use Rattle.mach_types.specs.declared.threads.ThreadState.TheVariants.{Ready, Running, Waiting}
-use Rattle.mach_types.specs.declared.user_memory.Write.{Write}
-use Rattle.block_model.specs.Calls.Answers.{CallDone, argument, call_number}
-use Rattle.block_model.specs.Calls.Cloning.{clone_child_cleartid, has_flag}
-use Rattle.block_model.specs.Calls.Ending.{clears}
-use Rattle.block_model.specs.Calls.Futexes.{wake}
-use Rattle.block_model.specs.Deciding.{done}
-use Rattle.block_model.specs.Events.Signal.{signals_taken}
-use Rattle.block_model.specs.Here.{Done, Here, runs}
-use Rattle.block_model.specs.History.{Event, History, here_in_history, kernel}
-use Rattle.block_model.specs.Kernel.{cleared, had_child, next_number}
-use Rattle.block_model.specs.Record.{Kernel}
-use Rattle.block_model.specs.Run.{IsRunHistory}
-use Rattle.block_model.specs.Setting.{Setting}
-use Rattle.block_model.specs.Tables.{IsTables}
+use Rattle.block_model.proofs.Common.{CallDone, Done, Entry, Event, Here, History, IsRunHistory, IsTables, Kernel, Kind, Ready, Running, Setting, Thread, Waiting, Write, argument, call_number, clear_of, cleared, clears, clone_child_cleartid, done, had_child, has_flag, here_in_history, kernel, new_thread, next_for, next_number, option_map, runs, signals_taken, start_signalling, start_threads, waits, wake}
 use Rattle.block_model.proofs.CallEffects.{Answers, Bears, Breaks, CallDeed, Clears, Exits, Leaves, MovesOff, Resumes, Signalled, TableStep, Waits, Wakes}
 use Rattle.block_model.proofs.CallEffects.EachCall.{deed_called}
 use Rattle.block_model.proofs.SignalsOfWaiters.{AreCalm, next_born, next_gone, next_handled, next_pending, next_returned, next_taken, waited_before, waited_beside, waited_or_own, waited_other, waited_uncleared, waited_with}

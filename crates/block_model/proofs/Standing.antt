@@ -1,17 +1,7 @@
 -- What an event makes of where a process stands: one of its own, and one of another process beside it.
 use Rattle.std.proofs.Common.{◌≡◌, ◌≢◌, ℕ, ◌+◌, ◌≤◌, ◌<◌, Bool, true, false, cond, eqb, Option, List, [], ◌∷◌, suc, None, refl, ap, ◌∙◌, arith}
-use Rattle.std.specs.List.{AllByRecursion}
-use Rattle.mach_types.specs.Bytes.{each_byte}
-use Rattle.mach_types.specs.Kernel.Pages.{Pages, permission_at, can_write}
-use Rattle.mach_types.specs.declared.events.Choice.{Choice}
-use Rattle.mach_types.specs.declared.user_memory.Store.{Store}
-use Rattle.mach_types.specs.declared.user_memory.Write.{Write}
-use Rattle.block_model.specs.Beside.{Neighbour, or_in_segment}
-use Rattle.block_model.specs.Events.{done_of, refusal_of}
-use Rattle.block_model.specs.Events.Run.{refusal_run}
-use Rattle.block_model.specs.Here.{Done, Here}
-use Rattle.block_model.specs.Ids.{IsLeastFree, held_ids, is_taken, next_id}
-use Rattle.block_model.specs.Standing.{IsStanding, MayEnter}
+use Rattle.block_model.proofs.Common.{AllByRecursion, Choice, Done, Here, IsLeastFree, MayEnter, Neighbour, Pages, Store, Write, can_write, done_of, each_byte, held_ids, is_taken, next_id, or_in_segment, permission_at, refusal_of, refusal_run}
+use Rattle.block_model.specs.Standing.{IsStanding}
 use Rattle.block_model.specs.Stands.{Stand, aside, here_at, stand_after}
 use Rattle.block_model.proofs.Barriers.Events.{waited_before}
 use Rattle.block_model.proofs.Ids as ids
@@ -73,9 +63,9 @@ module _ (v : Stand) (h : ℕ) (d : Done) (beside : Option Neighbour) (same : Sa
   events_after k true = let was = stands.events k in omega arith
   events_after k false = let was = stands.events k in omega arith
 
-  -- an allowed event keeps it
-  pub stand_next : IsStanding (stand_after v h d beside)
-  stand_next =
+  -- an allowed event keeps it, whatever enters memory
+  pub stand_next : (writes : List Write) → IsStanding (stand_after v h (record d { entered = writes }) beside)
+  stand_next writes =
       let here = here_at v h in
       record {
         good = λ k low.
@@ -116,36 +106,4 @@ stand_aside v h d writes beside same stands = record {
   events = λ k. let was = stands.events k in omega arith;
   ran = λ k. let was = stands.ran k in omega arith;
   given = let was = stands.given in omega arith;
-}
-
--- what is fit says nothing of the writes that entered
-pub fit_entered : (here : Here) (d : Done) (writes : List Write) → IsFit here d → IsFit here (record d { entered = writes })
-fit_entered here d writes fit = record {
-  executed = fit.executed;
-  within = fit.within;
-  few = fit.few;
-  drained = fit.drained;
-  idle = fit.idle;
-  others = fit.others;
-  apart = fit.apart;
-  paged = fit.paged;
-  given = fit.given;
-  one = fit.one;
-  barriers = record {
-    still = λ left is. let was = fit.barriers.still left is in record { running = was.running; empty = was.empty };
-    begun = λ b is.
-        let was = fit.barriers.begun b is in
-        record {
-          free = was.free;
-          others = was.others;
-          still = record { running = was.still.running; empty = was.still.empty };
-          stays = was.stays;
-          not_took = was.not_took;
-          not_returned = was.not_returned;
-        };
-    took = fit.barriers.took;
-    returned = fit.barriers.returned;
-  };
-  kernel = fit.kernel;
-  held = fit.held;
 }

@@ -1,16 +1,7 @@
 -- What a hart keeps while other harts make events, and the instructions of a stretch one by one.
 use Rattle.std.proofs.Common.{◌≡◌, ◌≢◌, ℕ, ◌+◌, ◌≤◌, ◌<◌, List, [], ◌∷◌, ◌++◌, refl, sym, ap, ◌∙◌, subst, arith, Bool, true, false, cond, eqb, ◌&&◌, not, ltb, Option, Some, None, is_some, zero, suc, append_assoc}
-use Rattle.std.specs.List.{fold}
-use Rattle.std.specs.Option.{option_map}
-use Rattle.std.proofs.lemmas.Bool.{and_parts, cond-false, cond-true, eqb-false, ltb-true, not-true}
-use Rattle.mach_types.specs.declared.events.Entry.{Entry}
+use Rattle.block_model.proofs.Common.{Entry, History, IsAllowedLog, IsRunHistory, Setting, and_parts, awaits, awaits_of_own, cond-false, cond-true, done, eqb-false, event, events, file, fold, has_ended, history, ltb-true, luck, not-true, option_map, running, sight_with, without_hart}
 use Rattle.elf_load.specs.declared.image.ImagePage.{ImagePage}
-use Rattle.block_model.specs.Choosing.{has_ended, luck, sight_with}
-use Rattle.block_model.specs.Deciding.{done, event, history}
-use Rattle.block_model.specs.History.{History, awaits, events, file, running}
-use Rattle.block_model.specs.Requests.{awaits_of_own, without_hart}
-use Rattle.block_model.specs.Run.{IsAllowedLog, IsRunHistory}
-use Rattle.block_model.specs.Setting.{Setting}
 use Rattle.block_model.specs.Stretches.{Stretch, goes_on, is_on_credit, lent, lent_to, may_lend, stepped, worked}
 use Rattle.block_model.proofs.Replay.{history-more}
 use Rattle.block_model.proofs.Runs.{fit_at, run_before}
@@ -95,8 +86,6 @@ pub record IsLent (s : Setting) (seed h : ℕ) (before : History) (l : Stretch) 
 
 lent_by : (s : Setting) (seed h : ℕ) (before : History) (l : Stretch) (o : Option ℕ) (may : Bool) → may_lend s seed h before ≡ may
     → running s h before ≡ o → cond may (lent_to s seed h before o) None ≡ Some l → IsLent s seed h before l
-lent_by s seed h before l o false may at is = absurd cc
-lent_by s seed h before l None true may at is = absurd cc
 lent_by s seed h before l (Some t) true may at is =
     let credited = and_parts (not (has_ended s before) && ltb h s.limits.harts) (is_on_credit (sight_with s h before (luck s seed h before))) may in
     let open_there = and_parts (not (has_ended s before)) (ltb h s.limits.harts) credited.0 in
@@ -108,6 +97,8 @@ lent_by s seed h before l (Some t) true may at is =
       runs = at;
       is = cc;
     }
+lent_by s seed h before l None true may at is = absurd cc
+lent_by s seed h before l o false may at is = absurd cc
 
 pub is_lent : (s : Setting) (seed h : ℕ) (before : History) (l : Stretch) → lent s seed h before ≡ Some l → IsLent s seed h before l
 unfolding lent

@@ -1,23 +1,12 @@
 -- Whatever else holds at a place, each call leaves tables that agree: where the threads, the scheduling, the areas and the signals
 -- agreed before it, they agree after it.
 use Rattle.std.proofs.Common.{◌≡◌, ℕ, List, Bool, true, false, cond, Some, is_some, refl, ap, ◌∙◌, arith, Option}
+use Rattle.block_model.proofs.Common.{AreOfLive, AreSignalsOfLive, CallDone, Here, IsHeld, IsTables, Kernel, ThreadState, Write, argument, call_number, called, clear_of, cleared, clears, clone_child_cleartid, gone, had_child, has_flag, left, next_number, restricted, running_on, runs, signalled, waits, wake, woken}
 use Rattle.mach_types.specs.Kernel.SignalFrames as frame
-use Rattle.mach_types.specs.Kernel.Threads.{clear_of, running_on, waits}
-use Rattle.mach_types.specs.declared.threads.ThreadState.{ThreadState}
-use Rattle.mach_types.specs.declared.user_memory.Write.{Write}
-use Rattle.block_model.specs.Calls.{called}
-use Rattle.block_model.specs.Calls.Answers.{CallDone, argument, call_number}
-use Rattle.block_model.specs.Calls.Cloning.{clone_child_cleartid, has_flag}
-use Rattle.block_model.specs.Calls.Ending.{clears}
-use Rattle.block_model.specs.Calls.Futexes.{wake}
-use Rattle.block_model.specs.Here.{Here, runs}
-use Rattle.block_model.specs.Kernel.{cleared, gone, had_child, left, next_number, restricted, signalled, woken}
-use Rattle.block_model.specs.Record.{Kernel}
-use Rattle.block_model.specs.Tables.{AreOfLive, AreSignalsOfLive, IsHeld, IsTables}
-use Rattle.block_model.proofs.CallEffects.{Answers, Bears, Begins, Breaks, CallDeed, Clears, Ends, EnrolsFor, Exits, Leaves, MovesOff, Prints, Registers, Remaps, Resumes, Same, Says, Signalled, Stays, TableStep, Unregisters, Waits, Wakes}
+use Rattle.block_model.proofs.CallEffects.{Answers, Bears, Breaks, CallDeed, Clears, Exits, Leaves, MovesOff, Registers, Resumes, Signalled, Stays, TableStep, Unregisters, Waits, Wakes}
 use Rattle.block_model.proofs.CallEffects.EachCall.{deed_called}
 use Rattle.block_model.proofs.Invariants.Calls.Futexes.{wake_keeps}
-use Rattle.block_model.proofs.ThreadRecords.{has_state, held_child, held_cleared, held_for_barriers, held_gone, held_left, held_paged, held_printed, held_registered, held_restricted, held_signalled, held_unregistered, held_waited, held_woken}
+use Rattle.block_model.proofs.ThreadRecords.{has_state, held_beside, held_child, held_cleared, held_gone, held_left, held_registered, held_signalled, held_unregistered, held_waited, held_woken}
 use Rattle.block_model.proofs.KernelCalls.{tables_allowed, tables_child, tables_ended, tables_waited, tables_woken, woken_same}
 use Rattle.block_model.proofs.KernelTables.{running_is, tables_cleared, tables_left}
 use Rattle.block_model.proofs.SignalTables.{returned_keeps}
@@ -54,7 +43,7 @@ agreed_cleared harts t at k is =
 
 agreed_restricted : (harts t set : ℕ) (k : Kernel) → IsAgreed harts k → IsAgreed harts (restricted t set k)
 agreed_restricted harts t set k is =
-    agreed_of harts (restricted t set k) (tables_allowed harts t set k.threads k.scheduling is.tables) (held_restricted 9 t set k (held_of harts k is))
+    agreed_of harts (restricted t set k) (tables_allowed harts t set k.threads k.scheduling is.tables) (held_beside 9 k _ refl refl refl refl (held_of harts k is))
 
 cleared_if : (harts t at : ℕ) (k : Kernel) (b : Bool) → IsAgreed harts k → IsAgreed harts (cond b (cleared t at k) k)
 cleared_if harts t at k true is = agreed_cleared harts t at k is
@@ -85,8 +74,6 @@ module _ (here : Here) (t number harts : ℕ) (at : runs here ≡ Some t) (is : 
   lives = ap (λ (o : Option ThreadState). is_some o) (running_is harts here.hart t here.kernel.threads here.kernel.scheduling is.tables at)
 
   agreed_step : {entered : List Write} {k : Kernel} → TableStep here t number entered k → IsAgreed harts k
-  agreed_step Same = is
-  agreed_step (Prints bytes room) = agreed_of harts _ is.tables (held_printed 9 bytes now held)
   agreed_step (Clears p) = agreed_cleared harts t p now is
   agreed_step Leaves = agreed_left harts here.hart t now at is
   agreed_step (Waits p none) =
@@ -96,11 +83,9 @@ module _ (here : Here) (t number harts : ℕ) (at : runs here ≡ Some t) (is : 
   agreed_step (Registers area alone none writes) = agreed_of harts _ is.tables (held_registered 9 t area now lives none held)
   agreed_step Unregisters = agreed_of harts _ is.tables (held_unregistered 9 t now held)
   agreed_step (Signalled g keeps stand heeds calm) = agreed_of harts _ is.tables (held_signalled 9 g now keeps held)
-  agreed_step (EnrolsFor r) = agreed_of harts _ is.tables (held_for_barriers 9 r now held)
-  agreed_step (Remaps pages stays paged) = agreed_of harts _ is.tables (held_paged 9 pages now held)
+  agreed_step step = record { tables = is.tables; areas = is.areas; signals = is.signals }
 
   agreed_deed : {c : CallDone} → CallDeed here t number c → IsAgreed harts c.kernel
-  agreed_deed (Says n) = is
   agreed_deed (Answers n entered k no_error writes step) = agreed_step step
   agreed_deed (Wakes n p small) = (agreed_wake harts n p now is).agreed
   agreed_deed (Breaks u g waiting keeps stand heeds calm) =
@@ -112,11 +97,10 @@ module _ (here : Here) (t number harts : ℕ) (at : runs here ≡ Some t) (is : 
   agreed_deed (Bears entered writes free) =
       cleared_if harts (next_number now) (argument here t 4) (had_child t now) (has_flag (argument here t 0) clone_child_cleartid)
       (agreed_of harts (had_child t now) (tables_child harts t now.threads now.scheduling is.tables free) (held_child 9 t now is.tables.threads held))
-  agreed_deed (Begins set restart others no_error its_number) = is
   agreed_deed (Resumes words its number_is) =
       agreed_of harts _ is.tables
       (held_signalled 9 (frame.returned t (Some words) now.signals) now (returned_keeps t (Some words) now.signals) held)
-  agreed_deed (Ends entered e writes over) = is
+  agreed_deed other = is
 
 pub agreed_called : (harts : ℕ) (here : Here) (t : ℕ) → runs here ≡ Some t → IsAgreed harts here.kernel → IsAgreed harts (called here t).kernel
 agreed_called harts here t at is = agreed_deed here t (call_number here t) harts at is (deed_called here t)

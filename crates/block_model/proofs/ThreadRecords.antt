@@ -1,27 +1,10 @@
 -- What the kernel's record holds for threads: ids for those that run, and areas and signals for live ones alone. It stays so after
 -- each step.
 use Rattle.std.proofs.Common.{ℕ, ◌+◌, ◌<◌, ◌≤◌, ◌≡◌, ◌≢◌, ◌||◌, ◌⊎◌, Bool, true, false, not, cond, eqb, List, [], ◌∷◌, ◌++◌, length, map, filter, find, Option, Some, None, is_some, refl, sym, ap, ◌∙◌, inl, inr, arith}
-use Rattle.std.specs.List.{list_any}
-use Rattle.std.specs.Option.{option_map}
-use Rattle.std.proofs.lemmas.Bool.{cases_lt, eqb-true, false≢true, or_cases, or_right}
-use Rattle.std.proofs.lemmas.Bool.Decides.{eqb_tells}
-use Rattle.std.proofs.lemmas.List.{map_push, length-map}
-use Rattle.mach_types.proofs.Laws.{map_filters, next_is_new, same_clear_numbers, same_numbers, state_of-with_child_other, state_of-with_child_same, state_of-with_clear, state_of-with_state_other, state_of-with_state_same, state_of-without_other, state_of-without_same, times_cons, times_push}
-use Rattle.mach_types.specs.Kernel.Areas.{area_of, is_area_of, with_area, without_area}
-use Rattle.mach_types.specs.Kernel.Pages.{Pages}
+use Rattle.block_model.proofs.Common.{AreIdsApart, AreOfLive, AreSignalsOfLive, Area, IsHeld, IsThreads, Kernel, Ready, Setting, Signalling, Thread, ThreadSignals, ThreadState, Threads, Waiting, area_of, cases_lt, cleared, eqb-true, eqb_tells, false≢true, first_kernel, gone, had_child, is_area_of, is_live, is_running_state, left, length-map, list_any, map_filters, map_push, mask_of, new_thread, next_is_new, next_number, numbers, on, option_map, or_cases, or_right, registered, same_clear_numbers, same_numbers, signalled, state_of, state_of-with_child_other, state_of-with_child_same, state_of-with_clear, state_of-with_state_other, state_of-with_state_same, state_of-without_other, state_of-without_same, thread_of, times, times_cons, times_push, unregistered, waited, waits, with_child, with_state, without, without_area, woken}
+use Rattle.mach_types.specs.Kernel.Areas.{with_area}
 use Rattle.mach_types.specs.Kernel.Signals as signals
-use Rattle.mach_types.specs.Kernel.Signals.{Signalling, mask_of}
-use Rattle.mach_types.specs.Kernel.Threads.{IsThreads, Thread, Threads, is_live, is_running_state, new_thread, state_of, thread_of, times, waits, with_child, with_state, without, numbers}
-use Rattle.mach_types.specs.declared.barriers.Registered.{Registered}
-use Rattle.mach_types.specs.declared.sequences.Area.{Area}
-use Rattle.mach_types.specs.declared.signal_words.ThreadSignals.{ThreadSignals}
-use Rattle.mach_types.specs.declared.threads.ThreadState.{ThreadState}
-use Rattle.mach_types.specs.declared.threads.ThreadState.TheVariants.{Ready, Waiting}
-use Rattle.block_model.specs.Kernel.{cleared, first_kernel, for_barriers, gone, had_child, left, next_number, paged, printed, ran, registered, restricted, signalled, unregistered, waited, woken}
-use Rattle.block_model.specs.Record.{Kernel}
-use Rattle.block_model.specs.Setting.{Setting}
-use Rattle.block_model.specs.Tables.{AreOfLive, AreSignalsOfLive, IsHeld, on}
-use Rattle.block_model.specs.Ids.{AreIdsApart}
+use Rattle.block_model.specs.Kernel.{ran}
 use Rattle.block_model.proofs.KernelTables.{once, any_of}
 use Rattle.block_model.proofs.SignalTables.{KeepsThreads}
 use Rattle.block_model.proofs.Ids.{filtered_less, ids_ran, ids_same, ids_start, ids_stopped, is_run, its_run, fits, numbered}
@@ -97,15 +80,14 @@ areas_changed t st ts areas is = areas_stay ts (with_state t st ts) areas (state
 
 -- STEPS OF THREADS
 
--- what changes neither threads nor signals nor areas nor ids
-pub held_paged : (harts : ℕ) → (pages : Pages) (k : Kernel) → IsHeld harts k → IsHeld harts (paged pages k)
-held_paged harts pages k is = record { ids = is.ids; areas = is.areas; signals = is.signals }
-
-pub held_printed : (harts : ℕ) → (bytes : List ℕ) (k : Kernel) → IsHeld harts k → IsHeld harts (printed bytes k)
-held_printed harts bytes k is = record { ids = is.ids; areas = is.areas; signals = is.signals }
-
-pub held_restricted : (harts : ℕ) → (t set : ℕ) (k : Kernel) → IsHeld harts k → IsHeld harts (restricted t set k)
-held_restricted harts t set k is = record { ids = is.ids; areas = is.areas; signals = is.signals }
+-- a step that changes neither threads nor signals nor areas nor ids
+pub held_beside : (harts : ℕ) (k after : Kernel) → after.threads ≡ k.threads → after.ids ≡ k.ids → after.areas ≡ k.areas → after.signals ≡ k.signals
+    → IsHeld harts k → IsHeld harts after
+held_beside harts k after threads ids areas signals is = record {
+  ids = λ small. rw (threads, ids) (is.ids small);
+  areas = rw (threads, areas) is.areas;
+  signals = rw (threads, signals) is.signals;
+}
 
 -- a thread leaves its hart
 pub held_left : (harts : ℕ) → (t : ℕ) (k : Kernel) → IsHeld harts k → IsHeld harts (left t k)
@@ -195,9 +177,6 @@ held_ran harts t h k ready few is =
 pub held_signalled : (harts : ℕ) → (g : Signalling) (k : Kernel) → KeepsThreads k.signals g → IsHeld harts k → IsHeld harts (signalled g k)
 held_signalled harts g k keeps is = record { ids = is.ids; areas = is.areas; signals = keeps ∙ is.signals }
 
-pub held_for_barriers : (harts : ℕ) → (r : Registered) (k : Kernel) → IsHeld harts k → IsHeld harts (for_barriers r k)
-held_for_barriers harts r k is = record { ids = is.ids; areas = is.areas; signals = is.signals }
-
 -- STEPS OF AREAS
 
 module _ (p : ℕ × Area → Bool) where
@@ -257,12 +236,9 @@ not_owned t (x ∷ areas) none = go (eqb x.0 t) refl none (not_owned t areas)
         omega (arith, no, zero, split)
 
 -- a thread is gone
-gone_runs : (t : ℕ) (ts : Threads) → is_run t (without t ts) ≡ false
-gone_runs t ts = ap its_run (state_of-without_same t ts)
-
 pub held_gone : (harts : ℕ) → (t : ℕ) (k : Kernel) → IsHeld harts k → IsHeld harts (gone t k)
 held_gone harts t k is = record {
-  ids = λ small. ids_stopped t k.threads (gone t k).threads k.ids (λ u other. ap its_run (state_of-without_other t u other k.threads)) (gone_runs t k.threads) (is.ids small);
+  ids = λ small. ids_stopped t k.threads (gone t k).threads k.ids (λ u other. ap its_run (state_of-without_other t u other k.threads)) (ap its_run (state_of-without_same t k.threads)) (is.ids small);
   areas = record { live = live; one = fewer_areas t k.areas is.areas.one };
   signals = fewer_signals;
 }

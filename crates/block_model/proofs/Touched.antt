@@ -1,21 +1,10 @@
 -- A sequence is dropped only where something touched what its area named: the area, the descriptor or the signature (rseq(2)).
 use Rattle.std.proofs.Common.{◌≡◌, ℕ, ◌⊎◌, inl, inr, List, [], refl, sym, ap, ◌∙◌, arith, Bool, true, false, Option, Some, None}
-use Rattle.std.specs.Option.{option_map_or}
-use Rattle.std.proofs.lemmas.Bool.{false≢true, not-false}
-use Rattle.mach_types.specs.Kernel.Areas.{area_of, is_inside, is_inside_named, named}
-use Rattle.mach_types.specs.declared.sequences.Area.{Area}
-use Rattle.mach_types.specs.declared.sequences.Named.{Named}
+use Rattle.block_model.proofs.Common.{Area, Bytes, History, IsRunHistory, Named, Saved, Seq, Sequence, Setting, WasTouched, area_of, before_last, false≢true, file, hanging, has_died, here_in_history, is_inside, is_inside_at, is_inside_here, is_inside_named, is_inside_waiting, kernel, memory, moved_out, named, not-false, option_map_or, running, sequence_on, touched_in, view, watched_at}
 use Rattle.mach_types.specs.declared.sequences.Named.TheVariants as names
-use Rattle.mach_types.specs.declared.sequences.Seq.{Seq}
-use Rattle.mach_types.specs.declared.threads.Saved.{Saved}
-use Rattle.block_model.specs.Acts.{Sequence, hanging, has_died, is_inside_at, moved_out, named_at, sequence_on}
-use Rattle.block_model.specs.Here.{memory, view}
-use Rattle.block_model.specs.History.{History, file, here_in_history, kernel, running}
-use Rattle.block_model.specs.Run.{IsRunHistory}
-use Rattle.block_model.specs.Sequences.{is_inside_here, is_inside_waiting, named_here}
-use Rattle.block_model.specs.Setting.{Setting}
-use Rattle.rv_inst.specs.Accesses.{Bytes}
-use Rattle.block_model.specs.Whole.{WasTouched, before_last, touched_in, watched_at, watched_of}
+use Rattle.block_model.specs.Acts.{named_at}
+use Rattle.block_model.specs.Sequences.{named_here}
+use Rattle.block_model.specs.Whole.{watched_of}
 use Rattle.block_model.proofs.NamedSequences.{named_stays}
 use Rattle.block_model.proofs.Sequences.{runs_throughout}
 use Rattle.block_model.proofs.TouchedHanging.{IsHanging, hangs_since}
@@ -34,9 +23,8 @@ record NamesGood (s : Setting) (h t : ℕ) (place : History) : Type 0 where
 module _ (s : Setting) (h t : ℕ) (place : History) where
   by_named : (area : Area) (n : Named) → area_of t (kernel s place).areas ≡ Some area
       → named (view (here_in_history s place h)) area (file s t place).pc ≡ n → is_inside_named n (file s t place).pc ≡ true → NamesGood s h t place
-  by_named area names.Nothing registered is inside = absurd (false≢true inside)
-  by_named area (names.Bad why) registered is inside = absurd (false≢true inside)
   by_named area (names.Good g) registered is inside = record { area = area; good = g; registered = registered; names_it = is; inside = inside }
+  by_named area other registered is inside = absurd (false≢true inside)
 
   by_area : (o : Option Area) → area_of t (kernel s place).areas ≡ o
       → is_inside_named (option_map_or (λ area. named (view (here_in_history s place h)) area (file s t place).pc) o names.Nothing) (file s t place).pc ≡ true

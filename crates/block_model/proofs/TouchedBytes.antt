@@ -1,32 +1,11 @@
 -- An event that doesn't touch bytes leaves them as they are: in memory, and as each hart sees them.
 use Rattle.std.proofs.Common.{◌≡◌, ℕ, ◌+◌, ◌-◌, ◌/◌, ◌≤◌, ◌<◌, ◌⊎◌, inl, inr, List, [], ◌∷◌, ◌++◌, drop, refl, sym, ap, ◌∙◌, subst, arith, Bool, true, false, cond, ◌&&◌, ◌||◌, eqb, leb, ltb, Option, Some, None}
-use Rattle.std.specs.List.{list_any}
-use Rattle.std.specs.Option.{option_map}
-use Rattle.std.proofs.lemmas.Bool.{and_parts, cases_eq, eqb-true, false≢true, leb-true, lt-ltb, ltb-true, not-false, or_parts}
-use Rattle.std.proofs.lemmas.List.{append-nil}
-use Rattle.mach_types.specs.Bytes.{byte_after, byte_over, overlay, written}
-use Rattle.mach_types.specs.Kernel.Pages.{can_read, permission_at, permission_of}
-use Rattle.mach_types.specs.declared.address_space.TheConstants.{PAGE_SIZE}
-use Rattle.mach_types.specs.declared.events.Kind.{Kind}
-use Rattle.mach_types.specs.declared.user_memory.Store.{Store}
-use Rattle.mach_types.specs.declared.user_memory.Write.{Write}
-use Rattle.mach_types.specs.declared.user_memory.Write.TheVariants.{Stored, Zeroed}
-use Rattle.block_model.specs.Deciding.{done}
-use Rattle.block_model.specs.Here.{Done, Here, memory, view, waiting_here}
-use Rattle.block_model.specs.History.{Event, History, byte, drains, here_in_history, kernel, stores, waiting}
-use Rattle.block_model.specs.Run.{IsRunHistory}
-use Rattle.block_model.specs.Setting.{Setting}
-use Rattle.rv_inst.specs.Accesses.{Bytes}
-use Rattle.block_model.specs.Footprints.{meets}
-use Rattle.block_model.specs.Whole.{changed_page, is_same, permission_changed, store_meets, touches, write_meets}
+use Rattle.block_model.proofs.Common.{Bytes, Done, Event, Here, History, IsRunHistory, Kind, PAGE_SIZE, Setting, Store, Stored, Write, Zeroed, and_from, and_parts, append-nil, byte, byte_after, byte_over, can_read, cases_eq, done, drains, eqb-true, false≢true, here_in_history, kernel, leb-true, list_any, lt-ltb, ltb-true, meets, memory, not-false, option_map, or_parts, overlay, permission_at, permission_of, stores, touches, view, waiting, waiting_here, written}
+use Rattle.block_model.specs.Whole.{changed_page, is_same, permission_changed, store_meets, write_meets}
 use Rattle.block_model.proofs.PlainEvents.{drop_more}
 use Rattle.block_model.proofs.EventEffects.{Drains, EventDeed, deed_of}
 use Rattle.block_model.proofs.NamedSequences.{Agree}
 use Rattle.block_model.proofs.Runs.{settled}
-
-both : (a b : Bool) → a ≡ true → b ≡ true → (a && b) ≡ true
-both true b p q = q
-both false b p q = absurd (false≢true p)
 
 -- older stores, then younger ones
 overlay_append : (a : ℕ) (vs us : List Store) (below : ℕ) → overlay (vs ++ us) a below ≡ overlay us a (overlay vs a below)
@@ -42,9 +21,8 @@ mapped_same f g same o (Some n) is = ap (option_map f) is ∙ ap Some (same n)
 
 same_permission : (o p : Option ℕ) → is_same o p ≡ true → p ≡ o
 same_permission None None is = refl
-same_permission None (Some n) is = absurd (false≢true is)
-same_permission (Some m) None is = absurd (false≢true is)
 same_permission (Some m) (Some n) is = ap Some (sym (eqb-true m n is))
+same_permission o p is = absurd (false≢true is)
 
 kept_page : (s : Setting) (e : Event) (before : History) (page : ℕ) → permission_changed s e before page ≡ false
     → permission_of e.done.kernel.pages.runs page ≡ permission_of (kernel s before).pages.runs page
@@ -60,7 +38,7 @@ module _ (w : Bytes) (a : ℕ) (low : w.at ≤ a) (high : a < w.at + w.count) wh
       let parts = and_parts (leb at a) (ltb a (at + n)) has in
       let from = leb-true at a parts.0 in
       let to = ltb-true a (at + n) parts.1 in
-      both (ltb at (w.at + w.count)) (ltb w.at (at + n)) (lt-ltb at (w.at + w.count) (omega arith)) (lt-ltb w.at (at + n) (omega arith))
+      and_from (ltb at (w.at + w.count)) (ltb w.at (at + n)) (lt-ltb at (w.at + w.count) (omega arith)) (lt-ltb w.at (at + n) (omega arith))
 
   apart : (at n : ℕ) → meets w at n ≡ false → (leb at a && ltb a (at + n)) ≡ false
   apart at n none = go (leb at a && ltb a (at + n)) refl

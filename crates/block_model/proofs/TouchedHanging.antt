@@ -1,30 +1,7 @@
 -- A sequence that hangs: what its thread keeps from the place on at which it was preempted, and that bytes stay which nothing touched.
 use Rattle.std.proofs.Common.{◌≡◌, ◌≢◌, ℕ, ◌+◌, ◌<◌, List, [], ◌∷◌, length, refl, sym, ap, ◌∙◌, arith, true, false, Option, Some, None}
-use Rattle.std.proofs.lemmas.Bool.{or_parts}
-use Rattle.std.specs.List.{list_any}
-use Rattle.std.specs.Option.{option_map}
-use Rattle.mach_types.specs.Bytes.{overlay}
-use Rattle.mach_types.specs.Events.{choice_of, choice_with}
-use Rattle.mach_types.specs.Kernel.Areas.{area_of}
-use Rattle.mach_types.specs.Kernel.Threads.{is_ready}
-use Rattle.mach_types.specs.declared.events.Entry.{Entry}
-use Rattle.mach_types.specs.declared.events.Kind.{Kind}
+use Rattle.block_model.proofs.Common.{Bytes, Done, Entry, Event, Here, History, IsRunHistory, Kernel, Kind, Ready, Sequence, Setting, Store, area_of, before_last, choice_of, choice_with, done, done_of, done_preempt_by, file, file_among, hanging, here_in_history, is_inside_at, is_ready, kernel, left, list_any, memory, number_of, on, option_map, or_parts, overlay, refusal_of, refusal_preempt_by, running, sequence_on, thread_in, touched_in, touches, unless_waiting, view, waiting_here}
 use Rattle.mach_types.specs.declared.events.Kind.TheVariants as kind
-use Rattle.mach_types.specs.declared.threads.ThreadState.TheVariants.{Ready}
-use Rattle.mach_types.specs.declared.user_memory.Store.{Store}
-use Rattle.block_model.specs.Acts.{Sequence, hanging, is_inside_at, sequence_on}
-use Rattle.block_model.specs.Deciding.{done, number_of, thread_in}
-use Rattle.block_model.specs.Events.{done_of, refusal_of}
-use Rattle.block_model.specs.Events.Preempt.{done_preempt_by, refusal_preempt_by, unless_waiting}
-use Rattle.block_model.specs.Here.{Done, Here, memory, view, waiting_here}
-use Rattle.block_model.specs.History.{Event, History, file, file_among, here_in_history, kernel, running}
-use Rattle.block_model.specs.Kernel.{left}
-use Rattle.block_model.specs.Record.{Kernel}
-use Rattle.block_model.specs.Run.{IsRunHistory}
-use Rattle.block_model.specs.Setting.{Setting}
-use Rattle.block_model.specs.Tables.{on}
-use Rattle.rv_inst.specs.Accesses.{Bytes}
-use Rattle.block_model.specs.Whole.{before_last, touched_in, touches}
 use Rattle.block_model.proofs.Runs.{allowed_at, settled}
 use Rattle.block_model.proofs.Invariants.Events.{none_waits, out_of_barrier, ready_apart}
 use Rattle.block_model.proofs.KernelTables.{its_ready, running_is, state_now}

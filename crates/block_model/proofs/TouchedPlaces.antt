@@ -1,28 +1,7 @@
 -- From the place before the last event of a sequence on: what its thread keeps, and that bytes stay which nothing touched since.
-use Rattle.std.proofs.Common.{◌≡◌, ◌≢◌, ℕ, ◌+◌, ◌-◌, ◌≤◌, ◌<◌, ◌⊎◌, inl, inr, List, [], ◌∷◌, length, refl, sym, ap, ◌∙◌, subst, arith, Bool, true, false, not, cond, ◌&&◌, ◌||◌, eqb, Option, Some, None, is_none}
-use Rattle.std.specs.List.{AllByRecursion, list_any}
-use Rattle.std.proofs.lemmas.Bool.{eqb-false, false≢true, ne_eqb, or_parts}
-use Rattle.mach_types.specs.Events.{choice_with}
-use Rattle.mach_types.specs.Kernel.Areas.{area_of}
-use Rattle.mach_types.specs.Kernel.Threads.{running_on}
-use Rattle.mach_types.specs.declared.address_space.TheConstants.{PAGE_SIZE}
-use Rattle.mach_types.specs.declared.events.Entry.{Entry}
-use Rattle.mach_types.specs.declared.events.Kind.{Kind}
+use Rattle.std.proofs.Common.{◌≡◌, ◌≢◌, ℕ, ◌+◌, ◌-◌, ◌≤◌, ◌<◌, ◌⊎◌, inl, inr, List, [], ◌∷◌, length, refl, sym, ap, ◌∙◌, subst, arith, Bool, true, false, not, cond, ◌&&◌, ◌||◌, eqb, Option, Some, is_none}
+use Rattle.block_model.proofs.Common.{AllByRecursion, Bytes, Done, Entry, Event, Here, History, IsRunHistory, Kernel, Kind, PAGE_SIZE, Saved, Sequence, Setting, Store, area_of, before_last, choice_with, done, done_drain_of, done_of, done_take, done_take_by, eqb-false, false≢true, file, file_among, here_in_history, is_inside_at, is_instruction, is_of_hart, is_taken_in, kernel, list_any, ne_eqb, only_took, or_parts, running, running_on, runs, sequence_on, touched_in, touches, view, waiting_here}
 use Rattle.mach_types.specs.declared.events.Kind.TheVariants as kind
-use Rattle.mach_types.specs.declared.threads.Saved.{Saved}
-use Rattle.mach_types.specs.declared.user_memory.Store.{Store}
-use Rattle.block_model.specs.Acts.{Sequence, is_inside_at, is_instruction, is_taken_in, sequence_on}
-use Rattle.block_model.specs.Deciding.{done}
-use Rattle.block_model.specs.Events.{done_of}
-use Rattle.block_model.specs.Events.Drain.{done_drain_of}
-use Rattle.block_model.specs.Events.Take.{done_take, done_take_by, only_took}
-use Rattle.block_model.specs.Here.{Done, Here, runs, view, waiting_here}
-use Rattle.block_model.specs.History.{Event, History, file, file_among, here_in_history, is_of_hart, kernel, running}
-use Rattle.block_model.specs.Record.{Kernel}
-use Rattle.block_model.specs.Run.{IsRunHistory}
-use Rattle.block_model.specs.Setting.{Setting}
-use Rattle.rv_inst.specs.Accesses.{Bytes}
-use Rattle.block_model.specs.Whole.{before_last, touched_in, touches}
 use Rattle.block_model.proofs.Invariants.Calls.Conditions.{runs_apart}
 use Rattle.block_model.proofs.NamedSequences.{Agree}
 use Rattle.block_model.proofs.ReadyFiles.{area_stays}
@@ -41,9 +20,8 @@ drain_sets_none here (w ∷ ws) = refl
 -- a take that interrupts nothing does no more than take
 only_takes : (here : Here) (restart : Bool) (r : Option ℕ) → is_none (done_take_by here restart r).interrupted ≡ true
     → done_take_by here restart r ≡ only_took here
-only_takes here false r none = refl
-only_takes here true None none = refl
 only_takes here true (Some t) none = absurd (false≢true none)
+only_takes here b o none = refl
 
 pub take_taken : (here : Here) → is_taken_in kind.Take (done_take here).interrupted ≡ true → done_take here ≡ only_took here
 take_taken here taken = only_takes here here.restart (runs here) taken

@@ -1,33 +1,11 @@
 -- At the end of a walk the file of its thread is what its instructions make of the file at its start.
 use Rattle.std.proofs.Common.{◌≡◌, ◌≢◌, ℕ, List, [], ◌∷◌, ◌++◌, refl, sym, ap, ◌∙◌, subst, Bool, true, false, cond, eqb, ◌&&◌, Option, Some, None, inl, inr, append_assoc}
-use Rattle.std.specs.List.{fold}
-use Rattle.std.specs.Option.{option_map_or}
-use Rattle.std.proofs.lemmas.Bool.{eqb-true, eqb-false}
-use Rattle.std.proofs.lemmas.List.Sums.{fold-append}
-use Rattle.mach_types.specs.Events.{choice_of}
-use Rattle.block_model.specs.Record.{Kernel}
-use Rattle.mach_types.specs.Kernel.Threads.{running_on}
-use Rattle.mach_types.specs.declared.events.Choice.{Choice}
+use Rattle.block_model.proofs.Common.{Choice, Done, Effect, Entry, Here, History, IsAllowedLog, IsRunHistory, Kernel, Saved, Setting, Store, by_call, by_effect, by_outcome, called_here, choice_of, done, done_drain_of, done_exec_by, done_of, done_take_by, eqb-false, eqb-true, eqb_same, event, file, file_among, fold, fold-append, here_in_history, history, is_call, next_effect, option_map_or, outcome_of, running, running_on, runs, waiting_here}
 use Rattle.mach_types.specs.declared.events.Choice.TheVariants as asked
-use Rattle.mach_types.specs.declared.events.Entry.{Entry}
-use Rattle.mach_types.specs.declared.threads.Saved.{Saved}
-use Rattle.mach_types.specs.declared.user_memory.Store.{Store}
-use Rattle.rv_inst.specs.Class.{is_call}
-use Rattle.rv_inst.specs.declared.effects.Effect.{Effect}
 use Rattle.rv_inst.specs.declared.effects.Effect.TheVariants as effect
-use Rattle.block_model.specs.Deciding.{done, event, history}
-use Rattle.block_model.specs.Events.{done_of}
-use Rattle.block_model.specs.Events.Drain.{done_drain_of}
-use Rattle.block_model.specs.Events.Exec.{by_call, called_here, by_effect, by_outcome, done_exec_by, next_effect, outcome_of}
-use Rattle.block_model.specs.Events.Take.{done_take_by}
-use Rattle.block_model.specs.Here.{Done, Here, runs, waiting_here}
-use Rattle.block_model.specs.History.{History, file, file_among, here_in_history, running}
-use Rattle.block_model.specs.Run.{IsAllowedLog, IsRunHistory}
-use Rattle.block_model.specs.Setting.{Setting}
 use Rattle.block_model.specs.Walks.{AreOfWalk, IsOfWalk, IsPlainExec, IsPlainTake, IsWalk, Answer, answer_in, answered, answers, computed, file_by, file_next, file_of, is_exec}
 use Rattle.block_model.proofs.Replay.{history-more}
 use Rattle.block_model.proofs.Runs.{fit_at, run_before}
-use Rattle.mach_types.proofs.Laws.{eqb_same}
 
 -- what an entry of a walk does to the file of the walk's thread, and that the thread still runs on its hart
 record IsStep (s : Setting) (h t : ℕ) (before : History) (e : Entry) : Type 0 where
@@ -84,9 +62,8 @@ drain_done here t (w ∷ ws) = record { own = refl; same = refl }
 -- what a hart does that takes requests, where that interrupts nothing
 take_by : (here : Here) (t : ℕ) (restarts : Bool) (running : Option ℕ) → (done_take_by here restarts running).interrupted ≡ None
     → IsPlainDone here t None (done_take_by here restarts running)
-take_by here t false running quiet = record { own = refl; same = refl }
-take_by here t true None quiet = record { own = refl; same = refl }
 take_by here t true (Some u) quiet = absurd cc
+take_by here t b o quiet = record { own = refl; same = refl }
 
 take_done : (here : Here) (t : ℕ) (entry : Entry) → IsPlainTake here entry → IsPlainDone here t None (done_of (choice_of entry) here)
 take_done here t entry plain =

@@ -1,25 +1,8 @@
 -- Every log whose entries are allowed is whole.
 use Rattle.std.proofs.Common.{◌≡◌, ◌≢◌, ℕ, [], ◌∷◌, refl, sym, ap, ◌∙◌, subst, true, false, Option, Some, None, is_some}
-use Rattle.std.specs.Option.{option_map_or}
-use Rattle.std.proofs.lemmas.Bool.{false≢true}
-use Rattle.mach_types.proofs.Laws.{eqb_same}
-use Rattle.mach_types.specs.declared.events.Kind.{Kind}
+use Rattle.block_model.proofs.Common.{Done, End, EndsWhole, Event, Here, History, IsRunHistory, IsWholeHistory, Killed, Kind, Outcome, SIGSEGV, Sequence, Setting, by_call, done_preempt_by, eqb_same, false≢true, is_inside_at, is_inside_here, is_instruction, is_taken_in, killed_in_call, next_fault, number_of, one_instruction, option_map_or, runs, sequence_on}
 use Rattle.mach_types.specs.declared.events.Kind.TheVariants as kind
-use Rattle.mach_types.specs.declared.limits.End.{End}
-use Rattle.mach_types.specs.declared.limits.End.TheVariants.{Killed}
-use Rattle.mach_types.specs.declared.sequences.Outcome.{Outcome}
-use Rattle.mach_types.specs.declared.signals.TheConstants.{SIGSEGV}
-use Rattle.block_model.specs.Acts.{Sequence, is_inside_at, is_instruction, is_taken_in, sequence_on}
-use Rattle.block_model.specs.Calls.Answers.{killed_in_call}
-use Rattle.block_model.specs.Deciding.{number_of}
-use Rattle.block_model.specs.Events.Exec.{by_call, next_fault, one_instruction}
-use Rattle.block_model.specs.Events.Preempt.{done_preempt_by}
-use Rattle.block_model.specs.Here.{Done, Here, runs}
-use Rattle.block_model.specs.History.{Event, History}
-use Rattle.block_model.specs.Run.{IsRunHistory}
-use Rattle.block_model.specs.Sequences.{is_inside_here}
-use Rattle.block_model.specs.Setting.{Setting}
-use Rattle.block_model.specs.Whole.{EndsWhole, IsFatalInstruction, IsWholeEvent, IsWholeHistory, IsWholePlace, TouchesNothing, faults_or_calls, signal_inside}
+use Rattle.block_model.specs.Whole.{IsFatalInstruction, IsWholeEvent, IsWholePlace, TouchesNothing, faults_or_calls, signal_inside}
 use Rattle.block_model.proofs.EventEffects.{CallKills, Calls, EventDeed, FaultKills, Restarts, RunKills, SignalKills, deed_of}
 use Rattle.block_model.proofs.Sequences.{goes_on, runs_throughout, Elsewhere, Own, SequenceStep, is_taken, sequence_step}
 use Rattle.block_model.proofs.TouchedPlaces.{IsTakenIn}

@@ -1,19 +1,11 @@
 -- Why the process ends where a waiting thread would begin to run; and that a thread which is outside isn't sent to an abort handler.
 use Rattle.std.proofs.Common.{◌≡◌, ℕ, ◌⊎◌, [], refl, ap, ◌∙◌, Bool, true, false, not, cond, Option, Some, None, inl, inr}
-use Rattle.std.specs.Option.{option_map_or}
-use Rattle.mach_types.specs.Kernel.Areas.{interruption, is_clearable, is_inside, is_inside_named, named, outcome_of}
-use Rattle.mach_types.specs.declared.sequences.Area.{Area}
-use Rattle.mach_types.specs.declared.sequences.BadWhy.{BadWhy}
+use Rattle.block_model.proofs.Common.{Area, BadWhy, FindsBad, HasCause, Here, Named, Outcome, Seq, area_here, can_write_words, files_interrupted, interruption, interruption_here, is_clearable, is_inside, is_inside_named, is_inside_waiting, is_writable, lives_on, memory, named, option_map_or}
+use Rattle.mach_types.specs.Kernel.Areas.{outcome_of}
 use Rattle.mach_types.specs.declared.sequences.BadWhy.TheVariants as bad
-use Rattle.mach_types.specs.declared.sequences.Named.{Named}
 use Rattle.mach_types.specs.declared.sequences.Named.TheVariants as names
-use Rattle.mach_types.specs.declared.sequences.Outcome.{Outcome}
 use Rattle.mach_types.specs.declared.sequences.Outcome.TheVariants as comes_to
-use Rattle.mach_types.specs.declared.sequences.Seq.{Seq}
-use Rattle.block_model.specs.Events.Run.{lives_on}
-use Rattle.block_model.specs.Here.{Here, is_writable, memory}
-use Rattle.block_model.specs.Sequences.{area_here, can_write_words, files_interrupted, interruption_here, is_inside_waiting}
-use Rattle.block_model.specs.Whole.{FindsBad, HasCause, IsBad, IsGood, can_clear}
+use Rattle.block_model.specs.Whole.{IsBad, IsGood, can_clear}
 
 -- an interruption that ends the process
 abbrev pub IsKilled : Outcome → Type 0
@@ -65,10 +57,9 @@ module _ (here : Here) (pc : ℕ) where
   never_sent false false abort at outside is = absurd cc
 
   outside_sent : (area : Area) (n : Named) (at : ℕ) → is_inside_named n pc ≡ false → outcome_of (is_writable here) area pc n ≡ comes_to.Aborted at → ⊥
-  outside_sent area names.Nothing at outside is = absurd cc
-  outside_sent area (names.Bad why) at outside is = absurd cc
   outside_sent area (names.Good sequence) at outside is =
       never_sent (is_clearable (is_writable here) area) (is_inside sequence pc) sequence.abort at outside is
+  outside_sent area other at outside is = absurd cc
 
   pub outside_goes_on : (its : Option Area) (at : ℕ) → is_inside_named (named_of its) pc ≡ false → comes its ≡ comes_to.Aborted at → ⊥
   outside_goes_on None at outside is = absurd cc
@@ -85,19 +76,15 @@ module _ (here : Here) (t : ℕ) where
 
   -- so it does where a waiting thread begins to run, or where the words of its area can't be written
   cause_by : (o : Outcome) → interruption_here here t ≡ o → lives_on here t o ≡ false → HasCause here t
-  cause_by comes_to.Nothing is dies = inr dies
-  cause_by comes_to.Cleared is dies = inr dies
-  cause_by (comes_to.Aborted at) is dies = inr dies
   cause_by (comes_to.Killed why) is dies = inl (found_by why is)
+  cause_by outcome is dies = inr dies
 
   pub cause_of_death : lives_on here t (interruption_here here t) ≡ false → HasCause here t
   cause_of_death dies = cause_by (interruption_here here t) refl dies
 
   words_kill : (o : Outcome) → can_write_words here (area_here here t) ≡ false → lives_on here t o ≡ false
-  words_kill comes_to.Nothing never = never
-  words_kill comes_to.Cleared never = never
-  words_kill (comes_to.Aborted at) never = never
   words_kill (comes_to.Killed why) never = refl
+  words_kill outcome never = never
 
   pub dies_of : HasCause here t → lives_on here t (interruption_here here t) ≡ false
   dies_of (inl found) = ap (lives_on here t) (bad_found found).1
@@ -105,10 +92,8 @@ module _ (here : Here) (t : ℕ) where
 
   -- and a thread that is outside keeps its registers and its pc
   outside_files_by : (o : Outcome) → interruption_here here t ≡ o → is_inside_waiting here t ≡ false → files_interrupted here t o ≡ []
-  outside_files_by comes_to.Nothing is outside = refl
-  outside_files_by comes_to.Cleared is outside = refl
   outside_files_by (comes_to.Aborted at) is outside = absurd (outside_goes_on here (here.file t).pc (area_here here t) at outside is)
-  outside_files_by (comes_to.Killed why) is outside = refl
+  outside_files_by outcome is outside = refl
 
   pub outside_files : is_inside_waiting here t ≡ false → files_interrupted here t (interruption_here here t) ≡ []
   outside_files outside = outside_files_by (interruption_here here t) refl outside

@@ -1,22 +1,8 @@
 -- What an event of a run tells, by its kind; and where the thread of a sequence that hangs is: it is ready, and its registers and its pc are
 -- those that the sequence left.
 use Rattle.std.proofs.Common.{◌≡◌, ◌<◌, ℕ, [], ◌∷◌, sym, ap, ◌∙◌, cond, None, ◌≢◌, subst, true, Some}
-use Rattle.mach_types.proofs.Laws.{eqb_same}
-use Rattle.mach_types.specs.Events.{choice_of, choice_with}
-use Rattle.mach_types.specs.declared.events.Entry.{Entry}
-use Rattle.mach_types.specs.declared.events.Kind.{Kind}
-use Rattle.mach_types.specs.declared.threads.Saved.{Saved}
-use Rattle.block_model.specs.Deciding.{done, number_of, over_at, thread_in}
-use Rattle.block_model.specs.Events.{done_of, refusal_of}
-use Rattle.block_model.specs.Here.{Here}
-use Rattle.block_model.specs.History.{Event, History, file_among, here_in_history, file, kernel}
-use Rattle.block_model.specs.Run.{IsRunHistory}
-use Rattle.block_model.specs.Setting.{Setting}
-use Rattle.block_model.specs.Tables.{IsTables}
+use Rattle.block_model.proofs.Common.{Entry, Event, Here, History, IsRunHistory, IsTables, Kind, Saved, Sequence, Setting, choice_of, choice_with, done, done_of, eqb-false, eqb_same, file, file_among, hanging, here_in_history, is_ready, kernel, number_of, over_at, refusal_of, sequence_on, thread_in}
 use Rattle.block_model.proofs.Runs.{allowed_at, settled, fit_at}
-use Rattle.std.proofs.lemmas.Bool.{eqb-false}
-use Rattle.mach_types.specs.Kernel.Threads.{is_ready}
-use Rattle.block_model.specs.Acts.{Sequence, hanging, sequence_on}
 use Rattle.block_model.proofs.Sequences.{runs_throughout, Elsewhere, Own, SequenceStep, is_reached, by_sequence}
 use Rattle.block_model.proofs.TouchedHanging.{hangs_since}
 

@@ -1,32 +1,13 @@
 -- What `run` makes of a sequence that hangs: the process ends, or the sequence is cut, or it was dropped; and its thread isn't inside
 -- any more.
 use Rattle.std.proofs.Common.{◌≡◌, ℕ, ◌+◌, ◌-◌, ◌≤◌, List, [], ◌∷◌, ◌++◌, drop, refl, sym, ap, ◌∙◌, subst, Bool, true, false, cond, Option, Some, None, Any, is_some, inl, inr}
-use Rattle.std.specs.Option.{option_map_or}
-use Rattle.std.proofs.lemmas.Bool.{false≢true}
-use Rattle.mach_types.proofs.Laws.{eqb_same}
-use Rattle.mach_types.specs.Bytes.{word_at}
-use Rattle.mach_types.specs.Kernel.Areas.{area_of, named, pointer_of}
-use Rattle.mach_types.specs.Kernel.Threads.{is_ready, running_on}
+use Rattle.block_model.proofs.Common.{Area, Done, Event, GoesOnWith, HasCause, Here, History, IsCutProperly, IsDeadBy, IsLeftNull, IsRunHistory, Outcome, Plain, RSEQ_CS, Saved, Sequence, Setting, Store, Stored, abort_of, area_here, area_of, cut_or, done_killed, done_run, done_running, end_at_verdict, eqb_same, false≢true, file, file_among, files_interrupted, hanging, has_killed, here_in_history, interruption_here, is_inside_at, is_inside_here, is_inside_waiting, is_ready, is_writable, lives_on, memory, named, option_map_or, pointer_of, running, running_on, runs, view, waiting, word_at}
 use Rattle.mach_types.specs.declared.events.Kind.TheVariants as kind
-use Rattle.mach_types.specs.declared.sequences.Area.{Area}
 use Rattle.mach_types.specs.declared.sequences.Named.TheVariants as names
-use Rattle.mach_types.specs.declared.sequences.Outcome.{Outcome}
 use Rattle.mach_types.specs.declared.sequences.Outcome.TheVariants as comes_to
-use Rattle.mach_types.specs.declared.sequences.TheConstants.{RSEQ_CS}
-use Rattle.mach_types.specs.declared.threads.Saved.{Saved}
-use Rattle.mach_types.specs.declared.user_memory.Store.{Store}
-use Rattle.mach_types.specs.declared.user_memory.Write.TheVariants.{Stored}
 use Rattle.block_model.specs.declared.acts.SeqEnd.{SeqEnd}
 use Rattle.block_model.specs.declared.acts.SeqEnd.TheVariants as ends
-use Rattle.block_model.specs.Acts.{Sequence, abort_of, cut_or, end_at_verdict, hanging, has_killed, is_inside_at}
-use Rattle.block_model.specs.Events.Run.{done_killed, done_run, done_running, lives_on}
-use Rattle.block_model.specs.Here.{Done, Here, is_writable, memory, runs, view}
-use Rattle.block_model.specs.History.{Event, History, file, file_among, here_in_history, running, waiting}
-use Rattle.block_model.specs.Plain.{Plain}
-use Rattle.block_model.specs.Run.{IsRunHistory}
-use Rattle.block_model.specs.Sequences.{area_here, files_interrupted, interruption_here, is_inside_here, is_inside_waiting}
-use Rattle.block_model.specs.Setting.{Setting}
-use Rattle.block_model.specs.Whole.{EndsWholeAtVerdict, GoesOnWith, HasCause, IsCutProperly, IsDeadBy, IsLeftNull}
+use Rattle.block_model.specs.Whole.{EndsWholeAtVerdict}
 use Rattle.block_model.proofs.PlainEvents.{applied}
 use Rattle.block_model.proofs.Invariants.Events.{run_ready}
 use Rattle.block_model.proofs.KernelTables.{ran_runs}

@@ -1,22 +1,11 @@
 -- Bytes that can be written among those of an access; and writes of the kernel that have such bytes alone.
 use Rattle.std.proofs.Common.{◌≡◌, ℕ, suc, ◌+◌, ◌-◌, ◌*◌, ◌<◌, ◌≤◌, ◌||◌, Bool, true, false, not, cond, List, [], ◌∷◌, ◌++◌, filter, length, Option, Some, None, refl, sym, ap, ◌∙◌, subst, arith}
-use Rattle.std.proofs.lemmas.Bool.{and_parts}
-use Rattle.std.specs.List.{AllByRecursion}
+use Rattle.block_model.proofs.Common.{AllByRecursion, Area, CPU_ID, MM_CID, NODE_ID, Named, SIGNAL_FRAME_SIZE, Saved, Store, Stored, Words, Write, Zeroed, and_parts, are_words_writable, can_write_frame, each_byte, frame_at, frame_words, frame_writes, interruption, is_clearable, is_inside, named, stack_pointer, words_stored, words_written, writes_of}
 use Rattle.mach_types.proofs.Laws.{each_byte-split}
-use Rattle.mach_types.specs.Bytes.{each_byte}
-use Rattle.mach_types.specs.Kernel.Areas.{Words, are_words_writable, interruption, is_clearable, is_inside, named, outcome_of, words_written, writes_of}
-use Rattle.mach_types.specs.Kernel.SignalFrames.{can_write_frame, frame_at, frame_words, frame_writes, stack_pointer, words_stored}
-use Rattle.mach_types.specs.declared.sequences.Area.{Area}
+use Rattle.mach_types.specs.Kernel.Areas.{outcome_of}
 use Rattle.mach_types.specs.declared.sequences.BadWhy.TheVariants as bad
-use Rattle.mach_types.specs.declared.sequences.Named.{Named}
 use Rattle.mach_types.specs.declared.sequences.Named.TheVariants as names
 use Rattle.mach_types.specs.declared.sequences.Outcome.TheVariants as comes_to
-use Rattle.mach_types.specs.declared.sequences.TheConstants.{CPU_ID, MM_CID, NODE_ID}
-use Rattle.mach_types.specs.declared.signals.TheConstants.{SIGNAL_FRAME_SIZE}
-use Rattle.mach_types.specs.declared.threads.Saved.{Saved}
-use Rattle.mach_types.specs.declared.user_memory.Store.{Store}
-use Rattle.mach_types.specs.declared.user_memory.Write.{Write}
-use Rattle.mach_types.specs.declared.user_memory.Write.TheVariants.{Stored, Zeroed}
 use Rattle.block_model.proofs.Interruptions.{few_words}
 use Rattle.block_model.proofs.PlaceInvariant.{all_append}
 
@@ -112,9 +101,8 @@ module _ (can_write : ℕ → Bool) where
   cleared_by area true false abort is = ((omega arith, is), tt)
 
   named_writable : (area : Area) (pc : ℕ) (n : Named) → AllWritable can_write (writes_of (Some area) (outcome_of can_write area pc n))
-  named_writable area pc names.Nothing = tt
-  named_writable area pc (names.Bad why) = tt
   named_writable area pc (names.Good sequence) = cleared_by area (is_clearable can_write area) (is_inside sequence pc) sequence.abort refl
+  named_writable area pc other = tt
 
   pub interruption_writable : (byte : ℕ → Option ℕ) (o : Option Area) (pc : ℕ) → AllWritable can_write (writes_of o (interruption byte can_write o pc))
   interruption_writable byte None pc = tt

@@ -1,5 +1,5 @@
--- Worked examples, proved by computation: the acts of a log in which a sequence is left, and of one in which it hangs and then is cut; and
--- the counts of these.
+-- Worked examples, proved by computation: the acts of a log in which a sequence is left, and of one in which it hangs and then is cut; what
+-- the events of these make of the sequence; and their counts.
 use Rattle.std.proofs.Common.{◌≡◌, ℕ, List, [], ◌∷◌, ◌++◌, map, replicate, refl, None, Result, Ok, Err}
 use Rattle.mach_types.specs.declared.events.Choice.{Choice}
 use Rattle.mach_types.specs.declared.events.Choice.TheVariants as asked
@@ -10,6 +10,7 @@ use Rattle.rv_inst.specs.Table.{row_of, rows, lui_rows, auipc_rows, jal_rows, ja
 use Rattle.block_model.specs.declared.acts.SeqEnd.TheVariants as ends
 use Rattle.block_model.specs.Deciding.{decide, done, history}
 use Rattle.block_model.specs.Replay.{Ask, played, script_of}
+use Rattle.block_model.specs.History.{History}
 use Rattle.block_model.specs.Setting.{Setting}
 use Rattle.block_view.specs.Acts.{acts_of}
 use Rattle.block_view.specs.Counting.{counts_of}
@@ -17,6 +18,9 @@ use Rattle.block_view.specs.declared.forms.Act.{Act}
 use Rattle.block_view.specs.declared.forms.Form.{Form}
 use Rattle.block_view.specs.declared.forms.Form.TheVariants.{Step, Kernel, Sequence}
 use Rattle.block_view.specs.declared.tally.Counts.{Counts}
+use Rattle.block_view.specs.Turns.{acts_left_open, turns}
+use Rattle.block_view.specs.declared.turns.Turn.{Turn}
+use Rattle.block_view.specs.declared.turns.Turn.TheVariants.{Begins, Ends}
 use Rattle.block_model.specs.Run.{IsBlockRun}
 use Rattle.block_model.proofs.Laws.{block_run}
 use Rattle.mach_types.specs.declared.events.Kind.{Kind}
@@ -100,6 +104,47 @@ cut : acts_made (played program (preempted ++ runs 1 1 ∷ line 1 asked.Exec ∷
     ≡ Ok (beginning ++ act 0 9 9 (Sequence (ends.Cut 0x100DC)) ∷ act 0 10 10 Kernel ∷ act 1 11 11 Kernel ∷ act 1 12 12 Step ∷ [])
 unfolding acts_of played decide history done meaning row_of rows lui_rows auipc_rows jal_rows jalr_rows branch_rows load_rows store_rows op_imm_rows op_imm_32_rows op_rows op_32_rows misc_mem_rows amo_rows system_rows are_readable number_at
 cut = refl
+
+-- WHAT AN EVENT MAKES OF THE SEQUENCES
+
+-- what the last event of the log that a script makes does, and which sequences no event of it has ended
+abbrev last_turns : History → List Turn
+last_turns [] = []
+last_turns (e ∷ before) = turns program e before
+
+abbrev turns_made : Result (List Entry) ℕ → Result (List Turn) ℕ
+turns_made (Ok log) = Ok (last_turns (history program log))
+turns_made (Err n) = Err n
+
+abbrev left_made : Result (List Entry) ℕ → Result (List Act) ℕ
+left_made (Ok log) = Ok (acts_left_open program (history program log))
+left_made (Err n) = Err n
+
+-- the sequence begins with entry 9, goes on with entry 10, and has ended with entry 11, which isn't of it
+begins_at_nine : turns_made (played program (registered ++ replicate 1 (line 0 asked.Exec))) ≡ Ok (Begins (record { start = 0x100CC; length = 8; abort = 0x100DC }) ∷ [])
+unfolding played decide history done meaning row_of rows lui_rows auipc_rows jal_rows jalr_rows branch_rows load_rows store_rows op_imm_rows op_imm_32_rows op_rows op_32_rows misc_mem_rows amo_rows system_rows are_readable number_at
+begins_at_nine = refl
+
+goes_on_at_ten : turns_made (played program (registered ++ replicate 2 (line 0 asked.Exec))) ≡ Ok []
+unfolding played decide history done meaning row_of rows lui_rows auipc_rows jal_rows jalr_rows branch_rows load_rows store_rows op_imm_rows op_imm_32_rows op_rows op_32_rows misc_mem_rows amo_rows system_rows are_readable number_at
+goes_on_at_ten = refl
+
+left_at_eleven : turns_made (played program (registered ++ replicate 3 (line 0 asked.Exec))) ≡ Ok (Ends (act 0 9 10 (Sequence ends.Left)) ∷ [])
+unfolding played decide history done meaning row_of rows lui_rows auipc_rows jal_rows jalr_rows branch_rows load_rows store_rows op_imm_rows op_imm_32_rows op_rows op_32_rows misc_mem_rows amo_rows system_rows are_readable number_at
+left_at_eleven = refl
+
+-- it hangs with entry 10, and no event has ended it; then entry 11, by which its thread begins to run on the other hart, has
+hangs_at_ten : turns_made (played program preempted) ≡ Ok []
+unfolding played decide history done meaning row_of rows lui_rows auipc_rows jal_rows jalr_rows branch_rows load_rows store_rows op_imm_rows op_imm_32_rows op_rows op_32_rows misc_mem_rows amo_rows system_rows are_readable number_at
+hangs_at_ten = refl
+
+left_open : left_made (played program preempted) ≡ Ok (act 0 9 9 (Sequence ends.Unended) ∷ [])
+unfolding played decide history done meaning row_of rows lui_rows auipc_rows jal_rows jalr_rows branch_rows load_rows store_rows op_imm_rows op_imm_32_rows op_rows op_32_rows misc_mem_rows amo_rows system_rows are_readable number_at
+left_open = refl
+
+cut_at_eleven : turns_made (played program (preempted ++ runs 1 1 ∷ [])) ≡ Ok (Ends (act 0 9 9 (Sequence (ends.Cut 0x100DC))) ∷ [])
+unfolding played decide history done meaning row_of rows lui_rows auipc_rows jal_rows jalr_rows branch_rows load_rows store_rows op_imm_rows op_imm_32_rows op_rows op_32_rows misc_mem_rows amo_rows system_rows are_readable number_at
+cut_at_eleven = refl
 
 -- COUNTS
 

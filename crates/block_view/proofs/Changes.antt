@@ -1,6 +1,8 @@
 -- Acts that change at a place.
-use Rattle.std.proofs.Common.{◌≡◌, ℕ, zero, suc, ◌<◌, List, [], ◌∷◌, length, get_or, set, refl, ap, arith}
-use Rattle.block_view.specs.Ledgers.{changed_at}
+use Rattle.std.proofs.Common.{◌≡◌, ℕ, zero, suc, ◌<◌, List, [], ◌∷◌, length, get_or, set, slice_get, refl, ap, ◌∙◌, arith, Some}
+use Rattle.std.specs.Option.{option_map}
+use Rattle.block_model.specs.declared.acts.SeqEnd.{SeqEnd}
+use Rattle.block_view.specs.Ledgers.{changed_at, with_end}
 use Rattle.block_view.specs.declared.forms.Act.{Act}
 
 -- a write at a place changes the act that stands there
@@ -15,3 +17,10 @@ pub length-changed_at : (f : Act → Act) (acts : List Act) (i : ℕ) → length
 length-changed_at f [] i = refl
 length-changed_at f (x ∷ acts) zero = refl
 length-changed_at f (x ∷ acts) (suc i) = ap suc (length-changed_at f acts i)
+
+-- what is read there afterwards is the act that ended
+pub ended_there : (end : SeqEnd) (acts : List Act) (i : ℕ) (was now : Act) → was ≡ get_or acts i was → i < length acts → now ≡ get_or (set acts i (with_end end was)) i now
+    → Some now ≡ option_map (with_end end) (slice_get acts i)
+ended_there end [] i was now is lt read = absurd (omega arith)
+ended_there end (x ∷ acts) zero was now is lt read = ap (λ act. Some act) (read ∙ ap (with_end end) is)
+ended_there end (x ∷ acts) (suc i) was now is lt read = ended_there end acts i was now is (omega arith) read

@@ -1,5 +1,5 @@
 -- A log is gone through entry by entry: what a machine has made so far, and where one is refused.
-use Rattle.std.proofs.Common.{◌≡◌, ℕ, ◌+◌, ◌<◌, ◌^◌, List, [], ◌∷◌, ◌++◌, length, map, take, drop, get_or, replicate, reverse, refl, sym, ap, ◌∙◌, subst, arith, eqb, ltb, ◌&&◌, Bool, true, false, cond, Option, Some, None, Result, Ok, Err}
+use Rattle.std.proofs.Common.{◌≡◌, ℕ, ◌+◌, ◌<◌, ◌^◌, List, [], ◌∷◌, ◌++◌, length, map, take, drop, get_or, option_to_list, replicate, reverse, refl, sym, ap, ◌∙◌, subst, arith, eqb, ltb, ◌&&◌, Bool, true, false, cond, Option, Some, None, Result, Ok, Err}
 use Rattle.std.proofs.lemmas.Bool.{eqb-true, false≢true, ltb-false, ltb-true}
 use Rattle.std.proofs.lemmas.List.{get_or-replicate, get_or_past, length-map, length-replicate, map-append, take-append-drop, drop_more}
 use Rattle.mach_types.specs.Events.{choice_of, choice_with, kind_of}
@@ -15,10 +15,11 @@ use Rattle.block_model.specs.Setting.{Seen, Setting}
 use Rattle.block_model.specs.declared.refusals.Refused.{Refused}
 use Rattle.block_model.proofs.Laws.{decided_is, history-nil, replays, start_run, within_limit}
 use Rattle.block_view.specs.Acts.{acts_after, acts_of}
-use Rattle.block_view.specs.Ledgers.{Kept, noted, nothing_kept}
+use Rattle.block_view.specs.Ledgers.{Kept, noted, nothing_kept, turn_noted}
 use Rattle.block_view.specs.Passing.{IsDecided, IsMadeAgain, IsMadeBy, passed_of}
 use Rattle.block_view.specs.Standing.{at_the_end, standings}
-use Rattle.block_view.specs.Tied.{IsTied}
+use Rattle.block_view.specs.Tied.{IsOfLog, IsTied}
+use Rattle.block_view.specs.Turns.{turns}
 use Rattle.block_view.specs.Viewing.{AreActs}
 use Rattle.block_view.specs.declared.forms.Act.{Act}
 use Rattle.block_view.specs.declared.ledger.Going.{Going as KeptGoing}
@@ -27,6 +28,7 @@ use Rattle.block_view.proofs.Growing.{at-the-end}
 use Rattle.block_view.proofs.Made.{made_at}
 use Rattle.block_view.proofs.Seeing.{history_after, run_after}
 use Rattle.block_view.proofs.Ties.{tied_next}
+use Rattle.block_view.proofs.TurnsTold.{turns_told}
 
 -- a machine made these entries of a setting
 pub record HasMadeLog (s : Setting) (log : List Entry) (m : Seen) : Type 0 where
@@ -60,6 +62,13 @@ tied_start s = record {
   hangs = λ tid x is. absurd cc;
 }
 
+-- a ledger of nothing is tied to an empty log
+pub tied_to_none : (m : Seen) (harts : ℕ) (k : Kept) → m.setting.limits.harts ≡ harts → m.log ≡ [] → k ≡ nothing_kept harts → IsOfLog m k
+tied_to_none m harts k same none kept =
+    subst (λ log. IsTied m.setting (history m.setting log) k) (sym none)
+    (subst (λ events. IsTied m.setting events k) (sym (history-nil m.setting))
+    (subst (IsTied m.setting []) (ap nothing_kept same ∙ sym kept) (tied_start m.setting)))
+
 pub logged_none : (s : Setting) (seed : ℕ) (m : Seen) → m ≡ record { setting = s; seed = seed; log = [] } → HasMadeLog s [] m
 logged_none s seed m is = record {
   setting = ap (λ (x : Seen). x.setting) is;
@@ -86,33 +95,48 @@ logged_more s log m m' entry was made = record {
   run = made.block_run;
 }
 
-pub made_more : (s : Setting) (log : List Entry) (m m' : Seen) (k : Kept) (entry : Entry) (passed : Passed) → HasMade s log m k
-    → IsMadeAgain m m' entry passed → HasMade s (log ++ entry ∷ []) m' (noted passed k)
-made_more s log m m' k entry passed was again =
+-- a ledger that is tied to the log before it is tied to that after it, and tells what the entry makes of the sequences
+pub tied_to_more : (m m' : Seen) (k : Kept) (entry : Entry) (passed : Passed) → IsOfLog m k → IsMadeAgain m m' entry passed → IsOfLog m' (noted passed k)
+tied_to_more m m' k entry passed tied again =
     let before = history m.setting m.log in
     let newest = event m.setting before entry in
     let same : m'.setting ≡ m.setting = ap (λ (x : Seen). x.setting) again.made.longer in
     let next : IsTied m.setting (newest ∷ before) (noted passed k) =
     subst (λ (p : Passed). IsTied m.setting (newest ∷ before) (noted p k)) (sym again.seen)
-    (tied_next m.setting newest before k (run_after m m' entry again.made) was.tied) in
-    record {
-      so_far = logged_more s log m m' entry was.so_far again.made;
-      tied = subst (λ x. IsTied x (history m'.setting m'.log) (noted passed k)) (sym same)
-          (subst (λ events. IsTied m.setting events (noted passed k)) (sym (history_after m m' entry again.made)) next);
-    }
+    (tied_next m.setting newest before k (run_after m m' entry again.made) tied) in
+    subst (λ x. IsTied x (history m'.setting m'.log) (noted passed k)) (sym same)
+    (subst (λ events. IsTied m.setting events (noted passed k)) (sym (history_after m m' entry again.made)) next)
+
+pub told_of_more : (m m' : Seen) (k : Kept) (entry : Entry) (passed : Passed) → IsOfLog m k → IsMadeAgain m m' entry passed
+    → option_to_list (turn_noted passed k) ≡ turns m.setting (event m.setting (history m.setting m.log) entry) (history m.setting m.log)
+told_of_more m m' k entry passed tied again =
+    let before = history m.setting m.log in
+    ap (λ (p : Passed). option_to_list (turn_noted p k)) again.seen
+    ∙ turns_told m.setting (event m.setting before entry) before k (run_after m m' entry again.made) tied
+
+pub made_more : (s : Setting) (log : List Entry) (m m' : Seen) (k : Kept) (entry : Entry) (passed : Passed) → HasMade s log m k
+    → IsMadeAgain m m' entry passed → HasMade s (log ++ entry ∷ []) m' (noted passed k)
+made_more s log m m' k entry passed was again = record {
+  so_far = logged_more s log m m' entry was.so_far again.made;
+  tied = tied_to_more m m' k entry passed was.tied again;
+}
 
 -- it is of a hart that the ledger keeps
 its_hart : (s : Setting) (e : Event) (before : History) (p : Passed) → p ≡ passed_of s e before → p.entry.hart.0 ≡ e.entry.hart.0
 unfolding passed_of
 its_hart s e before p is = ap (λ (x : Passed). x.entry.hart.0) is
 
-pub hart_is_kept : (s : Setting) (log : List Entry) (m m' : Seen) (k : Kept) (entry : Entry) (passed : Passed) → HasMade s log m k
-    → IsMadeAgain m m' entry passed → passed.entry.hart.0 < length k.going
-hart_is_kept s log m m' k entry passed was again =
+pub hart_of_more : (m m' : Seen) (k : Kept) (entry : Entry) (passed : Passed) → IsOfLog m k → IsMadeAgain m m' entry passed
+    → passed.entry.hart.0 < length k.going
+hart_of_more m m' k entry passed tied again =
     let before = history m.setting m.log in
     let newest = event m.setting before entry in
     let lt = (made_at m.setting newest before (run_after m m' entry again.made)).lt in
-    omega (arith, its_hart m.setting newest before passed again.seen, was.tied.harts)
+    omega (arith, its_hart m.setting newest before passed again.seen, tied.harts)
+
+pub hart_is_kept : (s : Setting) (log : List Entry) (m m' : Seen) (k : Kept) (entry : Entry) (passed : Passed) → HasMade s log m k
+    → IsMadeAgain m m' entry passed → passed.entry.hart.0 < length k.going
+hart_is_kept s log m m' k entry passed was again = hart_of_more m m' k entry passed was.tied again
 
 -- its log is short
 pub logged_few : (s : Setting) (log : List Entry) (m : Seen) → HasMadeLog s log m → InRange s.limits → length m.log + 1 < 2 ^ 32

@@ -14,10 +14,12 @@ pub mod Laws
 mod Logs
 mod Made
 mod Noting
+mod OpenActs
 mod Places
 mod Seeing
 mod SeenInside
 mod Sequences
 mod Tallies
 mod Ties
+mod TurnsTold
 mod Verdicts

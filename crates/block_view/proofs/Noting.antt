@@ -3,11 +3,12 @@ use Rattle.std.proofs.Common.{◌≡◌, ℕ, ◌<◌, List, length, get_or, ref
 use Rattle.std.specs.Option.{option_map}
 use Rattle.std.proofs.lemmas.List.{get_or_default}
 use Rattle.block_view.specs.Acts.{is_run}
-use Rattle.block_view.specs.Ledgers.{HasPlaces, Kept, begins, begun, going_on, hanging_of, is_more, noted, noted_in, settled, settled_by, stopped, taken_in, verdict_by, with_act_alone, with_end, with_end_at, without_hanging}
+use Rattle.block_view.specs.Ledgers.{HasPlaces, Kept, begins, begun, ended_at, going_on, hanging_of, is_more, noted, noted_in, settled, settled_act, settled_act_by, settled_by, stopped, stopped_act, taken_in, turn_in, turn_noted, verdict_by, with_act_alone, with_end, with_end_at, without_hanging}
 use Rattle.block_view.specs.declared.forms.Act.{Act}
 use Rattle.block_view.specs.declared.ledger.Going.{Going}
 use Rattle.block_view.specs.declared.ledger.Hanging.{Hanging}
 use Rattle.block_view.specs.declared.passing.Passed.{Passed}
+use Rattle.block_view.specs.declared.turns.Turn.TheVariants.{Begins, Ends}
 use Rattle.block_view.proofs.Changes.{length-changed_at}
 
 -- what is read of a hart is what goes on there
@@ -39,6 +40,28 @@ settled_at p k place run is = by_hanging (hanging_of k p.entry.tid) refl is
     by_hanging (Some x) at is =
         let same : x.place ≡ place = cc in
         ap (λ n. without_hanging p.entry.tid (with_end_at n (verdict_by p) k)) (sym same) ∙ sym (settled_some p k x run at)
+
+-- its act, or none
+pub settled_act_at : (p : Passed) (k : Kept) (place : ℕ) → is_run p.entry.kind ≡ true → option_map (λ x. x.place) (hanging_of k p.entry.tid) ≡ Some place
+    → ended_at place (verdict_by p) k ≡ settled_act p k
+settled_act_at p k place run is = by_hanging (hanging_of k p.entry.tid) refl is
+  where
+    by_hanging : (o : Option Hanging) → hanging_of k p.entry.tid ≡ o → option_map (λ x. x.place) o ≡ Some place → ended_at place (verdict_by p) k ≡ settled_act p k
+    by_hanging None at is = absurd cc
+    by_hanging (Some x) at is =
+        let same : x.place ≡ place = cc in
+        ap (λ n. ended_at n (verdict_by p) k) (sym same)
+        ∙ sym (ap (λ b. cond b (settled_act_by p (hanging_of k p.entry.tid) k) None) run ∙ ap (λ o. settled_act_by p o k) at)
+
+pub no_act_settled : (p : Passed) (k : Kept) → is_run p.entry.kind ≡ true → option_map (λ x. x.place) (hanging_of k p.entry.tid) ≡ None → None ≡ settled_act p k
+no_act_settled p k run is = by_hanging (hanging_of k p.entry.tid) refl is
+  where
+    by_hanging : (o : Option Hanging) → hanging_of k p.entry.tid ≡ o → option_map (λ x. x.place) o ≡ None → None ≡ settled_act p k
+    by_hanging None at is = sym (ap (λ b. cond b (settled_act_by p (hanging_of k p.entry.tid) k) None) run ∙ ap (λ o. settled_act_by p o k) at)
+    by_hanging (Some x) at is = absurd cc
+
+pub no_act_else : (p : Passed) (k : Kept) → is_run p.entry.kind ≡ false → None ≡ settled_act p k
+no_act_else p k other = sym (ap (λ b. cond b (settled_act_by p (hanging_of k p.entry.tid) k) None) other)
 
 -- as many acts as before
 pub length-settled : (p : Passed) (k : Kept) → length (settled p k).acts ≡ length k.acts
@@ -84,3 +107,26 @@ unfolding noted
 noted_alone p k none other =
     ap (λ o. noted_in o p (settled p k)) none
     ∙ ap (λ b. cond b (begun p (settled p k)) (with_act_alone p (settled p k))) other
+
+-- WHAT IS TOLD IN THEM
+
+pub turn_more : (p : Passed) (k : Kept) (g : Going) → going_on k p.entry.hart.0 ≡ Some g → is_more p ≡ true → None ≡ turn_noted p k
+unfolding turn_noted
+turn_more p k g on more =
+    sym (ap (λ o. turn_in o p k) on ∙ ap (λ b. cond b None (option_map Ends (stopped_act g p (settled p k)))) more)
+
+pub turn_stopped : (p : Passed) (k : Kept) (g : Going) → going_on k p.entry.hart.0 ≡ Some g → is_more p ≡ false
+    → option_map Ends (stopped_act g p (settled p k)) ≡ turn_noted p k
+unfolding turn_noted
+turn_stopped p k g on other =
+    sym (ap (λ o. turn_in o p k) on ∙ ap (λ b. cond b None (option_map Ends (stopped_act g p (settled p k)))) other)
+
+pub turn_begun : (p : Passed) (k : Kept) → going_on k p.entry.hart.0 ≡ None → begins p ≡ true → option_map Begins p.inside ≡ turn_noted p k
+unfolding turn_noted
+turn_begun p k none starts =
+    sym (ap (λ o. turn_in o p k) none ∙ ap (λ b. cond b (option_map Begins p.inside) (option_map Ends (settled_act p k))) starts)
+
+pub turn_alone : (p : Passed) (k : Kept) → going_on k p.entry.hart.0 ≡ None → begins p ≡ false → option_map Ends (settled_act p k) ≡ turn_noted p k
+unfolding turn_noted
+turn_alone p k none other =
+    sym (ap (λ o. turn_in o p k) none ∙ ap (λ b. cond b (option_map Begins p.inside) (option_map Ends (settled_act p k))) other)

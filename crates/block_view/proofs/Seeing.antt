@@ -72,6 +72,13 @@ module _ (m m' : Seen) (entry : Entry) (made : IsMadeBy m m' entry) where
       subst (λ events. IsRunHistory m.setting events) history_after
       (subst (λ s. IsRunHistory s (history m'.setting m'.log)) same_setting made.block_run.allowed)
 
+  -- it is of a hart of the machine
+  pub its_hart_lies : entry.hart.0 < m'.setting.limits.harts
+  its_hart_lies =
+      let lt = leb-false m.setting.limits.harts entry.hart.0 (open_at m.setting before entry.hart.0 (choice_of entry) entry made.decided).lt in
+      let same = ap (λ (s : Setting). s.limits.harts) same_setting in
+      omega arith
+
   -- its log is short
   pub log_is_short : InRange m.setting.limits → length m'.log < 2 ^ 32
   log_is_short limits =

@@ -39,15 +39,15 @@ use Rattle.block_view.proofs.Verdicts.{verdict_as}
 
 -- TESTS
 
-both : (a b : Bool) → (a && b) ≡ true → a ≡ true
+pub both : (a b : Bool) → (a && b) ≡ true → a ≡ true
 both true b is = refl
 both false b is = absurd (false≢true is)
 
-second : (a b : Bool) → (a && b) ≡ true → b ≡ true
+pub second : (a b : Bool) → (a && b) ≡ true → b ≡ true
 second true b is = is
 second false b is = absurd (false≢true is)
 
-run_is : (k : Kind) → is_run k ≡ true → k ≡ kind.Run
+pub run_is : (k : Kind) → is_run k ≡ true → k ≡ kind.Run
 run_is kind.Exec is = absurd (false≢true is)
 run_is kind.Drain is = absurd (false≢true is)
 run_is kind.Take is = absurd (false≢true is)
@@ -97,7 +97,7 @@ module _ (s : Setting) (e : Event) (before : History) (k : Kept) (run : IsRunHis
   others j other = still_on s e before j (ne_eqb h j (λ same. other (sym same)))
 
   -- an act stays as it is that isn't a sequence of the hart, nor one of the thread that begins to run
-  fixed : (x : Standing) → ((q : Known) → x ≡ Going q → q.hart ≢ h) → ((q : Known) → x ≡ Hanging q → begins_to_run q.thread e ≡ false)
+  pub fixed : (x : Standing) → ((q : Known) → x ≡ Going q → q.hart ≢ h) → ((q : Known) → x ≡ Hanging q → begins_to_run q.thread e ≡ false)
       → after s e before x ≡ x
   fixed (Over act) going hanging = refl
   fixed (Going q) going hanging = stays_going s e before q (ne_eqb h q.hart (λ same. going q refl (sym same)))
@@ -105,7 +105,7 @@ module _ (s : Setting) (e : Event) (before : History) (k : Kept) (run : IsRunHis
       ap (λ b. cond b (Over (act_of (record { sequence = q; end = end_at_verdict s q e before }))) (Hanging q)) (hanging q refl)
 
   -- the sequence of the hart after the event
-  own_on : on' h ≡ cond (is_inside_at s h before) (taken_up h e before (on h)) None
+  pub own_on : on' h ≡ cond (is_inside_at s h before) (taken_up h e before (on h)) None
   own_on = ap (λ b. cond (not b) (on h) (cond (is_inside_at s h before) (taken_up h e before (on h)) None)) (own_hart e)
 
   -- AN ACT BY ITSELF
@@ -140,7 +140,7 @@ module _ (s : Setting) (e : Event) (before : History) (k : Kept) (run : IsRunHis
   -- WHERE NO SEQUENCE GOES ON ON THE HART
 
   module _ (none : on h ≡ None) where
-    no_going : (i : ℕ) (x : Standing) → StandsAt acts i x → (q : Known) → x ≡ Going q → q.hart ≢ h
+    pub no_going : (i : ℕ) (x : Standing) → StandsAt acts i x → (q : Known) → x ≡ Going q → q.hart ≢ h
     no_going i x at q is same =
         something (sym (going_is_on s before i q (at ∙ ap Some is)) ∙ ap on same ∙ none)
 
@@ -161,7 +161,7 @@ module _ (s : Setting) (e : Event) (before : History) (k : Kept) (run : IsRunHis
     }
 
     -- or one ends that hangs
-    its_thread : (q : Known) → begins_to_run q.thread e ≡ true → e.entry.tid.0 ≡ q.thread
+    pub its_thread : (q : Known) → begins_to_run q.thread e ≡ true → e.entry.tid.0 ≡ q.thread
     its_thread q begins_to = eqb-true e.entry.tid.0 q.thread (second (is_run e.entry.kind) (eqb e.entry.tid.0 q.thread) begins_to)
 
     module _ (now : on' h ≡ None) (runs : is_run e.entry.kind ≡ true) (i : ℕ) (q : Known) (stood : StandsAt acts i (Hanging q))
@@ -274,38 +274,38 @@ module _ (s : Setting) (e : Event) (before : History) (k : Kept) (run : IsRunHis
   -- WHERE A SEQUENCE GOES ON ON THE HART
 
   module _ (q : Known) (was : on h ≡ Some q) where
-    among : IsAmong s before q
+    pub among : IsAmong s before q
     among = on_is_going s before h q was
 
-    own : q.hart ≡ h
+    pub own : q.hart ≡ h
     own = hart_is s before h q was
 
-    own_event : is_of_hart q.hart e ≡ true
+    pub own_event : is_of_hart q.hart e ≡ true
     own_event = ap (λ j. is_of_hart j e) own ∙ own_hart e
 
-    own_inside : is_inside_at s q.hart before ≡ is_inside_at s h before
+    pub own_inside : is_inside_at s q.hart before ≡ is_inside_at s h before
     own_inside = ap (λ j. is_inside_at s j before) own
 
     g : KeptGoing
     g = going_at s among.place q
 
-    kept_on : going_on k h ≡ Some (going_at s among.place q)
+    pub kept_on : going_on k h ≡ Some (going_at s among.place q)
     kept_on = ap (going_on k) (sym own) ∙ tied.going among.place q among.at
 
     -- its thread runs there, so that none begins to run
-    isnt_run : is_run e.entry.kind ≡ false
+    pub isnt_run : is_run e.entry.kind ≡ false
     isnt_run = false_from_ne_true (is_run e.entry.kind)
         (λ runs.
         let free = ap (λ x. refusal_of (choice_with x e.entry) (here_in_history s before h)) (sym (run_is e.entry.kind runs)) ∙ (made_at s e before run).free in
         let idle = (run_ready (here_in_history s before h) e.entry.tid.0 free).0 in
         something (sym ((whole_place s before run.0).runs h q was).now ∙ idle))
 
-    settled_so : settled (passed_of s e before) k ≡ k
+    pub settled_so : settled (passed_of s e before) k ≡ k
     unfolding passed_of
     settled_so = settled_else (passed_of s e before) k isnt_run
 
     -- no other act changes
-    other_acts : (j : ℕ) (y : Standing) → StandsAt acts j y → j ≢ among.place → after s e before y ≡ y
+    pub other_acts : (j : ℕ) (y : Standing) → StandsAt acts j y → j ≢ among.place → after s e before y ≡ y
     other_acts j y at other =
         fixed y (λ r is same. other (one_going s before j among.place r q (at ∙ ap Some is) among.at (same ∙ sym own)))
         (λ r is. ap (λ b. b && eqb e.entry.tid.0 r.thread) isnt_run)
@@ -365,7 +365,7 @@ module _ (s : Setting) (e : Event) (before : History) (k : Kept) (run : IsRunHis
       ended_by : Standing
       ended_by = Over (act_of (record { sequence = q; end = end_before s q e before }))
 
-      becomes_by : (b : Bool) → (is_inside_at s q.hart before && is_preempt e.entry.kind) ≡ b
+      pub becomes_by : (b : Bool) → (is_inside_at s q.hart before && is_preempt e.entry.kind) ≡ b
           → after s e before (Going q) ≡ cond b (Hanging q) (Over (act_of (record { sequence = q; end = end_before s q e before })))
       becomes_by b is =
           let over = Over (act_of (record { sequence = q; end = end_before s q e before })) in
@@ -461,7 +461,7 @@ module _ (s : Setting) (e : Event) (before : History) (k : Kept) (run : IsRunHis
           tied_ended stays (ap (λ b. b && is_preempt e.entry.kind) own_inside ∙ sym (leaves_as s e before) ∙ stays)
 
     -- the sequence of the hart after an event that isn't of it
-    over_by : (inside taken : Bool) → (inside && taken) ≡ false → cond inside (cond taken (Some (with_event e before q)) None) None ≡ None
+    pub over_by : (inside taken : Bool) → (inside && taken) ≡ false → cond inside (cond taken (Some (with_event e before q)) None) None ≡ None
     over_by true true is = absurd (false≢true (sym is))
     over_by true false is = refl
     over_by false taken is = refl
@@ -484,7 +484,7 @@ module _ (s : Setting) (e : Event) (before : History) (k : Kept) (run : IsRunHis
   none_by true false is = refl
   none_by false instruction is = refl
 
-  none_now : on h ≡ None → begins (passed_of s e before) ≡ false → on' h ≡ None
+  pub none_now : on h ≡ None → begins (passed_of s e before) ≡ false → on' h ≡ None
   none_now none other =
       own_on
       ∙ ap (λ o. cond (is_inside_at s h before) (taken_up h e before o) None) none

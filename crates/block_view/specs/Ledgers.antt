@@ -1,6 +1,6 @@
 -- What an entry makes of the acts so far, as a ledger keeps them.
-use Rattle.std.specs.Prelude.{ℕ, ◌≡◌, ◌<◌, ◌==◌, zero, suc, List, [], ◌∷◌, ◌++◌, length, filter, find, replicate, slice_set, slice_index_or, Bool, true, false, ◌&&◌, ◌||◌, not, if◌then◌else◌, Option, Some, None, is_none, is_some}
-use Rattle.std.specs.Option.{option_map_or}
+use Rattle.std.specs.Prelude.{ℕ, ◌+◌, ◌≡◌, ◌<◌, ◌==◌, zero, suc, List, [], ◌∷◌, ◌++◌, length, filter, find, replicate, slice_get, slice_set, slice_index_or, Bool, true, false, ◌&&◌, ◌||◌, not, if◌then◌else◌, Option, Some, None, is_none, is_some}
+use Rattle.std.specs.Option.{option_map, option_map_or}
 use Rattle.mach_types.specs.Kernel.Areas.{is_inside}
 use Rattle.mach_types.specs.declared.events.Kind.{Kind}
 use Rattle.mach_types.specs.declared.events.Kind.TheVariants as kind
@@ -17,6 +17,8 @@ use Rattle.block_view.specs.declared.ledger.Going.{Going}
 use Rattle.block_view.specs.declared.ledger.Hanging.{Hanging}
 use Rattle.block_view.specs.declared.ledger.Ledger.{Ledger}
 use Rattle.block_view.specs.declared.passing.Passed.{Passed}
+use Rattle.block_view.specs.declared.turns.Turn.{Turn}
+use Rattle.block_view.specs.declared.turns.Turn.TheVariants.{Begins, Ends}
 
 -- WHAT AN ENTRY IS
 
@@ -98,6 +100,22 @@ is_of tid x = x.tid.0 == tid.0
 
 abbrev pub hanging_of : Kept → Tid → Option Hanging
 hanging_of k tid = find (is_of tid) k.hanging
+
+-- whether an act at a place is that of a sequence which goes on or hangs
+abbrev pub is_place : ℕ → Option ℕ → Bool
+is_place place o = option_map_or (λ n. n == place) o false
+
+abbrev pub is_open : Kept → ℕ → Act → Bool
+is_open k place act =
+    is_place place (option_map (λ g. g.place) (going_on k act.hart.0)) || is_place place (option_map (λ x. x.place) (hanging_of k act.tid))
+
+-- of an act at a place, and of acts from a place on, those of such sequences
+abbrev pub open_one : Kept → ℕ → Act → List Act
+open_one k place act = if is_open k place act then act ∷ [] else []
+
+abbrev pub open_from : Kept → ℕ → List Act → List Act
+open_from k place [] = []
+open_from k place (act ∷ acts) = open_one k place act ++ open_from k (place + 1) acts
 
 -- each place is that of an act
 pub record HasPlaces (k : Kept) : Type 0 where
@@ -184,7 +202,33 @@ abbrev pub noted_in : Option Going → Passed → Kept → Kept
 noted_in None p k = if begins p then begun p k else with_act_alone p k
 noted_in (Some g) p k = if is_more p then taken_in g p k else with_act_alone p (stopped g p k)
 
--- one entry more
+-- WHAT IS TOLD OF IT
+
+-- the act at a place, once it ends
+abbrev pub ended_at : ℕ → SeqEnd → Kept → Option Act
+ended_at place end k = option_map (with_end end) (slice_get k.acts place)
+
+-- the sequence of the thread that begins to run, if one hangs; and the one that goes on no longer, unless it hangs
+abbrev pub settled_act_by : Passed → Option Hanging → Kept → Option Act
+settled_act_by p None k = None
+settled_act_by p (Some x) k = ended_at x.place (verdict_by p) k
+
+abbrev pub settled_act : Passed → Kept → Option Act
+settled_act p k = if is_run p.entry.kind then settled_act_by p (hanging_of k p.entry.tid) k else None
+
+abbrev pub stopped_act : Going → Passed → Kept → Option Act
+stopped_act g p k = if leaves_inside p then None else ended_at g.place (end_by g p) k
+
+-- where a sequence goes on on its hart, and where none does
+abbrev pub turn_in : Option Going → Passed → Kept → Option Turn
+turn_in None p k = if begins p then option_map Begins p.inside else option_map Ends (settled_act p k)
+turn_in (Some g) p k = if is_more p then None else option_map Ends (stopped_act g p (settled p k))
+
+unfoldable pub turn_noted : Passed → Kept → Option Turn
+turn_noted p k = turn_in (going_on k p.entry.hart.0) p k
+
+-- ONE ENTRY MORE
+
 unfoldable pub noted : Passed → Kept → Kept
 noted p k = noted_in (going_on k p.entry.hart.0) p (settled p k)
 

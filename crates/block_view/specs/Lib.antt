@@ -6,4 +6,5 @@ pub mod Ledgers
 pub mod Passing
 pub mod Standing
 pub mod Tied
+pub mod Turns
 pub mod Viewing

@@ -1,5 +1,5 @@
 -- What is seen of an entry as it is made again: of its hart before it, of what it did, and of its hart after it.
-use Rattle.std.specs.Prelude.{ℕ, ◌≡◌, ◌++◌, [], ◌∷◌, Bool, true, false, ◌&&◌, not, if◌then◌else◌, Ok, Option, Some, None, is_some}
+use Rattle.std.specs.Prelude.{ℕ, ◌≡◌, ◌++◌, [], ◌∷◌, Bool, true, false, ◌&&◌, not, if◌then◌else◌, Ok, Option, Some, None, is_none, is_some}
 use Rattle.std.specs.Option.{option_map_or}
 use Rattle.mach_types.specs.Events.{choice_of}
 use Rattle.mach_types.specs.Kernel.Areas.{is_inside}
@@ -13,10 +13,11 @@ use Rattle.mach_types.specs.declared.sequences.Named.TheVariants as names
 use Rattle.mach_types.specs.declared.sequences.Seq.{Seq}
 use Rattle.block_model.specs.Acts.{named_at}
 use Rattle.block_model.specs.Deciding.{decide, event, history}
-use Rattle.block_model.specs.History.{Event, History, file, running}
+use Rattle.block_model.specs.History.{Event, History, file, restart, running}
 use Rattle.block_model.specs.Run.{IsBlockRun}
 use Rattle.block_model.specs.Setting.{Setting, Seen}
 use Rattle.block_view.specs.Acts.{next_number}
+use Rattle.block_view.specs.declared.passing.Ahead.{Ahead}
 use Rattle.block_view.specs.declared.passing.Passed.{Passed}
 
 -- the sequence that a thread at a pc is inside, by what its area names
@@ -80,3 +81,9 @@ pub record IsMadeBy (m m' : Seen) (entry : Entry) : Type 0 where
 pub record IsMadeAgain (m m' : Seen) (entry : Entry) (passed : Passed) : Type 0 where
   pub made : IsMadeBy m m' entry
   pub seen : passed ≡ passed_of m.setting (event m.setting (history m.setting m.log) entry) (history m.setting m.log)
+
+-- this is seen of its hart ahead of an entry: the sequence that its thread is inside, and whether the entry would interrupt a thread
+pub record IsAhead (m : Seen) (entry : Entry) (ahead : Ahead) : Type 0 where
+  pub inside : ahead.inside ≡ inside_at m.setting entry.hart.0 (history m.setting m.log)
+  pub interrupts : ahead.interrupts
+      ≡ would_interrupt entry.kind (restart entry.hart.0 (history m.setting m.log)) (is_none (running m.setting entry.hart.0 (history m.setting m.log)))

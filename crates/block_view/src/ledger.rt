@@ -1,11 +1,13 @@
 //! The acts so far, while a log is gone through.
 
-ghost use Rattle.std.specs.Prelude.{◌≡◌, ◌<◌, IfOk, OnOk, length};
+ghost use Rattle.std.specs.Prelude.{◌≡◌, ◌<◌, ◌++◌, IfOk, OnOk, Some, length};
 ghost use Rattle.std.specs.Option.{option_map};
-ghost use Rattle.block_view.specs.Ledgers.{HasPlaces, act_by, begun, closed, end_by, end_here, gone_on, hanging_of, hung_or_ended, kept_in, left_or_dropped, noted, nothing_kept, settled, stopped, taken_in, with_act, with_end_at, with_hanging, without_hanging};
+ghost use Rattle.block_view.specs.Ledgers.{HasPlaces, act_by, begun, closed, end_by, end_here, ended_at, going_on, gone_on, hanging_of, hung_or_ended, is_open, is_place, kept_in, left_or_dropped, noted, nothing_kept, open_from, open_one, settled, settled_act, stopped, stopped_act, taken_in, turn_noted, with_act, with_end_at, with_hanging, without_hanging};
+ghost use Rattle.block_view.specs.declared.turns.Turn.TheVariants.{Ends};
 
 use crate::forms::{Act, Form};
 use crate::passing::Passed;
+use crate::turns::Turn;
 use block_model::SeqEnd;
 use mach_types::{Hart, Tid};
 use std::alloc::{AllocError, Global};
@@ -89,7 +91,7 @@ pub(crate) struct Hanging {
 
 /// The acts so far. A sequence that has no end yet is listed as unended.
 #[derive(Drop)]
-pub(crate) struct Ledger {
+pub struct Ledger {
     /// The acts, in the order of their first entries.
     pub(crate) list: Vec<Act>,
     /// The sequence that goes on, of each hart.
@@ -109,9 +111,29 @@ fn none_going(alloc: Global, harts: u8) -> Result<Vec<Option<Going>>, AllocError
     Ok(going)
 }
 
+/// Whether a place that was found, if one was, is this.
+fn is_place(place: usize, found: Option<usize>) -> bool
+    ensures { result ≡ is_place place found }
+{
+    match found {
+        Some(at) => at == place,
+        None => false,
+    }
+}
+
+/// The turn by which a sequence ends, if one does.
+fn ending(act: Option<Act>) -> Option<Turn>
+    ensures { result ≡ option_map Ends act }
+{
+    match act {
+        Some(act) => Some(Turn::Ends(act)),
+        None => None,
+    }
+}
+
 impl Ledger {
     /// That of a log with no entries, on so many harts.
-    pub(crate) fn new(alloc: Global, harts: u8) -> Result<Ledger, AllocError>
+    pub(crate) fn empty(alloc: Global, harts: u8) -> Result<Ledger, AllocError>
         ensures { IfOk result (λ ledger. kept_in ledger ≡ nothing_kept harts) }
     {
         Ok(Ledger {
@@ -121,25 +143,33 @@ impl Ledger {
         })
     }
 
-    /// Takes one entry more.
-    pub(crate) fn note(&mut self, passed: &Passed) -> Result<(), AllocError>
+    /// Takes one entry more, and answers what it makes of the sequences.
+    pub(crate) fn note(&mut self, passed: &Passed) -> Result<Option<Turn>, AllocError>
         requires hart { passed.now.entry.hart.0 < length self.old.going.items }
         requires places { HasPlaces (kept_in self.old) }
-        ensures { OnOk result (kept_in self.new ≡ noted passed.now (kept_in self.old)) }
+        ensures noted { OnOk result (kept_in self.new ≡ noted passed.now (kept_in self.old)) }
+        ensures turn { IfOk result (λ turn. turn ≡ turn_noted passed.now (kept_in self.old)) }
     {
         let going = self.going[passed.hart()];
-        self.settle(passed);
+        let settled = self.settle(passed);
         match going {
             Some(going) if passed.is_taken_in() => {
                 self.go_on(going, passed);
-                Ok(())
+                Ok(None)
             }
             Some(going) => {
-                self.stop(going, passed)?;
-                self.add(passed, passed.form_alone())
+                let stopped = self.stop(going, passed)?;
+                self.add(passed, passed.form_alone())?;
+                Ok(ending(stopped))
             }
-            None if passed.begins() => self.begin(passed),
-            None => self.add(passed, passed.form_alone()),
+            None if passed.begins() => {
+                self.begin(passed)?;
+                Ok(passed.beginning())
+            }
+            None => {
+                self.add(passed, passed.form_alone())?;
+                Ok(ending(settled))
+            }
         }
     }
 
@@ -182,54 +212,61 @@ impl Ledger {
         self.going[passed.hart()] = Some(going.gone_on(passed));
     }
 
-    /// A sequence goes on no longer: it hangs where its thread is preempted inside, and else ends with this entry.
-    fn stop(&mut self, going: Going, passed: &Passed) -> Result<(), AllocError>
+    /// A sequence goes on no longer: it hangs where its thread is preempted inside, and else ends with this entry. Answers its act
+    /// where it ends.
+    fn stop(&mut self, going: Going, passed: &Passed) -> Result<Option<Act>, AllocError>
         requires hart { passed.now.entry.hart.0 < length self.old.going.items }
         requires place { going.place < length self.old.list.items }
-        ensures { OnOk result (kept_in self.new ≡ stopped going passed.now (kept_in self.old)) }
+        ensures stopped { OnOk result (kept_in self.new ≡ stopped going passed.now (kept_in self.old)) }
+        ensures act { IfOk result (λ act. act ≡ stopped_act going passed.now (kept_in self.old)) }
     {
-        self.hang_or_end(going, passed)?;
+        let ended = self.hang_or_end(going, passed)?;
         self.going[passed.hart()] = None;
-        Ok(())
+        Ok(ended)
     }
 
-    /// A sequence hangs where its thread is preempted inside, and else ends with this entry.
-    fn hang_or_end(&mut self, going: Going, passed: &Passed) -> Result<(), AllocError>
+    /// A sequence hangs where its thread is preempted inside, and else ends with this entry. Answers its act where it ends.
+    fn hang_or_end(&mut self, going: Going, passed: &Passed) -> Result<Option<Act>, AllocError>
         requires { going.place < length self.old.list.items }
-        ensures { OnOk result (kept_in self.new ≡ hung_or_ended going passed.now (kept_in self.old)) }
+        ensures kept { OnOk result (kept_in self.new ≡ hung_or_ended going passed.now (kept_in self.old)) }
+        ensures act { IfOk result (λ act. act ≡ stopped_act going passed.now (kept_in self.old)) }
     {
         if passed.leaves_inside() {
             self.hanging.push(Hanging {
                 tid: passed.entry.tid,
                 place: going.place,
             })?;
-        } else {
-            self.end_at(going.place, going.end_before(passed));
+            return Ok(None);
         }
-        Ok(())
+        Ok(Some(self.end_at(going.place, going.end_before(passed))))
     }
 
-    /// The sequence whose act stands at a place ends.
-    fn end_at(&mut self, place: usize, end: SeqEnd)
+    /// The sequence whose act stands at a place ends. Answers its act.
+    fn end_at(&mut self, place: usize, end: SeqEnd) -> Act
         requires { place < length self.old.list.items }
-        ensures { kept_in self.new ≡ with_end_at place end (kept_in self.old) }
+        ensures kept { kept_in self.new ≡ with_end_at place end (kept_in self.old) }
+        ensures act { Some result ≡ ended_at place end (kept_in self.old) }
     {
         self.list[place].form = Form::Sequence(end);
+        self.list[place]
     }
 
-    /// Ends the sequence that hangs of the thread that begins to run by this entry, if it does and one hangs.
-    fn settle(&mut self, passed: &Passed)
+    /// Ends the sequence that hangs of the thread that begins to run by this entry, if it does and one hangs, and answers its act.
+    fn settle(&mut self, passed: &Passed) -> Option<Act>
         requires { HasPlaces (kept_in self.old) }
-        ensures { kept_in self.new ≡ settled passed.now (kept_in self.old) }
+        ensures settled { kept_in self.new ≡ settled passed.now (kept_in self.old) }
+        ensures act { result ≡ settled_act passed.now (kept_in self.old) }
     {
         if !passed.runs() {
-            return;
+            return None;
         }
         let tid = passed.entry.tid;
-        if let Some(place) = self.place_of_hanging(tid) {
-            self.end_at(place, passed.verdict());
-            self.forget(tid);
-        }
+        let Some(place) = self.place_of_hanging(tid) else {
+            return None;
+        };
+        let ended = self.end_at(place, passed.verdict());
+        self.forget(tid);
+        Some(ended)
     }
 
     /// No sequence of a thread hangs any more.
@@ -249,6 +286,50 @@ impl Ledger {
             }
         }
         None
+    }
+
+    /// Where the act of the sequence stands that goes on on a hart.
+    fn place_of_going(&self, hart: Hart) -> Option<usize>
+        ensures { result ≡ option_map (λ g. g.place) (going_on (kept_in self.now) hart.0) }
+    {
+        let index = usize::from(hart.0);
+        if index >= self.going.len() {
+            return None;
+        }
+        match self.going[index] {
+            Some(going) => Some(going.place),
+            None => None,
+        }
+    }
+
+    /// Whether an act at a place is that of a sequence which goes on or hangs.
+    fn is_open(&self, place: usize, act: &Act) -> bool
+        ensures { result ≡ is_open (kept_in self.now) place act.now }
+    {
+        is_place(place, self.place_of_going(act.hart))
+            || is_place(place, self.place_of_hanging(act.tid))
+    }
+
+    /// The acts of the sequences that go on or hang, in the order of their first entries.
+    pub(crate) fn open_acts(&self, alloc: Global) -> Result<Vec<Act>, AllocError>
+        ensures { IfOk result (λ acts. acts.items ≡ open_from (kept_in self.now) 0 self.now.list.items) }
+    {
+        let mut acts = Vec::new(alloc);
+        for place in 0..self.list.len() {
+            self.tell_if_open(&mut acts, place, self.list[place])?;
+        }
+        Ok(acts)
+    }
+
+    /// Adds an act at a place to others, where it is that of a sequence which goes on or hangs.
+    fn tell_if_open(&self, acts: &mut Vec<Act>, place: usize, act: Act) -> Result<(), AllocError>
+        ensures { OnOk result (acts.new.items ≡ acts.old.items ++ open_one (kept_in self.now) place act) }
+    {
+        if !self.is_open(place, &act) {
+            return Ok(());
+        }
+        acts.push(act)?;
+        Ok(())
     }
 
     /// Ends the sequence of a hart that goes on where the log ends.

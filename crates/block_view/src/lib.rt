@@ -1,21 +1,25 @@
 //! The acts of a log: each restartable sequence as one act with the way that it ended, and each other event by itself.
 //!
 //! [`acts`] goes through the log once, on a machine that makes its events again; [`counts`] says how many acts of each form a
-//! hart has.
+//! hart has. A [`Ledger`] tells of each entry which restartable sequence begins or has ended with it.
 #![tactic(auto)]
 
 mod counting;
+mod following;
 mod forms;
 mod ledger;
 mod passing;
 mod tally;
 mod theorems;
+mod turns;
 mod viewing;
 
 pub use block_model::SeqEnd;
 pub use counting::counts;
 pub use forms::{Act, Acts, Form, form_word};
-pub use passing::{Passed, inside, make_again, make_named};
+pub use ledger::Ledger;
+pub use passing::{Ahead, Passed, inside, make_again, make_named, seen_after, seen_ahead};
 pub use tally::Counts;
 pub use theorems::{acts_cover_the_log, counts_add_up};
+pub use turns::Turn;
 pub use viewing::{ViewFault, acts};

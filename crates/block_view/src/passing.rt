@@ -1,15 +1,19 @@
 //! An entry of a log as it is made again, and what is seen of its hart before it and after it.
 
 ghost use Rattle.std.specs.Prelude.{◌≡◌, ◌<◌, ◌↔◌, false, IfSome, IfNone, IsTrue, is_none};
+ghost use Rattle.std.specs.Option.{option_map};
 ghost use Rattle.mach_types.specs.Limits.{InRange};
 ghost use Rattle.block_model.specs.Deciding.{history};
 ghost use Rattle.block_model.specs.History.{restart, running};
 ghost use Rattle.block_model.specs.Acts.{is_instruction, named_at};
+ghost use Rattle.block_model.specs.Setting.{Seen};
 ghost use Rattle.block_view.specs.Acts.{form_alone, is_run};
 ghost use Rattle.block_view.specs.Ledgers.{begins, is_fatal, is_more, leaves_inside, moves_out, takes, verdict_by};
-ghost use Rattle.block_view.specs.Passing.{IsDecided, IsMadeAgain, IsMadeBy, inside_at, is_by_signal, would_interrupt};
+ghost use Rattle.block_view.specs.Passing.{IsAhead, IsDecided, IsMadeAgain, IsMadeBy, inside_at, is_by_signal, would_interrupt};
+ghost use Rattle.block_view.specs.declared.turns.Turn.TheVariants.{Begins};
 
 use crate::forms::Form;
+use crate::turns::Turn;
 use block_model::SeqEnd;
 use mach_types::{End, Entry, Hart, Kind, Named, Seq};
 use machine_core::Machine;
@@ -65,6 +69,16 @@ impl Passed {
         ensures { result ≡ begins self.now }
     {
         self.inside.is_some() && self.executes()
+    }
+
+    /// The turn by which a sequence begins with it.
+    pub fn beginning(&self) -> Option<Turn>
+        ensures { result ≡ option_map Begins self.now.inside }
+    {
+        match self.inside {
+            Some(sequence) => Some(Turn::Begins(sequence)),
+            None => None,
+        }
     }
 
     /// Whether the sequence that its hart was in takes it in.
@@ -204,18 +218,55 @@ pub fn make_named(machine: &mut Machine, entry: Entry, named: &Named) -> Option<
     ensures made { IfSome result (IsMadeAgain machine.old machine.new entry) }
     ensures refused { IfNone result (IsDecided machine.old entry → ⊥) }
 {
-    let hart = entry.hart;
-    let inside = inside_named(machine, hart, named);
-    let interrupts = interrupts(machine, hart, entry.kind);
+    let ahead = named_ahead(machine, entry, named);
     if !make(machine, entry) {
         return None;
     }
-    Some(Passed {
+    Some(seen_after(machine, entry, ahead))
+}
+
+/// What is seen of a hart ahead of an entry.
+#[derive(Clone, Copy, Drop)]
+pub struct Ahead {
+    /// The sequence that its thread is inside, if it is inside one.
+    pub inside: Option<Seq>,
+    /// Whether the entry would interrupt a thread (rseq(2)).
+    pub interrupts: bool,
+}
+
+/// What is seen of its hart ahead of an entry, which must be of one of the machine's harts.
+pub fn seen_ahead(machine: &Machine, entry: Entry) -> Ahead
+    requires { entry.hart.0 < machine.now.setting.limits.harts }
+    ensures { IsAhead machine.now entry result }
+{
+    named_ahead(machine, entry, &machine.named(entry.hart))
+}
+
+/// The same, where the area of its hart's thread names this.
+fn named_ahead(machine: &Machine, entry: Entry, named: &Named) -> Ahead
+    requires hart { entry.hart.0 < machine.now.setting.limits.harts }
+    requires named { named.now ≡ named_at machine.now.setting entry.hart.0 (history machine.now.setting machine.now.log) }
+    ensures { IsAhead machine.now entry result }
+{
+    Ahead {
+        inside: inside_named(machine, entry.hart, named),
+        interrupts: interrupts(machine, entry.hart, entry.kind),
+    }
+}
+
+/// What is seen of an entry that a machine has made last, where this was seen ahead of it. The machine must have made it.
+pub fn seen_after(machine: &Machine, entry: Entry, ahead: Ahead) -> Passed
+    requires limits { InRange machine.now.setting.limits }
+    requires made { (m : Seen) × IsMadeBy m machine.now entry }
+    ensures { (m : Seen) → IsMadeBy m machine.now entry → IsAhead m entry ahead
+        → IsMadeAgain m machine.now entry result }
+{
+    Passed {
         number: machine.log().len() as u32,
         entry,
-        inside,
-        interrupts,
+        inside: ahead.inside,
+        interrupts: ahead.interrupts,
         killed: is_by_signal(machine.end()),
-        pc: machine.hart(hart).pc,
-    })
+        pc: machine.hart(entry.hart).pc,
+    }
 }

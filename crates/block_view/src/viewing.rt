@@ -55,25 +55,26 @@ pub fn acts(alloc: Global, image: &Image, limits: &Limits, log: &[Entry]) -> Res
     ensures cause { IfErr result (IsViewCause (setting_of image.now limits.now) log.now) }
 {
     let mut machine = Machine::boot(alloc, image, *limits, NO_SEED)?;
-    let mut ledger = Ledger::new(alloc, limits.harts)?;
+    let mut ledger = Ledger::empty(alloc, limits.harts)?;
     for entry in log {
         let number = machine.log().len() as u32 + 1;
         let Some(passed) = make_again(&mut machine, limits.harts, *entry) else {
             return Err(ViewFault::NotARun(number));
         };
-        ledger.note(&passed)?;
+        let _turn = ledger.note(&passed)?;
     }
     close(&mut ledger, &machine, limits.harts);
     Ok(Acts { list: ledger.list })
 }
 
 /// Ends what goes on where the log of a machine with so many harts ends.
-fn close(ledger: &mut Ledger, machine: &Machine, harts: u8)
+pub(crate) fn close(ledger: &mut Ledger, machine: &Machine, harts: u8)
     requires harts { harts ≡ machine.now.setting.limits.harts }
     requires tied { IsTied machine.now.setting (history machine.now.setting machine.now.log)
         (kept_in ledger.old) }
-    ensures { let s = machine.now.setting in let all = history s machine.now.log in
+    ensures acts { let s = machine.now.setting in let all = history s machine.now.log in
         ledger.new.list.items ≡ map (at_the_end s all []) (standings s all) }
+    ensures others { kept_in ledger.new ≡ record (kept_in ledger.old) { acts = ledger.new.list.items } }
 {
     for hart in 0..harts {
         let hart = Hart(hart);

@@ -8,3 +8,4 @@ mod ShownRuns
 mod SoloSteps
 mod Stretches
 mod Summaries
+mod ToldLogs

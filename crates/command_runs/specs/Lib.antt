@@ -1,3 +1,4 @@
 pub mod Pieces
 pub mod Playing
 pub mod Sharing
+pub mod Tracing

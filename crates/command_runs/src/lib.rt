@@ -12,6 +12,7 @@ mod shared;
 mod solo;
 mod summary;
 mod texts;
+mod tracing;
 
 pub use output::Output;
 pub use pairs::{pair_output, play_pair};

@@ -13,6 +13,7 @@ use crate::acts::{acts_of_run, acts_text};
 use crate::gather::gathered_log;
 use crate::output::{Output, output_with, push_console, run_output};
 use crate::summary::{push_summary, summary_text};
+use crate::tracing::trace_text;
 use command_words::{Run, Shown};
 use elf_load::Image;
 use mach_types::Limits;
@@ -47,6 +48,10 @@ pub fn shown_text(
         Shown::Gathered => {
             let log = gathered_log(alloc, image, &run.limits, &machine)?;
             output_with(alloc, &machine, log)
+        }
+        Shown::Trace(span) => {
+            let text = trace_text(alloc, image, &run.limits, &span, &machine)?;
+            Ok(Output::whole(text))
         }
     }
 }

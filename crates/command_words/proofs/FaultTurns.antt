@@ -6,7 +6,7 @@ use Rattle.std.proofs.lemmas.Bool.{and_parts}
 use Rattle.std.specs.Option.{is_some}
 use Rattle.step_log.specs.Script.{◌>>=◌}
 use Rattle.command_words.specs.Grammar.{Arguments, Item, Name, Given, asked_by, suits}
-use Rattle.command_words.specs.Options.{OptionName, Harts, Frames, Steps, Seed, Policy, Calm, After, RunCount, Until, By, Jobs}
+use Rattle.command_words.specs.Options.{OptionName, Harts, Frames, Steps, Seed, Policy, Calm, After, RunCount, Until, By, Jobs, From, To}
 use Rattle.command_words.specs.Takes.{OptionSet, Takes, has, takes_of}
 use Rattle.command_words.specs.Takes.{with_option as with_one}
 use Rattle.command_words.specs.WordFaults.{SoFar, kind_at}
@@ -34,6 +34,8 @@ given_options given = record {
   until = is_some (given.values Until);
   by = is_some (given.values By);
   jobs = is_some (given.values Jobs);
+  from = is_some (given.values From);
+  to = is_some (given.values To);
 }
 
 -- how far the words are read that give so many names and these options, or these arguments
@@ -58,6 +60,8 @@ has_given RunCount given = refl
 has_given Until given = refl
 has_given By given = refl
 has_given Jobs given = refl
+has_given From given = refl
+has_given To given = refl
 
 -- with a value more the names stay
 pub names_same : (option : OptionName) (text : List ℕ) (given : Arguments)
@@ -78,6 +82,8 @@ options_after RunCount text given = refl
 options_after Until text given = refl
 options_after By text given = refl
 options_after Jobs text given = refl
+options_after From text given = refl
+options_after To text given = refl
 
 -- with this value
 pub own_value : (option : OptionName) (text : List ℕ) (given : Arguments)

@@ -17,7 +17,7 @@ use Rattle.command_words.specs.Commands.{Command}
 use Rattle.command_words.specs.Grammar.{Arguments, AreWritten, Given, IsCommandLine, IsLine}
 use Rattle.command_words.specs.Grammar.{IsWritten, Item, Name, arguments_in, asked_by, names_in}
 use Rattle.command_words.specs.Grammar.{values_in, begins_with_dash, command_in, is_option}
-use Rattle.command_words.specs.Options.{OptionName, Harts, Frames, Steps, Seed, Policy, Calm, After, RunCount, Until, By, Jobs, all_options, option_named}
+use Rattle.command_words.specs.Options.{OptionName, Harts, Frames, Steps, Seed, Policy, Calm, After, RunCount, Until, By, Jobs, From, To, all_options, option_named}
 use Rattle.command_words.specs.Options.{option_word}
 use Rattle.command_words.specs.Words.{Reading, Options, Value, Names, arguments_of, behind_equals, command_of}
 use Rattle.command_words.specs.Words.{few_arguments, is_equals, items, option_read, word_read}
@@ -306,6 +306,18 @@ joined_read Jobs text =
       longer_than 6 (codes "--jobs=") text
           (omega arith),
     )
+joined_read From text =
+    simp (
+      longer_than 1 (codes "--from=") text (omega arith),
+      longer_than 6 (codes "--from=") text
+          (omega arith),
+    )
+joined_read To text =
+    simp (
+      longer_than 1 (codes "--to=") text (omega arith),
+      longer_than 4 (codes "--to=") text
+          (omega arith),
+    )
 
 option_alone : (option : OptionName) → word_read Options (option_word option) ≡ Some (None, Value option)
 option_alone Harts = refl
@@ -319,6 +331,8 @@ option_alone RunCount = refl
 option_alone Until = refl
 option_alone By = refl
 option_alone Jobs = refl
+option_alone From = refl
+option_alone To = refl
 
 value_read : (option : OptionName) (text : List ℕ) → begins_with_dash text ≡ false
     → word_read (Value option) text ≡ Some (Some (Given option text), Options)

@@ -1,14 +1,15 @@
 -- Worked examples of words, by computation.
 use Rattle.std.proofs.Common.{◌≡◌, ℕ, ◌-◌, ◌^◌, List, [], ◌∷◌, Option, Some, None, refl, codes}
 use Rattle.mach_types.specs.declared.limits.Limits.{Limits}
-use Rattle.command_words.specs.declared.table.Shown.{Shown}
-use Rattle.command_words.specs.declared.table.Shown.TheVariants.{Output, Summary, Place, Gathered}
 use Rattle.draw_policies.specs.declared.policies.Policies.{Policies}
 use Rattle.draw_policies.specs.declared.policies.Policies.TheVariants.{All, Only}
 use Rattle.draw_policies.specs.declared.policies.Policy.TheVariants as policy
 use Rattle.guest_names.specs.declared.names.Name.TheVariants.{Counter, Migrate}
 use Rattle.command_words.specs.Commands.{Command, Runs, Makes, Tries, Explores, Pairs, Source, Rule, Script, Workers, Drawn, DrawnAfter}
+use Rattle.command_words.specs.declared.commands.LineSpan.{LineSpan}
 use Rattle.command_words.specs.declared.commands.Settings.{Settings}
+use Rattle.command_words.specs.declared.commands.Shown.{Shown}
+use Rattle.command_words.specs.declared.commands.Shown.TheVariants.{Output, Summary, Place, Gathered, Trace}
 use Rattle.command_words.specs.declared.options.Apart.{Apart}
 use Rattle.command_words.specs.declared.options.Apart.TheVariants.{ByText, ByEnd}
 use Rattle.command_words.specs.Options.{number_of}
@@ -16,6 +17,9 @@ use Rattle.command_words.specs.Words.{arguments_of, command_of}
 
 abbrev limits : ℕ → ℕ → ℕ → Limits
 limits harts frames steps = record { harts = harts; frames = frames; steps = steps }
+
+abbrev lines : ℕ → Option ℕ → LineSpan
+lines from to = record { from = from; to = to }
 
 -- the commands
 abbrev asked : List ℕ → Source → Shown → Limits → Command
@@ -366,6 +370,7 @@ settings runs until apart jobs = record {
   until = until;
   apart = apart;
   jobs = jobs;
+  span = lines 1 None;
 }
 
 explore_defaults : command_of (codes "explore" ∷ codes "F" ∷ []) ≡ Some (Explores (codes "F") (settings 10000 None ByText None))
@@ -448,6 +453,38 @@ gather_options = refl
 gather_one_name : command_of (codes "gather" ∷ codes "F" ∷ []) ≡ None
 unfolding command_of arguments_of
 gather_one_name = refl
+
+-- `trace F S` tells all lines, or those of a span
+abbrev trace : List ℕ → List ℕ → LineSpan → Limits → Command
+trace program script span limits = asked program (Script script) (Trace span) limits
+
+trace_defaults : command_of (codes "trace" ∷ codes "F" ∷ codes "S" ∷ [])
+    ≡ Some (trace (codes "F") (codes "S") (lines 1 None) (limits 2 4096 200000))
+unfolding command_of arguments_of
+trace_defaults = refl
+
+trace_options : command_of
+    (codes "trace" ∷ codes "F" ∷ codes "--from" ∷ codes "7" ∷ codes "S" ∷ codes "--harts=3" ∷ codes "--to=1000000" ∷ [])
+    ≡ Some (trace (codes "F") (codes "S") (lines 7 (Some 1000000)) (limits 3 4096 200000))
+unfolding command_of arguments_of
+trace_options = refl
+
+trace_from_nothing : command_of (codes "trace" ∷ codes "F" ∷ codes "S" ∷ codes "--from=0" ∷ []) ≡ None
+unfolding command_of arguments_of
+trace_from_nothing = refl
+
+trace_too_far : command_of (codes "trace" ∷ codes "F" ∷ codes "S" ∷ codes "--to=1000001" ∷ []) ≡ None
+unfolding command_of arguments_of
+trace_too_far = refl
+
+trace_one_name : command_of (codes "trace" ∷ codes "F" ∷ []) ≡ None
+unfolding command_of arguments_of
+trace_one_name = refl
+
+-- another command on a script takes no span
+play_from : command_of (codes "play" ∷ codes "F" ∷ codes "S" ∷ codes "--from=1" ∷ []) ≡ None
+unfolding command_of arguments_of
+play_from = refl
 
 -- `solo`, `play`, `blocks`, `inspect` and `gather` take no seed
 solo_seed : command_of (codes "solo" ∷ codes "--seed" ∷ codes "1" ∷ codes "F" ∷ []) ≡ None

@@ -16,17 +16,21 @@ use Rattle.draw_policies.specs.declared.policies.Policies.TheVariants.{All}
 use Rattle.guest_names.specs.Guests.{name_of}
 use Rattle.step_log.specs.Script.{◌>>=◌}
 use Rattle.command_words.specs.declared.commands.Guest.{Guest}
+use Rattle.command_words.specs.declared.commands.LineSpan.{LineSpan}
 use Rattle.command_words.specs.declared.commands.Settings.{Settings}
+use Rattle.command_words.specs.declared.commands.Shown.{Shown}
+use Rattle.command_words.specs.declared.commands.Shown.TheVariants as shows
 use Rattle.command_words.specs.declared.commands.Trial.{Trial}
 use Rattle.command_words.specs.declared.options.Apart.{Apart}
 use Rattle.command_words.specs.declared.options.Apart.TheVariants.{ByText}
 use Rattle.command_words.specs.declared.table.CommandKind.{CommandKind}
 use Rattle.command_words.specs.declared.table.CommandKind.TheVariants as kind
-use Rattle.command_words.specs.declared.table.Shown.{Shown}
+use Rattle.command_words.specs.declared.table.ShownKind.{ShownKind}
+use Rattle.command_words.specs.declared.table.ShownKind.TheVariants as kinds
 use Rattle.command_words.specs.declared.table.SourceKind.{SourceKind}
 use Rattle.command_words.specs.declared.table.SourceKind.TheVariants.{ByRule, ByScript, ByWorkers, ByDraws}
 use Rattle.command_words.specs.Commands.{Command, PairRun, Run, Runs, Makes, Tries, Explores, Pairs, Source, Rule, Script, Workers, Drawn, DrawnAfter}
-use Rattle.command_words.specs.Options.{OptionName, Harts, Frames, Steps, Seed, Policy, Calm, After, RunCount, Until, By, Jobs}
+use Rattle.command_words.specs.Options.{OptionName, Harts, Frames, Steps, Seed, Policy, Calm, After, RunCount, Until, By, Jobs, From, To}
 use Rattle.command_words.specs.Options.{Range, all_options, apart_named, is_value}
 use Rattle.command_words.specs.Options.{number_in, number_of, option_word, range_of, same_option, values_of}
 use Rattle.command_words.specs.Table.{command_kind}
@@ -139,6 +143,10 @@ settings_of values = record {
   until = number_given (range_of 1 64) (values Until);
   apart = apart_or_text (values By);
   jobs = number_given (range_of 1 64) (values Jobs);
+  span = record {
+    from = number_or 1 (range_of 1 1000000) (values From);
+    to = number_given (range_of 1 1000000) (values To);
+  };
 }
 
 -- how many harts there are: one by the fixed rule
@@ -170,13 +178,22 @@ files_for ByScript names settings after = two_names names
 files_for ByWorkers names settings after = one_name (Workers settings.seed) names
 files_for ByDraws names settings after = one_name (drawn_source settings after) names
 
--- the run of these files under these limits
-abbrev pub run_for : SourceKind → Shown → Limits → List ℕ × Source → Run
-run_for source shown limits files = record {
+-- what is shown: of a trace the lines of this span
+abbrev pub shown_for : ShownKind → LineSpan → Shown
+shown_for kinds.Output span = shows.Output
+shown_for kinds.Summary span = shows.Summary
+shown_for kinds.Place span = shows.Place
+shown_for kinds.Acts span = shows.Acts
+shown_for kinds.Gathered span = shows.Gathered
+shown_for kinds.Trace span = shows.Trace span
+
+-- the run of these files with these settings
+abbrev pub run_for : SourceKind → ShownKind → Settings → List ℕ × Source → Run
+run_for source shown settings files = record {
   program = files.0;
   source = files.1;
-  shown = shown;
-  limits = record limits { harts = harts_for source limits.harts };
+  shown = shown_for shown settings.span;
+  limits = record settings.limits { harts = harts_for source settings.limits.harts };
 }
 
 -- the guest of this name and this size, where the name is a guest's and the size is a number; whether the guest takes it
@@ -211,7 +228,7 @@ pair_for limits _ = None
 -- the command of this kind with these settings, behind this script where one is named, and with these names
 abbrev pub command_for : CommandKind → Settings → Option (List ℕ) → List (List ℕ) → Option Command
 command_for (kind.Runs source shown) settings after names =
-    option_map (λ files. Runs (run_for source shown settings.limits files)) (files_for source names settings after)
+    option_map (λ files. Runs (run_for source shown settings files)) (files_for source names settings after)
 command_for kind.Makes settings after names = option_map Makes (guest_for names)
 command_for kind.Tries settings after names = option_map (λ guest. Tries (trial_of settings guest)) (guest_for names)
 command_for kind.Explores settings after names = option_map (λ program. Explores program settings) (program_for names)

@@ -26,7 +26,7 @@ use Rattle.command_words.specs.declared.takes.Takes.{Takes}
 use Rattle.command_words.specs.Commands.{Command as Asked, PairRun as AskedPair, Run as AskedRun, Runs, Makes, Tries, Explores, Pairs}
 use Rattle.command_words.specs.Commands.{Source as FromSource, Rule, Script, Workers, Drawn, DrawnAfter}
 use Rattle.command_words.specs.Grammar.{Arguments as Stated}
-use Rattle.command_words.specs.Options.{OptionName as Named, Harts, Frames, Steps, Seed, Policy, Calm, After, RunCount, Until, By, Jobs, Range}
+use Rattle.command_words.specs.Options.{OptionName as Named, Harts, Frames, Steps, Seed, Policy, Calm, After, RunCount, Until, By, Jobs, From, To, Range}
 use Rattle.command_words.specs.Options.{Values as ItsValues, Numbers as InRange, PolicyNames, ApartNames, FileNames}
 use Rattle.command_words.specs.Takes.{OptionSet as SomeOptions, Takes as Taken}
 use Rattle.command_words.specs.WordFaults.{SoFar}
@@ -45,6 +45,8 @@ named option.RunCount = RunCount
 named option.Until = Until
 named option.By = By
 named option.Jobs = Jobs
+named option.From = From
+named option.To = To
 
 -- the numbers that an option takes
 abbrev pub range : Numbers → Range
@@ -77,6 +79,8 @@ value_kept kept RunCount = option_copied kept.run_count
 value_kept kept Until = option_copied kept.until
 value_kept kept By = option_copied kept.by
 value_kept kept Jobs = option_copied kept.jobs
+value_kept kept From = option_copied kept.from
+value_kept kept To = option_copied kept.to
 
 -- the arguments, with the texts of their words
 abbrev pub stated : Arguments → Stated
@@ -130,6 +134,8 @@ options_kept options = record {
   until = options.until;
   by = options.by;
   jobs = options.jobs;
+  from = options.from;
+  to = options.to;
 }
 
 -- what the names of a command are

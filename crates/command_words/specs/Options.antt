@@ -14,7 +14,7 @@ use Rattle.command_words.specs.declared.options.Apart.TheVariants.{ByText, ByEnd
 -- the options that commands have: how many harts there are, how many frames of 4,096 bytes, how many lines
 -- the log may have, the seed of what is chosen, which policies draw, from how many events on a run goes on fairly, and the script
 -- behind which events are drawn; how many runs are explored, how many different outcomes are enough, by what they are told apart, and
--- how many host threads make the runs
+-- how many host threads make the runs; from which line and to which line a log is told
 pub data OptionName : Type 0 where
   Harts : OptionName
   Frames : OptionName
@@ -27,9 +27,11 @@ pub data OptionName : Type 0 where
   Until : OptionName
   By : OptionName
   Jobs : OptionName
+  From : OptionName
+  To : OptionName
 
 abbrev pub all_options : List OptionName
-all_options = Harts ∷ Frames ∷ Steps ∷ Seed ∷ Policy ∷ Calm ∷ After ∷ RunCount ∷ Until ∷ By ∷ Jobs ∷ []
+all_options = Harts ∷ Frames ∷ Steps ∷ Seed ∷ Policy ∷ Calm ∷ After ∷ RunCount ∷ Until ∷ By ∷ Jobs ∷ From ∷ To ∷ []
 
 -- the name of an option
 abbrev pub long_name : OptionName → List ℕ
@@ -44,6 +46,8 @@ long_name RunCount = codes "runs"
 long_name Until = codes "until"
 long_name By = codes "by"
 long_name Jobs = codes "jobs"
+long_name From = codes "from"
+long_name To = codes "to"
 
 -- the word of an option
 abbrev pub option_word : OptionName → List ℕ
@@ -84,6 +88,8 @@ values_of RunCount = Numbers (range_of 1 1000000000)
 values_of Until = Numbers (range_of 1 64)
 values_of By = ApartNames
 values_of Jobs = Numbers (range_of 1 64)
+values_of From = Numbers (range_of 1 1000000)
+values_of To = Numbers (range_of 1 1000000)
 
 -- a number is 1 to 20 decimal digits and nothing else, and is below 2 ^ 64
 abbrev pub is_number : List ℕ → Bool

@@ -4,13 +4,13 @@ use Rattle.std.specs.Prelude.{ℕ, List, Option, Some, None, if◌then◌else◌
 use Rattle.std.specs.Str.{bytes_eq}
 use Rattle.command_words.specs.declared.table.CommandKind.{CommandKind}
 use Rattle.command_words.specs.declared.table.CommandKind.TheVariants.{Runs, Makes, Tries, Explores, Pairs}
-use Rattle.command_words.specs.declared.table.Shown.{Shown}
-use Rattle.command_words.specs.declared.table.Shown.TheVariants as shows
+use Rattle.command_words.specs.declared.table.ShownKind.{ShownKind}
+use Rattle.command_words.specs.declared.table.ShownKind.TheVariants as shows
 use Rattle.command_words.specs.declared.table.SourceKind.{SourceKind}
 use Rattle.command_words.specs.declared.table.SourceKind.TheVariants.{ByRule, ByScript, ByWorkers, ByDraws}
 
 -- the row of a run: how the log comes about, and what is shown
-abbrev pub row : SourceKind → Shown → Option CommandKind
+abbrev pub row : SourceKind → ShownKind → Option CommandKind
 row source shown = Some (Runs source shown)
 
 -- what the command of a word is, if a command has the word
@@ -20,6 +20,7 @@ command_kind word =
     else if bytes_eq word (codes "play") then row ByScript shows.Output
     else if bytes_eq word (codes "blocks") then row ByScript shows.Summary
     else if bytes_eq word (codes "inspect") then row ByScript shows.Place
+    else if bytes_eq word (codes "trace") then row ByScript shows.Trace
     else if bytes_eq word (codes "acts") then row ByScript shows.Acts
     else if bytes_eq word (codes "gather") then row ByScript shows.Gathered
     else if bytes_eq word (codes "run") then row ByWorkers shows.Output

@@ -2,11 +2,13 @@
 use Rattle.std.specs.Prelude.{ℕ, Bool, true, false, List, [], ◌∷◌, Option, option_map}
 use Rattle.command_words.specs.declared.table.CommandKind.{CommandKind}
 use Rattle.command_words.specs.declared.table.CommandKind.TheVariants.{Runs, Makes, Tries, Explores, Pairs}
+use Rattle.command_words.specs.declared.table.ShownKind.{ShownKind}
+use Rattle.command_words.specs.declared.table.ShownKind.TheVariants as shows
 use Rattle.command_words.specs.declared.table.SourceKind.{SourceKind}
 use Rattle.command_words.specs.declared.table.SourceKind.TheVariants.{ByRule, ByScript, ByWorkers, ByDraws}
 use Rattle.command_words.specs.declared.takes.NameKind.{NameKind}
 use Rattle.command_words.specs.declared.takes.NameKind.TheVariants.{Program, SecondProgram, Script, Guest, Size}
-use Rattle.command_words.specs.Options.{OptionName, Harts, Frames, Steps, Seed, Policy, Calm, After, RunCount, Until, By, Jobs}
+use Rattle.command_words.specs.Options.{OptionName, Harts, Frames, Steps, Seed, Policy, Calm, After, RunCount, Until, By, Jobs, From, To}
 use Rattle.command_words.specs.Table.{command_kind}
 
 -- some of the options
@@ -22,6 +24,8 @@ pub record OptionSet : Type 0 where
   pub until : Bool
   pub by : Bool
   pub jobs : Bool
+  pub from : Bool
+  pub to : Bool
 
 -- none of them
 abbrev pub no_options : OptionSet
@@ -37,6 +41,8 @@ no_options = record {
   until = false;
   by = false;
   jobs = false;
+  from = false;
+  to = false;
 }
 
 -- whether an option is among them
@@ -52,6 +58,8 @@ has options RunCount = options.run_count
 has options Until = options.until
 has options By = options.by
 has options Jobs = options.jobs
+has options From = options.from
+has options To = options.to
 
 -- these and one more
 abbrev pub with_option : OptionSet → OptionName → OptionSet
@@ -66,6 +74,8 @@ with_option options RunCount = record options { run_count = true }
 with_option options Until = record options { until = true }
 with_option options By = record options { by = true }
 with_option options Jobs = record options { jobs = true }
+with_option options From = record options { from = true }
+with_option options To = record options { to = true }
 
 -- what a command takes: these names in this order, and these options in any
 pub record Takes : Type 0 where
@@ -128,9 +138,19 @@ takes_by ByScript = taken_on_script
 takes_by ByWorkers = taken_by_workers
 takes_by ByDraws = taken_by_draws
 
+-- the options of a run by what is shown of it: a trace takes the lines from which and to which it is told
+abbrev pub options_for : ShownKind → OptionSet → OptionSet
+options_for shows.Output options = options
+options_for shows.Summary options = options
+options_for shows.Place options = options
+options_for shows.Acts options = options
+options_for shows.Gathered options = options
+options_for shows.Trace options = record options { from = true; to = true }
+
 -- what a command takes
 abbrev pub takes_kind : CommandKind → Takes
-takes_kind (Runs source shown) = takes_by source
+takes_kind (Runs source shown) =
+    record (takes_by source) { options = options_for shown (takes_by source).options }
 takes_kind Makes = taken_by_make
 takes_kind Tries = taken_by_trial
 takes_kind Explores = taken_by_explore

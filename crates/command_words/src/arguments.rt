@@ -51,6 +51,10 @@ pub(crate) struct Arguments<'a> {
     pub(crate) by: Option<&'a str>,
     /// The value of `--jobs`.
     pub(crate) jobs: Option<&'a str>,
+    /// The value of `--from`.
+    pub(crate) from: Option<&'a str>,
+    /// The value of `--to`.
+    pub(crate) to: Option<&'a str>,
 }
 
 /// An option of this name, which takes a value.
@@ -85,7 +89,9 @@ fn options<'a>(alloc: Global) -> Result<Parser<'a>, AllocError>
         .arg(option(alloc, "runs"))?
         .arg(option(alloc, "until"))?
         .arg(option(alloc, "by"))?
-        .arg(option(alloc, "jobs"))
+        .arg(option(alloc, "jobs"))?
+        .arg(option(alloc, "from"))?
+        .arg(option(alloc, "to"))
 }
 
 /// A parser of what may stand behind a command.
@@ -136,6 +142,8 @@ fn arguments_in<'a>(matches: &ArgMatches<'a>) -> Arguments<'a>
         until: matches.get_str("until"),
         by: matches.get_str("by"),
         jobs: matches.get_str("jobs"),
+        from: matches.get_str("from"),
+        to: matches.get_str("to"),
     }
 }
 

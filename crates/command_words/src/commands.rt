@@ -5,16 +5,16 @@ ghost use Rattle.mach_types.specs.Limits.{InRange};
 ghost use Rattle.command_words.specs.Commands.{AreInRange, HasHartsOf, HasItsHarts, HasLimits, trial_limits};
 ghost use Rattle.command_words.specs.Kept.{named, names_kept, pair_said, range, run_said, said, source_said, stated, takes_kept};
 ghost use Rattle.command_words.specs.Grammar.{all_suit, apart_or_text, asked_by, asked_for, command_for, drawn_source, files_for, guest_for, guest_named};
-ghost use Rattle.command_words.specs.Grammar.{harts_for, one_name, policies_or_all, run_for, settings_of, suits, trial_of};
+ghost use Rattle.command_words.specs.Grammar.{harts_for, one_name, policies_or_all, run_for, settings_of, shown_for, suits, trial_of};
 ghost use Rattle.command_words.specs.Grammar.{number_given, pair_for, program_for, two_names};
-ghost use Rattle.command_words.specs.Options.{range_of};
 ghost use Rattle.command_words.specs.Words.{command_of, texts};
 
 use crate::arguments::{Arguments, FileNames, arguments_of};
 use crate::options::{
-    Apart, CALM, FRAMES, HARTS, JOBS, Numbers, OUTCOMES, OptionName, RUNS, SEEDS, STEPS, number_of,
+    Apart, CALM, FRAMES, HARTS, JOBS, LINES, Numbers, OUTCOMES, OptionName, RUNS, SEEDS, STEPS,
+    number_of,
 };
-use crate::table::{CommandKind, Shown, SourceKind, command_kind};
+use crate::table::{CommandKind, ShownKind, SourceKind, command_kind};
 use crate::takes::Takes;
 use draw_policies::Policies;
 use guest_names::Name;
@@ -58,6 +58,32 @@ pub enum Source<'a> {
         /// How events are drawn behind those of the script.
         draws: Draws,
     },
+}
+
+/// Some of the lines of a log, which are numbered from 1.
+#[derive(Clone, Copy, Drop)]
+pub struct LineSpan {
+    /// The first of them, 1 to 1,000,000.
+    pub from: u32,
+    /// The last of them, 1 to 1,000,000; None: the last of the log.
+    pub to: Option<u32>,
+}
+
+/// What is shown of a run.
+#[derive(Clone, Copy, Drop)]
+pub enum Shown {
+    /// Its output: its console, its log and its end.
+    Output,
+    /// Its summary: how many acts of each form each hart made.
+    Summary,
+    /// The place that it comes to.
+    Place,
+    /// Its acts, a line each.
+    Acts,
+    /// Its output with its gathered log: each private sequence, one that no other hart disturbed, put together.
+    Gathered,
+    /// These lines of its log, below each what came of it, and its end.
+    Trace(LineSpan),
 }
 
 /// To run a program, and to show something of the run.
@@ -115,6 +141,8 @@ pub struct Settings {
     pub apart: Apart,
     /// How many host threads make the runs, 1 to 64; None: as many as there are processors.
     pub jobs: Option<u8>,
+    /// Which lines of a log are told.
+    pub span: LineSpan,
 }
 
 /// To make runs of a program that seeds draw, one behind the other, and to tell their different outcomes.
@@ -170,7 +198,7 @@ impl Trial {
 /// What the words ask for; None exactly where they aren't of the grammar. It errs only for want of memory.
 ///
 /// The first word is the command: `solo FILE`, with `--frames` and `--steps`; `play FILE SCRIPT` and the other
-/// commands on a script, with `--harts` too; `run FILE`, with `--harts` and `--seed` too; `draw FILE`, with
+/// commands on a script, with `--harts` too, and `trace` with `--from` and `--to` besides; `run FILE`, with `--harts` and `--seed` too; `draw FILE`, with
 /// `--policy`, `--calm` and `--after` besides; `explore FILE`, with `--policy`, `--calm`, `--runs`, `--until`, `--by` and `--jobs`;
 /// `make NAME N`, with no option; `trial NAME N`, with `--harts`, `--steps` and `--seed`; or `pair FILE1 FILE2 SCRIPT`, with the options
 /// of `play`. Each limit is in its range.
@@ -219,6 +247,8 @@ impl<'a> Arguments<'a> {
             OptionName::Until => self.until,
             OptionName::By => self.by,
             OptionName::Jobs => self.jobs,
+            OptionName::From => self.from,
+            OptionName::To => self.to,
         }
     }
 
@@ -247,6 +277,8 @@ impl<'a> Arguments<'a> {
             && self.suits(takes, OptionName::Until)
             && self.suits(takes, OptionName::By)
             && self.suits(takes, OptionName::Jobs)
+            && self.suits(takes, OptionName::From)
+            && self.suits(takes, OptionName::To)
     }
 
     /// The limits that the options come to.
@@ -267,7 +299,17 @@ impl<'a> Arguments<'a> {
     {
         Draws {
             policies: policies_or_all(self.policy),
-            calm: calm_in(self.calm),
+            calm: count_in(CALM, self.calm),
+        }
+    }
+
+    /// Which lines of a log are told.
+    fn span(&self) -> LineSpan
+        ensures { result ≡ (settings_of (stated self.now).values).span }
+    {
+        LineSpan {
+            from: LINES.number_or(1, self.from) as u32,
+            to: count_in(LINES, self.to),
         }
     }
 
@@ -284,6 +326,7 @@ impl<'a> Arguments<'a> {
             until: small_in(OUTCOMES, self.until),
             apart: apart_or_text(self.by),
             jobs: small_in(JOBS, self.jobs),
+            span: self.span(),
         }
     }
 }
@@ -301,12 +344,13 @@ fn policies_or_all(name: Option<&str>) -> Policies
     }
 }
 
-/// From how many events on a run goes on fairly, where a number is given that the option takes.
-fn calm_in(text: Option<&str>) -> Option<u32>
-    ensures { result ≡ number_given (range_of 0 1000000) (option_copied text.entry) }
+/// A number of events of an option that has no default; None where none of these is given.
+fn count_in(numbers: Numbers, text: Option<&str>) -> Option<u32>
+    requires { numbers.most ≤ 1000000 }
+    ensures { result ≡ number_given (range numbers) (option_copied text.entry) }
 {
-    let events = CALM.number_given(text)?;
-    Some(events as u32)
+    let number = numbers.number_given(text)?;
+    Some(number as u32)
 }
 
 /// A small number of an option that has no default; None where none of these is given.
@@ -451,18 +495,34 @@ fn files_for<'a>(
     }
 }
 
+impl ShownKind {
+    /// What is shown: of a trace the lines of this span.
+    fn shown(self, span: LineSpan) -> Shown
+        ensures { result ≡ shown_for self span }
+    {
+        match self {
+            ShownKind::Output => Shown::Output,
+            ShownKind::Summary => Shown::Summary,
+            ShownKind::Place => Shown::Place,
+            ShownKind::Acts => Shown::Acts,
+            ShownKind::Gathered => Shown::Gathered,
+            ShownKind::Trace => Shown::Trace(span),
+        }
+    }
+}
+
 /// The run of a program that names give, with these settings, behind this script where one is named; None where the names are too few
 /// or too many.
 fn run_for<'a>(
     kind: SourceKind,
-    shown: Shown,
+    shown: ShownKind,
     settings: Settings,
     after: Option<&'a str>,
     names: FileNames<'a>,
 ) -> Option<Run<'a>>
     requires { InRange settings.limits }
     ensures run { option_map run_said result
-        ≡ option_map (run_for kind shown settings.limits)
+        ≡ option_map (run_for kind shown settings)
         (files_for kind (names_kept names.entry) settings (option_copied after.entry)) }
     ensures limits { IfSome result (λ run. InRange run.limits) }
     ensures harts { IfSome result (λ run. HasHartsOf (source_said run.source) run.limits) }
@@ -481,7 +541,7 @@ fn run_for<'a>(
     Some(Run {
         program,
         source,
-        shown,
+        shown: shown.shown(settings.span),
         limits,
     })
 }

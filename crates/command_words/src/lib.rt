@@ -11,9 +11,11 @@ mod table;
 mod takes;
 mod theorems;
 
-pub use commands::{Command, Draws, Explore, Guest, PairRun, Run, Settings, Source, Trial};
+pub use commands::{
+    Command, Draws, Explore, Guest, LineSpan, PairRun, Run, Settings, Shown, Source, Trial,
+};
 pub use faults::{WordsFault, words_fault};
 pub use options::Apart;
 pub use read::{WordsError, read_words};
-pub use table::{COMMANDS, CommandKind, Shown, SourceKind, command_kind};
+pub use table::{COMMANDS, CommandKind, ShownKind, SourceKind, command_kind};
 pub use theorems::words_are_wrong_or_name_a_command;

@@ -34,6 +34,10 @@ pub(crate) enum OptionName {
     By,
     /// How many host threads make the runs.
     Jobs,
+    /// From which line a log is told.
+    From,
+    /// To which line a log is told.
+    To,
 }
 
 /// By what outcomes are told apart.
@@ -106,6 +110,12 @@ pub(crate) const OUTCOMES: Numbers = Numbers { least: 1, most: 64 };
 /// How many host threads may make the runs.
 pub(crate) const JOBS: Numbers = Numbers { least: 1, most: 64 };
 
+/// The lines of logs.
+pub(crate) const LINES: Numbers = Numbers {
+    least: 1,
+    most: 1_000_000,
+};
+
 /// The values of an option.
 #[derive(Clone, Copy, Drop)]
 pub(crate) enum Values {
@@ -136,6 +146,8 @@ impl OptionName {
             "--until" => Some(OptionName::Until),
             "--by" => Some(OptionName::By),
             "--jobs" => Some(OptionName::Jobs),
+            "--from" => Some(OptionName::From),
+            "--to" => Some(OptionName::To),
             _ => None,
         }
     }
@@ -156,6 +168,8 @@ impl OptionName {
             OptionName::Until => Values::Numbers(OUTCOMES),
             OptionName::By => Values::ApartNames,
             OptionName::Jobs => Values::Numbers(JOBS),
+            OptionName::From => Values::Numbers(LINES),
+            OptionName::To => Values::Numbers(LINES),
         }
     }
 }

@@ -24,7 +24,7 @@ pub enum WordsError {
 /// may want it.
 ///
 /// The first word is the command: `solo FILE`, with `--frames` and `--steps`; `play FILE SCRIPT` and the other
-/// commands on the events of a script, with `--harts` too; `run FILE`, with `--harts` and `--seed` too; `draw FILE`,
+/// commands on the events of a script, with `--harts` too, and `trace` with `--from` and `--to` besides; `run FILE`, with `--harts` and `--seed` too; `draw FILE`,
 /// with `--policy`, `--calm` and `--after` besides; `explore FILE`, with `--policy`, `--calm`, `--runs`, `--until`, `--by` and
 /// `--jobs`;
 /// `make NAME N`, with no option; `trial NAME N`, with `--harts`, `--steps` and `--seed`; or `pair FILE1 FILE2 SCRIPT`, with the options

@@ -29,9 +29,9 @@ impl SourceKind {
     }
 }
 
-/// What is shown of a run.
+/// What is shown of a run, but for the lines of a log that a trace tells.
 #[derive(Clone, Copy, Drop)]
-pub enum Shown {
+pub enum ShownKind {
     /// Its output: its console, its log and its end.
     Output,
     /// Its summary: how many acts of each form each hart made.
@@ -42,17 +42,20 @@ pub enum Shown {
     Acts,
     /// Its output with its gathered log: each private sequence, one that no other hart disturbed, put together.
     Gathered,
+    /// The lines of its log, below each what came of it, and its end.
+    Trace,
 }
 
-impl Shown {
+impl ShownKind {
     /// What is shown, for a person.
     pub fn about(self) -> &'static str {
         match self {
-            Shown::Output => "prints its console, its log and its end",
-            Shown::Summary => "prints how many acts of each form each hart made",
-            Shown::Place => "prints the place that they come to",
-            Shown::Acts => "prints a line for each act",
-            Shown::Gathered => "prints its output with each private sequence put together",
+            ShownKind::Output => "prints its console, its log and its end",
+            ShownKind::Summary => "prints how many acts of each form each hart made",
+            ShownKind::Place => "prints the place that they come to",
+            ShownKind::Acts => "prints a line for each act",
+            ShownKind::Gathered => "prints its output with each private sequence put together",
+            ShownKind::Trace => "prints what came of each of them",
         }
     }
 }
@@ -65,7 +68,7 @@ pub enum CommandKind {
         /// How the log of the run comes about.
         source: SourceKind,
         /// What is shown of the run.
-        shown: Shown,
+        shown: ShownKind,
     },
     /// It makes the file of a guest.
     Makes,
@@ -78,9 +81,9 @@ pub enum CommandKind {
 }
 
 /// The words of the commands.
-pub const COMMANDS: [&str; 12] = [
-    "solo", "play", "blocks", "inspect", "acts", "gather", "run", "draw", "explore", "make",
-    "trial", "pair",
+pub const COMMANDS: [&str; 13] = [
+    "solo", "play", "blocks", "inspect", "trace", "acts", "gather", "run", "draw", "explore",
+    "make", "trial", "pair",
 ];
 
 /// What the command of a word is; None where no command has the word.
@@ -88,14 +91,15 @@ pub fn command_kind(word: &str) -> Option<CommandKind>
     ensures { result ≡ command_kind word.now }
 {
     let (source, shown) = match word {
-        "solo" => (SourceKind::ByRule, Shown::Output),
-        "play" => (SourceKind::ByScript, Shown::Output),
-        "blocks" => (SourceKind::ByScript, Shown::Summary),
-        "inspect" => (SourceKind::ByScript, Shown::Place),
-        "acts" => (SourceKind::ByScript, Shown::Acts),
-        "gather" => (SourceKind::ByScript, Shown::Gathered),
-        "run" => (SourceKind::ByWorkers, Shown::Output),
-        "draw" => (SourceKind::ByDraws, Shown::Output),
+        "solo" => (SourceKind::ByRule, ShownKind::Output),
+        "play" => (SourceKind::ByScript, ShownKind::Output),
+        "blocks" => (SourceKind::ByScript, ShownKind::Summary),
+        "inspect" => (SourceKind::ByScript, ShownKind::Place),
+        "trace" => (SourceKind::ByScript, ShownKind::Trace),
+        "acts" => (SourceKind::ByScript, ShownKind::Acts),
+        "gather" => (SourceKind::ByScript, ShownKind::Gathered),
+        "run" => (SourceKind::ByWorkers, ShownKind::Output),
+        "draw" => (SourceKind::ByDraws, ShownKind::Output),
         "explore" => return Some(CommandKind::Explores),
         "make" => return Some(CommandKind::Makes),
         "trial" => return Some(CommandKind::Tries),

@@ -3,11 +3,11 @@
 ghost use Rattle.std.specs.Prelude.{◌≡◌, ◌∷◌, [], option_map};
 ghost use Rattle.command_words.specs.declared.takes.NameKind.TheVariants.{Guest, Program, Size};
 ghost use Rattle.command_words.specs.Kept.{kinds_kept, named, options_kept, takes_kept};
-ghost use Rattle.command_words.specs.Takes.{has, no_options, takes_by, takes_kind, takes_of, with_option};
+ghost use Rattle.command_words.specs.Takes.{has, no_options, options_for, takes_by, takes_kind, takes_of, with_option};
 ghost use Rattle.command_words.specs.WordFaults.{kind_at};
 
 use crate::options::OptionName;
-use crate::table::{CommandKind, SourceKind, command_kind};
+use crate::table::{CommandKind, ShownKind, SourceKind, command_kind};
 
 /// Some of the options.
 #[derive(Clone, Copy, Drop)]
@@ -23,6 +23,8 @@ pub(crate) struct OptionSet {
     until: bool,
     by: bool,
     jobs: bool,
+    from: bool,
+    to: bool,
 }
 
 impl OptionSet {
@@ -49,6 +51,8 @@ impl OptionSet {
             OptionName::Until => self.until,
             OptionName::By => self.by,
             OptionName::Jobs => self.jobs,
+            OptionName::From => self.from,
+            OptionName::To => self.to,
         }
     }
 
@@ -69,6 +73,8 @@ impl OptionSet {
             OptionName::Until => all.until = true,
             OptionName::By => all.by = true,
             OptionName::Jobs => all.jobs = true,
+            OptionName::From => all.from = true,
+            OptionName::To => all.to = true,
         }
         all
     }
@@ -87,6 +93,8 @@ const NO_OPTIONS: OptionSet = OptionSet {
     until: false,
     by: false,
     jobs: false,
+    from: false,
+    to: false,
 };
 
 /// The options of a command that runs on one hart: it chooses nothing.
@@ -223,13 +231,40 @@ impl SourceKind {
     }
 }
 
+impl ShownKind {
+    /// These options, and those that come with what is shown: of a trace the lines from which and to which it
+    /// is told.
+    fn options(self, options: OptionSet) -> OptionSet
+        ensures { options_kept result ≡ options_for self (options_kept options) }
+    {
+        match self {
+            ShownKind::Trace => OptionSet {
+                from: true,
+                to: true,
+                ..options
+            },
+            ShownKind::Output
+            | ShownKind::Summary
+            | ShownKind::Place
+            | ShownKind::Acts
+            | ShownKind::Gathered => options,
+        }
+    }
+}
+
 impl CommandKind {
     /// What a command of this kind takes.
     pub(crate) fn takes(self) -> Takes
         ensures { takes_kept result ≡ takes_kind self }
     {
         match self {
-            CommandKind::Runs { source, .. } => source.takes(),
+            CommandKind::Runs { source, shown } => {
+                let Takes { names, options } = source.takes();
+                Takes {
+                    names,
+                    options: shown.options(options),
+                }
+            }
             CommandKind::Makes => of_a_guest(NO_OPTIONS),
             CommandKind::Tries => of_a_guest(OF_A_TRIAL),
             CommandKind::Explores => of_a_program(OF_EXPLORE),

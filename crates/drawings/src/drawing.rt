@@ -104,7 +104,7 @@ impl Drawing {
     {
         match self.last_by_word(harts, word) {
             Some(last) => Some(last),
-            None => Some(look_at(harts, able_by_word(harts, self.opened, word)?)),
+            None => able_by_word(harts, self.opened, word),
         }
     }
 

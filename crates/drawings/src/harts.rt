@@ -1,6 +1,6 @@
 //! What a policy sees of the harts of a machine, and which of them can make an event.
 
-ghost use Rattle.std.specs.Prelude.{◌≡◌, ◌<◌, ◌≤◌, ◌++◌, ◌∷◌, [], ℕ, IfSome, if◌then◌else◌, length, nat_lt, slice_get};
+ghost use Rattle.std.specs.Prelude.{◌≡◌, ◌<◌, ◌≤◌, ◌++◌, ◌∷◌, [], ℕ, All, IfSome, if◌then◌else◌, length, map, nat_lt, option_map, slice_get};
 ghost use Rattle.draw_policies.specs.Words.{hart_place};
 ghost use Rattle.drawings.specs.Scenes as scenes;
 ghost use Rattle.drawings.specs.Scenes.{Scene};
@@ -64,6 +64,28 @@ pub struct SeenHart {
     pub sight: Sight,
 }
 
+impl Default for SeenHart {
+    /// Hart 0, of which nothing is seen.
+    fn default() -> SeenHart {
+        SeenHart {
+            hart: 0,
+            sight: Sight {
+                idle: true,
+                first_ready: None,
+                in_barrier: false,
+                all_taken: false,
+                requested: false,
+                stores: 0,
+                deliverable: false,
+                exec_enabled: false,
+                local: false,
+                ran: 0,
+                credit: 0,
+            },
+        }
+    }
+}
+
 /// A hart, with what is seen of it.
 pub fn look_at<H: Harts>(harts: &H, hart: u8) -> SeenHart
     requires { hart < (H.scene harts.now).harts }
@@ -88,51 +110,45 @@ pub fn is_able<H: Harts>(harts: &H, seen: &SeenHart, opened: u8) -> bool
     }
 }
 
-/// Whether a hart can make an event which wasn't looked at so far.
-fn is_able_hart<H: Harts>(harts: &H, hart: u8, opened: u8) -> bool
-    requires hart { hart < (H.scene harts.now).harts }
-    requires opened { opened ≤ 8 }
-    ensures { result ≡ scenes.is_able (H.scene harts.now) opened hart }
-{
-    is_able(harts, &look_at(harts, hart), opened)
-}
-
-/// Appends a number where it passes.
-fn push_if(numbers: &mut ArrayVec<u8, 8>, number: u8, passes: bool)
-    requires { length numbers.old.items < 8 }
-    ensures { numbers.new.items ≡ numbers.old.items ++ (if passes then number ∷ [] else []) }
+/// Appends a hart where it passes.
+fn push_if(all: &mut ArrayVec<SeenHart, 8>, seen: SeenHart, passes: bool)
+    requires { length all.old.items < 8 }
+    ensures { all.new.items ≡ all.old.items ++ (if passes then seen ∷ [] else []) }
 {
     if passes {
-        numbers.push(number);
+        all.push(seen);
     }
 }
 
-/// The harts that can, rising.
-fn able<H: Harts>(harts: &H, opened: u8) -> ArrayVec<u8, 8>
+/// The harts that can, rising, each with what is seen of it.
+fn able<H: Harts>(harts: &H, opened: u8) -> ArrayVec<SeenHart, 8>
     requires { opened ≤ 8 }
-    ensures { result.items ≡ scenes.able (H.scene harts.now) opened }
+    ensures harts { map (λ seen. seen.hart) result.items ≡ scenes.able (H.scene harts.now) opened }
+    ensures seen { All (scenes.IsSeen (H.scene harts.now)) result.items }
 {
     let mut able = ArrayVec::new();
     for number in 0..harts.count() {
-        push_if(&mut able, number, is_able_hart(harts, number, opened));
+        let seen = look_at(harts, number);
+        let passes = is_able(harts, &seen, opened);
+        push_if(&mut able, seen, passes);
     }
     able
 }
 
-/// The number at a place; None exactly where there are fewer.
-fn number_at(numbers: &[u8], place: u8) -> Option<u8>
-    ensures { result ≡ slice_get numbers.now place }
+/// The hart at a place; None exactly where there are fewer.
+fn hart_at(all: &[SeenHart], place: u8) -> Option<SeenHart>
+    ensures { result ≡ slice_get all.now place }
 {
-    numbers.get(place as usize).copied()
+    all.get(place as usize).copied()
 }
 
-/// The one of them that a word names; None exactly where there is none.
-pub fn able_by_word<H: Harts>(harts: &H, opened: u8, word: Word) -> Option<u8>
+/// The one of them that a word names, with what is seen of it; None exactly where there is none.
+pub fn able_by_word<H: Harts>(harts: &H, opened: u8, word: Word) -> Option<SeenHart>
     requires { opened ≤ 8 }
-    ensures named { result ≡ slice_get (scenes.able (H.scene harts.now) opened)
+    ensures named { option_map (λ seen. seen.hart) result ≡ slice_get (scenes.able (H.scene harts.now) opened)
         (hart_place word.0 (length (scenes.able (H.scene harts.now) opened))) }
-    ensures within { IfSome result (λ hart. hart < (H.scene harts.now).harts) }
+    ensures seen { IfSome result (scenes.IsSeen (H.scene harts.now)) }
 {
     let able = able(harts, opened);
-    number_at(&able, word.hart_place(able.len() as u8))
+    hart_at(&able, word.hart_place(able.len() as u8))
 }

@@ -1,10 +1,10 @@
 -- An entry that is due on a machine, and the place behind it.
-use Rattle.std.proofs.Common.{◌≡◌, ◌+◌, ◌<◌, ◌^◌, [], ◌∷◌, ◌++◌, length, refl, ap, ◌∙◌, subst, arith}
+use Rattle.std.proofs.Common.{◌≡◌, ◌+◌, ◌<◌, ◌^◌, [], ◌∷◌, ◌++◌, length, refl, ap, None, ◌∙◌, subst, arith}
 use Rattle.mach_types.specs.Events.{choice_of}
 use Rattle.mach_types.specs.Limits.{InRange}
 use Rattle.mach_types.specs.declared.events.Entry.{Entry}
 use Rattle.block_model.specs.Deciding.{done, entry_in, event}
-use Rattle.block_model.specs.Events.{done_of}
+use Rattle.block_model.specs.Events.{done_of, refusal_of}
 use Rattle.block_model.specs.Here.{Here}
 use Rattle.block_model.specs.History.{History, here_in_history}
 use Rattle.block_model.specs.Plain.{here_of}
@@ -14,10 +14,11 @@ use Rattle.block_model.proofs.Laws.{history-append, length-history, next_event, 
 use Rattle.event_facts.specs.Lines.{next_line}
 use Rattle.event_facts.specs.Telling.{IsDecided, here_on, past_of}
 
--- its hart is one of the machine's, there is room for it, and it is the entry of its choice
+-- its hart is one of the machine's, there is room for it, its condition holds, and it is the entry of its choice
 pub record IsDue (m : Seen) (e : Entry) : Type 0 where
   pub lt : e.hart.0 < m.setting.limits.harts
   pub room : length m.log < m.setting.limits.steps
+  pub free : refusal_of (choice_of e) (here_on m e.hart.0) ≡ None
   pub is : e ≡ entry_in (choice_of e) (here_on m e.hart.0)
 
 pub due : (m : Seen) (e : Entry) → IsBlockRun m.setting m.log → IsDecided m e → IsDue m e
@@ -27,6 +28,7 @@ due m e run decided =
     record {
       lt = next.lt;
       room = next.room;
+      free = subst (λ (x : Here). refusal_of (choice_of e) x ≡ None) same next.free;
       is = subst (λ (x : Here). e ≡ entry_in (choice_of e) x) same next.is;
     }
 

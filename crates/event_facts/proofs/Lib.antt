@@ -3,10 +3,15 @@ mod Due
 mod Entered
 mod EventDeeds
 mod FactExamples
+mod KernelDeeds
+mod KernelFacts
+mod KernelLosses
 mod KeptLines
 mod KeptPieces
+mod LinesOfBytes
 mod Lists
 mod OtherThreads
+mod OwnRegisters
 mod PlainEffects
 mod PlainKinds
 mod PlainTraces

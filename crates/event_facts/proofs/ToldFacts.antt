@@ -1,11 +1,10 @@
 -- What is told of a plain event are its facts, and what is kept of lines afterwards are those of the longer log.
 use Rattle.std.proofs.Common.{◌≡◌, ◌≢◌, ℕ, ◌<◌, List, [], ◌∷◌, ◌++◌, length, map, drop, refl, sym, ap, ◌∙◌, subst, eqb, Bool, true, false, cond, Option, Some}
 use Rattle.std.proofs.lemmas.Bool.{eqb-false, eqb-true}
-use Rattle.std.specs.List.{range_with_len}
 use Rattle.mach_types.proofs.Laws.{eqb_same}
 use Rattle.mach_types.specs.Events.{choice_of}
 use Rattle.mach_types.specs.declared.events.Entry.{Entry}
-use Rattle.mach_types.specs.Registers.{register}
+use Rattle.mach_types.specs.Kernel.Threads.{state_of}
 use Rattle.mach_types.specs.declared.registers.Regs.{Regs}
 use Rattle.mach_types.specs.declared.threads.Saved.{Saved}
 use Rattle.mach_types.specs.declared.user_memory.Store.{Store}
@@ -23,21 +22,21 @@ use Rattle.block_model.proofs.Laws.{history-append}
 use Rattle.block_model.proofs.Swaps.PlainDone.{as_done, plain_outcome}
 use Rattle.process.specs.Harts.{file_on}
 use Rattle.event_facts.specs.Deeds.{IsDeedOf, drained_in, entered_in, executed_in}
-use Rattle.event_facts.specs.Facts.{entered_facts, facts_by, facts_of, files_facts, memory_facts, reading_facts, register_fact, register_facts}
+use Rattle.event_facts.specs.Facts.{changed_registers, entered_facts, facts_by, facts_of, memory_facts, own_registers, reading_facts, register_facts}
 use Rattle.event_facts.specs.Lines.{line_behind, memory_source, next_line, numbered, waiting_on}
 use Rattle.event_facts.specs.Reservations.{all_lost, own_facts}
 use Rattle.event_facts.specs.Sources.{source_at, source_over}
 use Rattle.event_facts.specs.Telling.{IsDecided, changed_facts, effect_in, here_on, past_of, plain_event_of, registers_on}
-use Rattle.event_facts.specs.Tied.{AreLinesOf, kept_on, kept_source}
-use Rattle.event_facts.specs.Written.{line_at}
+use Rattle.event_facts.specs.Tied.{AreLinesOf, kept_on, kept_source, line_in}
 use Rattle.event_facts.specs.declared.deeds.Deed.{Deed}
 use Rattle.event_facts.specs.declared.facts.Fact.{Fact}
-use Rattle.event_facts.specs.declared.facts.Fact.TheVariants.{Register, Waits}
+use Rattle.event_facts.specs.declared.facts.Fact.TheVariants.{Waits}
 use Rattle.event_facts.specs.declared.lines.Lines.{Lines}
 use Rattle.event_facts.specs.declared.telling.PlainEvent.{PlainEvent}
 use Rattle.event_facts.specs.declared.telling.PlainEvent.TheVariants.{Instruction, Drain}
 use Rattle.event_facts.proofs.Due.{due, past_after, what_is_done}
-use Rattle.event_facts.proofs.Lists.{five_pieces, nothing_in_all}
+use Rattle.event_facts.proofs.Lists.{five_pieces}
+use Rattle.event_facts.proofs.OwnRegisters.{none_seen, seen_there}
 use Rattle.event_facts.proofs.PlainKinds.{Executes, drain_done, drains, executes, instruction_done}
 
 -- WHAT IS TOLD BEFORE THE EVENT IS MADE
@@ -65,11 +64,6 @@ memory_told s before h o deed x line r f0 f1 f2 f3 f4 f5 tied lt line_is same p1
     p5
 
 -- ALL FACTS
-
--- where no register changed, none is told
-none_changed : (r : Regs) → register_facts r r ≡ []
-none_changed r =
-    nothing_in_all (register_fact r r) (range_with_len 0 32) (λ n. ap (λ b. let l : List Fact = cond b [] (Register n (register r n) ∷ []) in l) (eqb_same (register r n)))
 
 abbrev registers_in : Here → Regs
 registers_in x = (file_on x (runs x)).file
@@ -125,11 +119,13 @@ module _ (m m' : Seen) (entry : Entry) (run : IsBlockRun m.setting m.log) (decid
       let earlier = sym (same ∙ ap (λ q. (file_on here q).file) x.on) in
       let later = sym (registers_after e x) in
       facts_here
-      ∙ (λ i. memory_facts m.setting before entry.hart.0 (plain i) (x.by i) (executed i) (drained i) (entered i) did.reserved ++ files_facts here entry.tid.0 did.files)
-      ∙ ap (λ (d : Done). memory_facts m.setting before entry.hart.0 true (Some e) (executed_in deed) (drained_in deed) (entered_in deed) here.reserved ++ files_facts here entry.tid.0 d.files)
+      ∙ (λ i. memory_facts m.setting before entry.hart.0 (plain i) (x.by i) (executed i) (drained i) (entered i) did.reserved ++ own_registers here entry.tid.0 did)
+      ∙ ap (λ (d : Done). memory_facts m.setting before entry.hart.0 true (Some e) (executed_in deed) (drained_in deed) (entered_in deed) here.reserved ++ own_registers here entry.tid.0 d)
       (instruction_done (choice_of entry) here e x)
       ∙ ap (λ l. memory_facts m.setting before entry.hart.0 true (Some e) (executed_in deed) (drained_in deed) (entered_in deed) here.reserved ++ l)
-      (ap (λ t. files_facts here t ((x.thread, saved) ∷ [])) (thread_is e x)
+      (ap (λ t. own_registers here t (as_done here.kernel (plain_outcome x.thread o))) (thread_is e x)
+      ∙ ap (changed_registers (here.file x.thread).file)
+      (seen_there (runs here) (state_of x.thread here.kernel.threads) x.thread (cond (eqb x.thread x.thread) saved (here.file x.thread)) x.on)
       ∙ ap (λ b. register_facts (here.file x.thread).file (cond b saved (here.file x.thread)).file) (eqb_same x.thread)
       ∙ (λ i. register_facts (earlier i) (later i)))
 
@@ -145,7 +141,8 @@ module _ (m m' : Seen) (entry : Entry) (run : IsBlockRun m.setting m.log) (decid
       let drained = sym its.drained in
       let entered = sym its.entered in
       let reserved = ap (λ (d : Done). d.reserved) what in
-      let files = ap (λ (d : Done). files_facts here entry.tid.0 d.files) what ∙ none_changed (here.file entry.tid.0).file in
+      let t = entry.tid.0 in
+      let files = ap (own_registers here t) what ∙ none_seen (runs here) (state_of t here.kernel.threads) t (here.file t).file (here.file t) refl in
       facts_here ∙ (λ i. memory_facts m.setting before entry.hart.0 (plain i) (x.by i) (executed i) (drained i) (entered i) (reserved i) ++ files i)
 
   pub all_facts : (event : PlainEvent) (deed : Deed) (regs : Regs) → plain_event_of (choice_of entry) here ≡ Some event → IsDeedOf did deed
@@ -173,7 +170,7 @@ module _ (m m' : Seen) (entry : Entry) (run : IsBlockRun m.setting m.log) (decid
       → length y.waiting.items ≡ length x.waiting.items
       → kept_on y entry.hart.0 ≡ drop (drained_in deed) (kept_on x entry.hart.0 ++ map (numbered line) (executed_in deed))
       → ((k : ℕ) → k ≢ entry.hart.0 → kept_on y k ≡ kept_on x k)
-      → ((a : ℕ) → line_at y.written a ≡ cond (have_byte (bytes_of_all (entered_in deed)) a) line (line_at x.written a))
+      → ((a : ℕ) → line_in y a ≡ cond (have_byte (bytes_of_all (entered_in deed)) a) line (line_in x a))
       → AreLinesOf m'.setting.limits.harts (past_of m') y
   lines_after deed line x y its line_is tied count own others wrote =
       let newest : Event = record { entry = entry; done = did } in

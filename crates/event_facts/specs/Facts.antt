@@ -4,12 +4,14 @@ use Rattle.std.specs.Prelude.{ℕ, ◌==◌, Bool, List, [], ◌∷◌, ◌++◌
 use Rattle.std.specs.List.{flat_map, list_all, range_with_len}
 use Rattle.mach_types.specs.Bytes.{after_writes}
 use Rattle.mach_types.specs.Events.{choice_of}
+use Rattle.mach_types.specs.Kernel.Threads.{running_on, state_of}
 use Rattle.mach_types.specs.Registers.{register}
 use Rattle.mach_types.specs.declared.events.Choice.{Choice}
 use Rattle.mach_types.specs.declared.events.Choice.TheVariants as asked
 use Rattle.mach_types.specs.declared.events.Entry.{Entry}
 use Rattle.mach_types.specs.declared.registers.Regs.{Regs}
 use Rattle.mach_types.specs.declared.threads.Saved.{Saved}
+use Rattle.mach_types.specs.declared.threads.ThreadState.{ThreadState}
 use Rattle.mach_types.specs.declared.user_memory.Store.{Store}
 use Rattle.mach_types.specs.declared.user_memory.Write.{Write}
 use Rattle.mach_types.specs.declared.user_memory.Write.TheVariants as entering
@@ -24,7 +26,9 @@ use Rattle.block_model.specs.History.{History, file_among, here_in_history}
 use Rattle.block_model.specs.PlainEvents.{is_plain}
 use Rattle.block_model.specs.Setting.{Setting}
 use Rattle.block_model.specs.Sights.{effect_here}
+use Rattle.event_facts.specs.Calls.{is_it}
 use Rattle.event_facts.specs.Lines.{line_behind, next_line, waiting_on}
+use Rattle.event_facts.specs.OtherRegisters.{where_off}
 use Rattle.event_facts.specs.Reservations.{all_lost, own_facts}
 use Rattle.event_facts.specs.Sources.{same_source, source_at}
 use Rattle.event_facts.specs.declared.facts.Fact.{Fact}
@@ -120,9 +124,21 @@ register_fact before after n = if register before n == register after n then [] 
 abbrev pub register_facts : Regs → Regs → List Fact
 register_facts before after = flat_map (register_fact before after) (range_with_len 0 32)
 
--- of thread t, by an event that set these files
-abbrev pub files_facts : Here → ℕ → List (ℕ × Saved) → List Fact
-files_facts here t files = register_facts (here.file t).file (file_among files t (here.file t)).file
+-- the registers of thread t, which has this file, where this thread runs on its hart and t is in this state: t runs there, or is ready,
+-- or waits, and else is gone. It runs on no other hart
+abbrev pub registers_seen : Option ℕ → Option ThreadState → ℕ → Saved → Option Regs
+registers_seen running state t x = if is_it t running then Some x.file else where_off state x
+
+-- those of a thread that had these before, where it isn't gone
+abbrev pub changed_registers : Regs → Option Regs → List Fact
+changed_registers before None = []
+changed_registers before (Some after) = register_facts before after
+
+-- of thread t, by an event that did this
+abbrev pub own_registers : Here → ℕ → Done → List Fact
+own_registers here t d =
+    changed_registers (here.file t).file
+    (registers_seen (running_on here.hart d.kernel.threads) (state_of t d.kernel.threads) t (file_among d.files t (here.file t)))
 
 -- ALL
 
@@ -143,7 +159,7 @@ facts_by s before entry d =
     let here = here_in_history s before entry.hart.0 in
     let c = choice_of entry in
     memory_facts s before entry.hart.0 (is_plain c here) (executed_by c here) d.executed d.drained d.entered d.reserved
-    ++ files_facts here entry.tid.0 d.files
+    ++ own_registers here entry.tid.0 d
 
 -- what came of an entry after a history
 unfoldable pub facts_of : Setting → History → Entry → List Fact

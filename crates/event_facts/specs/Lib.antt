@@ -4,6 +4,7 @@ pub mod Deeds
 pub mod Facts
 pub mod Faults
 pub mod Interruptions
+pub mod KernelEvents
 pub mod Lines
 pub mod OtherRegisters
 pub mod Pending

@@ -1,6 +1,10 @@
--- In which line each byte of memory was written last, as it is kept: by the aligned 8 bytes in which the byte stands.
-use Rattle.std.specs.Prelude.{ℕ, ◌/◌, ◌%◌, ◌==◌, ◌&&◌, Bool, List, nat_eq, nat_le, nat_lt, replicate, slice_index, unwrap_or}
+-- In which line each byte of memory was written last, as it is kept: by the aligned 8 bytes in which the byte stands; and writes of more
+-- than 8 bytes in a list.
+use Rattle.std.specs.Prelude.{ℕ, ◌/◌, ◌%◌, ◌==◌, ◌&&◌, Bool, List, [], ◌∷◌, if◌then◌else◌, nat_eq, nat_le, nat_lt, replicate, slice_index, unwrap_or}
 use Rattle.std.specs.HashMap.{get}
+use Rattle.rv_inst.specs.Accesses.{bytes}
+use Rattle.block_model.specs.Footprints.{has_byte}
+use Rattle.event_facts.specs.declared.long_writes.LongWrite.{LongWrite}
 use Rattle.event_facts.specs.declared.written.Written.{Written}
 
 -- the lines of the 8 bytes with this number; 0 for each that wasn't written
@@ -18,3 +22,8 @@ is_from_to from to k = nat_le from k && nat_lt k to
 -- whether a byte is among those of 8 with this number, from one of them on and before another
 abbrev pub is_among : ℕ → ℕ → ℕ → ℕ → Bool
 is_among word from to a = (a / 8 == word) && is_from_to from to (a % 8)
+
+-- writes of more than 8 bytes, the oldest first: the line of the last of these that has the byte; what it was before them, where none has
+abbrev pub last_line : List LongWrite → ℕ → ℕ → ℕ
+last_line [] a earlier = earlier
+last_line (x ∷ xs) a earlier = last_line xs a (if has_byte (bytes x.at x.length) a then x.line else earlier)

@@ -138,7 +138,7 @@ fn answer_off(threads: &Threads, tid: Tid) -> Fact
 }
 
 /// Whether a thread is the one that runs.
-fn is_it(running: Option<Tid>, tid: Tid) -> bool
+pub(crate) fn is_it(running: Option<Tid>, tid: Tid) -> bool
     ensures { (o : Option ℕ) → running ≡ option_map thread o → result ≡ spec.is_it tid.0 o }
 {
     match running {

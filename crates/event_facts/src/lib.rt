@@ -2,11 +2,11 @@
 //! it reserved, and which registers changed.
 //!
 //! [`Lines`] knows in which line of the log each store was executed that waits, and in which line each byte
-//! of memory was written last. [`plain_event`] looks whether the next event is plain: an instruction that
-//! makes neither a fault nor a call, or a store that enters memory. [`tell`] makes a plain event on a
-//! machine, and tells its facts. [`push_before`] and [`push_after`] tell of any event what is read at the places
-//! before it and after it: faults, calls, barriers, interruptions, signals, threads and areas;
-//! [`push_kernel_writes`] what the kernel wrote in it.
+//! of memory was written last. [`trace`] makes an event on a machine, and tells all that came of it. Below it:
+//! [`plain_event`] looks whether the next event is plain, an instruction that makes neither a fault nor a call or a
+//! store that enters memory, and [`tell`] makes a plain event and tells its facts. [`push_before`] and
+//! [`push_after`] tell of any event what is read at the places before it and after it: faults, calls, barriers,
+//! interruptions, signals, threads and areas; [`push_kernel_writes`] what the kernel wrote in it.
 #![tactic(auto)]
 
 mod areas;
@@ -15,9 +15,13 @@ mod deeds;
 mod facts;
 mod faults;
 mod interruptions;
+mod kept_reservations;
+mod kernel_events;
 mod kernel_writes;
 mod lines;
+mod long_writes;
 mod other_registers;
+mod own_registers;
 mod pending;
 mod places;
 mod reads;
@@ -27,6 +31,7 @@ mod reservations;
 mod telling;
 mod theorems;
 mod threads;
+mod tracing;
 mod written;
 
 pub use areas::AreaField;
@@ -40,3 +45,4 @@ pub use places::{Before, push_after, push_before};
 pub use telling::{PlainEvent, plain_event, tell};
 pub use theorems::{lines_are_told_rightly, plain_events_are_told_by_their_facts};
 pub use threads::ThreadChange;
+pub use tracing::trace;

@@ -1,18 +1,19 @@
 //! Which line of a log did what: where the bytes come from that a hart reads.
 
-ghost use Rattle.std.specs.Prelude.{◌≡◌, ◌≢◌, ℕ, ◌==◌, ◌<◌, ◌≤◌, ◌++◌, [], map, drop, IfOk, IfSome, OnOk, if◌then◌else◌, length, option_to_list};
+ghost use Rattle.std.specs.Prelude.{◌≡◌, ◌≢◌, ℕ, ◌==◌, ◌<◌, ◌≤◌, ◌++◌, [], map, drop, IfOk, OnOk, if◌then◌else◌, length, option_to_list};
 ghost use Rattle.mach_types.specs.Bytes as memory;
-ghost use Rattle.block_model.specs.Footprints.{bytes_of_all, have_byte};
+ghost use Rattle.rv_inst.specs.Accesses.{bytes};
+ghost use Rattle.block_model.specs.Footprints.{bytes_of, bytes_of_all, has_byte, have_byte};
 ghost use Rattle.event_facts.specs.Deeds.{drained_in, entered_in, executed_in};
 ghost use Rattle.event_facts.specs.Lines.{line_behind, numbered};
 ghost use Rattle.event_facts.specs.Sources.{source_over};
-ghost use Rattle.event_facts.specs.Tied.{AreLinesOf, items_at, kept_on, kept_source};
-ghost use Rattle.event_facts.specs.Written.{line_at};
+ghost use Rattle.event_facts.specs.Tied.{AreLinesOf, items_at, kept_on, kept_source, line_in};
 
 use crate::deeds::Deed;
 use crate::facts::Source;
+use crate::long_writes::{LongWrite, last_line};
 use crate::written::Written;
-use mach_types::{Hart, Store};
+use mach_types::{Hart, Store, Write};
 use std::alloc::{AllocError, Global};
 
 /// A store, with the line of the log in which it was executed.
@@ -51,8 +52,10 @@ impl Numbered {
 pub struct Lines {
     /// The stores that wait on each hart, the oldest first.
     pub(crate) waiting: Vec<Vec<Numbered>>,
-    /// The bytes that were written.
+    /// The bytes that were written, 1 to 8 of them at once.
     pub(crate) written: Written,
+    /// The writes of more bytes, the oldest first.
+    pub(crate) long: Vec<LongWrite>,
 }
 
 /// No store waits on any of so many harts.
@@ -110,7 +113,15 @@ impl Lines {
         Ok(Lines {
             waiting: none_waiting(alloc, harts)?,
             written: Written::new(alloc),
+            long: Vec::new(alloc),
         })
+    }
+
+    /// The line in which the byte at an address was written last; 0 where it wasn't.
+    fn line_of(&self, at: u64) -> u32
+        ensures { result ≡ line_in self.now at }
+    {
+        self.written.line_at(at).max(last_line(&self.long, at))
     }
 
     /// Where the byte at an address comes from that a hart reads.
@@ -118,7 +129,7 @@ impl Lines {
         requires { hart.0 < length self.now.waiting.items }
         ensures { result ≡ kept_source self.now hart.0 at }
     {
-        let below = Source::of_line(self.written.line_at(at));
+        let below = Source::of_line(self.line_of(at));
         source_over(&self.waiting[usize::from(hart.0)], at, below)
     }
 
@@ -137,22 +148,73 @@ impl Lines {
         }
     }
 
+    /// So many bytes from an address on, more than 8, were written in a line.
+    fn note_long(&mut self, at: u64, length: u64, line: u32) -> Result<(), AllocError>
+        requires { (a : ℕ) → line_in self.old a ≤ line }
+        ensures waiting { OnOk result (self.new.waiting ≡ self.old.waiting) }
+        ensures lines { OnOk result ((a : ℕ) → line_in self.new a
+            ≡ (if has_byte (bytes at length) a then line else line_in self.old a)) }
+    {
+        self.long.push(LongWrite { at, length, line })?;
+        Ok(())
+    }
+
+    /// A store entered memory in a line, the latest of those that have written anything.
+    fn note_store(&mut self, store: Store, line: u32) -> Result<(), AllocError>
+        requires { (a : ℕ) → line_in self.old a ≤ line }
+        ensures waiting { OnOk result (self.new.waiting ≡ self.old.waiting) }
+        ensures lines { OnOk result ((a : ℕ) → line_in self.new a
+            ≡ (if has_byte (bytes store.at store.size) a then line else line_in self.old a)) }
+    {
+        if store.size > 8 {
+            return self.note_long(store.at, u64::from(store.size), line);
+        }
+        self.written.write(store, line)?;
+        Ok(())
+    }
+
+    /// A write entered memory in a line, the latest of those that have written anything.
+    fn note_write(&mut self, write: Write, line: u32) -> Result<(), AllocError>
+        requires { (a : ℕ) → line_in self.old a ≤ line }
+        ensures waiting { OnOk result (self.new.waiting ≡ self.old.waiting) }
+        ensures lines { OnOk result ((a : ℕ) → line_in self.new a
+            ≡ (if has_byte (bytes_of write) a then line else line_in self.old a)) }
+    {
+        match write {
+            Write::Stored(store) => self.note_store(store, line),
+            Write::Zeroed { at, length } => self.note_long(at, length, line),
+        }
+    }
+
+    /// The kernel made these writes in a line, one after the other.
+    pub(crate) fn note_kernel(&mut self, writes: &[Write], line: u32) -> Result<(), AllocError>
+        requires { (a : ℕ) → line_in self.old a ≤ line }
+        ensures waiting { OnOk result (self.new.waiting ≡ self.old.waiting) }
+        ensures lines { OnOk result ((a : ℕ) → line_in self.new a
+            ≡ (if have_byte (bytes_of_all writes.now) a then line else line_in self.old a)) }
+    {
+        for write in writes {
+            self.note_write(*write, line)?;
+        }
+        Ok(())
+    }
+
     /// A plain event of a hart did this in a line.
     pub(crate) fn note(&mut self, hart: Hart, deed: &Deed, line: u32) -> Result<(), AllocError>
         requires hart { hart.0 < length self.old.waiting.items }
-        requires size { IfSome deed.now.entered (λ w. w.size ≤ 8) }
+        requires lines { (a : ℕ) → line_in self.old a ≤ line }
         ensures harts { OnOk result (length self.new.waiting.items ≡ length self.old.waiting.items) }
         ensures own { OnOk result (kept_on self.new hart.0
             ≡ drop (drained_in deed.now) (kept_on self.old hart.0 ++ map (numbered line) (executed_in deed.now))) }
         ensures others { OnOk result ((k : ℕ) → k ≢ hart.0 → kept_on self.new k ≡ kept_on self.old k) }
-        ensures written { OnOk result ((a : ℕ) → line_at self.new.written a
-            ≡ (if have_byte (bytes_of_all (entered_in deed.now)) a then line else line_at self.old.written a)) }
+        ensures written { OnOk result ((a : ℕ) → line_in self.new a
+            ≡ (if have_byte (bytes_of_all (entered_in deed.now)) a then line else line_in self.old a)) }
     {
         let own = &mut self.waiting[usize::from(hart.0)];
         push_waiting(own, deed.executed, line)?;
         drop_waiting(own, deed.drained);
         if let Some(store) = deed.entered {
-            self.written.write(store, line)?;
+            self.note_store(store, line)?;
         }
         Ok(())
     }

@@ -38,7 +38,7 @@ fn registers_of(saved: Option<Saved>) -> Option<Regs>
 }
 
 /// The registers of a thread that is ready or waits; None where it runs, or is gone.
-fn saved_registers(threads: &Threads, tid: Tid) -> Option<Regs>
+pub(crate) fn saved_registers(threads: &Threads, tid: Tid) -> Option<Regs>
     ensures { (file : ℕ → File) → AreSaved file threads.now
         → result ≡ where_off (state_of tid.0 threads.now.threads) (file tid.0) }
 {

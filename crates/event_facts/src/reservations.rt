@@ -24,6 +24,21 @@ fn push_ended(facts: &mut Vec<Fact>, reserved: Option<u64>) -> Result<(), AllocE
     Ok(())
 }
 
+/// Appends that the reservation of an event's hart ended, where it was this before and is that after.
+pub(crate) fn push_if_ended(
+    facts: &mut Vec<Fact>,
+    before: Option<u64>,
+    after: Option<u64>,
+) -> Result<(), AllocError>
+    ensures { OnOk result (facts.new.items ≡ facts.old.items ++ ended_facts before after) }
+{
+    match (before, after) {
+        (Some(at), None) => facts.push(Fact::Ended { at })?,
+        (Some(_), Some(_)) | (None, _) => {}
+    }
+    Ok(())
+}
+
 /// Appends that a reservation ended that an LR at an address takes the place of: one of other bytes.
 fn push_replaced(facts: &mut Vec<Fact>, reserved: Option<u64>, at: u64) -> Result<(), AllocError>
     ensures { OnOk result (facts.new.items ≡ facts.old.items ++ replaced_facts reserved at) }
@@ -76,12 +91,12 @@ pub(crate) fn push_reserving(
     }
 }
 
-/// Whether a store has one of 8 bytes that are reserved.
-fn takes(store: Store, start: u64) -> bool
-    ensures { result ≡ execution.has_reserved start store.at store.size }
+/// Whether one of so many bytes from an address on is one of the 8 that are reserved from `start` on.
+pub(crate) fn takes(at: u64, length: u64, start: u64) -> bool
+    ensures { result ≡ execution.has_reserved start at length }
 {
-    let end = u128::from(store.at) + u128::from(store.size);
-    store.size > 0 && u128::from(start) < end && u128::from(store.at) < u128::from(start) + 8
+    let end = u128::from(at) + u128::from(length);
+    length > 0 && u128::from(start) < end && u128::from(at) < u128::from(start) + 8
 }
 
 /// Appends that a hart, which has this reserved, loses it to a store that enters memory, if it does.
@@ -95,7 +110,7 @@ fn push_lost(
         ≡ facts.old.items ++ lost_facts hart.0 reserved (Stored store ∷ [])) }
 {
     if let Some(start) = reserved {
-        if takes(store, start) {
+        if takes(store.at, u64::from(store.size), start) {
             facts.push(Fact::Lost {
                 hart,
                 at: start,

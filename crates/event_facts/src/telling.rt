@@ -204,7 +204,7 @@ fn push_memory(
 }
 
 /// Makes an entry that is due.
-fn make(machine: &mut Machine, entry: Entry)
+pub(crate) fn make(machine: &mut Machine, entry: Entry)
     requires { IsDecided machine.old entry }
     ensures machine { machine.new ≡ record machine.old { log = machine.old.log ++ entry ∷ [] } }
     ensures run { IsBlockRun machine.new.setting machine.new.log }

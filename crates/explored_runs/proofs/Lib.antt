@@ -1,4 +1,3 @@
-mod Added
 mod Batches
 pub mod Counts
 mod DecileExamples
@@ -8,3 +7,4 @@ pub mod OneExploration
 pub mod Outcomes
 pub mod Telling
 pub mod Told
+mod WaitCounts

@@ -7,3 +7,4 @@ pub mod Made
 pub mod Sums
 pub mod Tallies
 pub mod Text
+pub mod Waits

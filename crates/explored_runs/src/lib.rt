@@ -17,6 +17,7 @@ mod tallying;
 mod task;
 mod text;
 mod theorems;
+mod waits;
 
 pub use exploration::{Apart, Exploration};
 pub use explored::{Explored, Found, MOST_FOUND, Others};

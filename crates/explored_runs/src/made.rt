@@ -74,7 +74,7 @@ fn made_by(alloc: Global, apart: Apart, manner: &Manner, run: &DrawnRun) -> Resu
         steps: log.len() as u32,
         console: Printed::copied(alloc, kept(apart, machine.console()))?,
         end: machine.end(),
-        tally: Tally::of(machine.harts(), log, run.left_inside, &run.waits),
+        tally: Tally::of(alloc, machine.harts(), log, run.left_inside, &run.waits)?,
     })
 }
 

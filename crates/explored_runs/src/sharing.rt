@@ -21,7 +21,7 @@ use std::sync::atomic::AtomicU64;
 use std::thread::{self, Threads};
 
 /// How many runs a round has for each host thread at most.
-const MOST_RUNS: u64 = 1_024;
+const MOST_RUNS: u64 = 4_096;
 
 /// About how many entries the runs of a round have together for each host thread, where that many runs have more.
 const ENTRIES: u64 = 200_000;
@@ -139,14 +139,14 @@ fn next_round(explored: &Explored, runs: u64, jobs: usize) -> Round
     }
 }
 
-/// How many runs the round behind these has for each of so many host threads, 1 to 1,024: no more in all than were told so far, so
+/// How many runs the round behind these has for each of so many host threads, 1 to 4,096: no more in all than were told so far, so
 /// that one in which the last outcome is found is no longer than what came before it; and where runs are long, as many as have
 /// about [`ENTRIES`] entries together, so that such a round is soon over too.
 fn runs_of_each(explored: &Explored, jobs: u64) -> u64
     requires runs { explored.now.runs ≤ 1000000000 }
     requires jobs { 0 < jobs }
     ensures some { 0 < result }
-    ensures few { result ≤ 1024 }
+    ensures few { result ≤ 4096 }
 {
     let fitting = ENTRIES * explored.runs / explored.steps.max(1);
     fitting.min(explored.runs / jobs).clamp(1, MOST_RUNS)

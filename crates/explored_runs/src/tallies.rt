@@ -1,5 +1,7 @@
 //! What was tried in a run, and in all runs.
 
+use crate::waits::Waits;
+
 /// What was tried in one run.
 #[derive(Drop)]
 pub(crate) struct Tally {
@@ -13,7 +15,7 @@ pub(crate) struct Tally {
     pub(crate) inside: u64,
     /// By the number of instructions that a hart executed behind one of its stores until that entered memory, 0 to 255: how many
     /// stores waited so long, at the last place for [`drawn_machine::LONG_WAIT`] instructions or more.
-    pub(crate) waits: [u32; 256],
+    pub(crate) waits: Waits,
 }
 
 /// What was tried in all runs.

@@ -1,30 +1,38 @@
 //! How what was tried is counted.
 
-ghost use Rattle.std.specs.Prelude.{◌≡◌, ◌≤◌, ◌<◌, ◌^◌, length, All};
-ghost use Rattle.explored_runs.specs.Accounts.{added, nothing, tried_after};
+ghost use Rattle.std.specs.Prelude.{◌≡◌, ◌≤◌, ◌<◌, ◌^◌, length, All, IfOk};
+ghost use Rattle.explored_runs.specs.Accounts.{nothing, tried_after};
 ghost use Rattle.explored_runs.specs.Tallies.{IsShort, harts_in, preemptions_in, ran_on, switches_from, switches_in, tally_with};
 
 use crate::tallies::{Tally, Tried};
+use crate::waits::Waits;
 use mach_types::{Entry, Hart, Kind};
+use std::alloc::{AllocError, Global};
 
 impl Tally {
     /// What was tried in the run of a log, on so many harts, where so often a thread was preempted inside a sequence, and so many
     /// stores waited so long.
-    pub(crate) fn of(harts: u8, log: &[Entry], inside: u32, waits: &[u32; 256]) -> Tally
+    pub(crate) fn of(
+        alloc: Global,
+        harts: u8,
+        log: &[Entry],
+        inside: u32,
+        waits: &[u32; 256],
+    ) -> Result<Tally, AllocError>
         requires harts { harts ≤ 8 }
         requires log { length log.now ≤ 1000000 }
         requires inside { inside ≤ 1000000 }
         requires waits { All (λ stores. stores ≤ 1000000) waits.now }
-        ensures is { result ≡ tally_with harts log.now inside waits.now }
-        ensures short { IsShort result }
+        ensures is { IfOk result (λ tally. tally ≡ tally_with harts log.now inside waits.now) }
+        ensures short { IfOk result IsShort }
     {
-        Tally {
+        Ok(Tally {
             harts: harts_of(harts, log),
             switches: switches(log) as u64,
             preemptions: preemptions(log) as u64,
             inside: u64::from(inside),
-            waits: *waits,
-        }
+            waits: Waits::of(alloc, waits)?,
+        })
     }
 }
 
@@ -112,17 +120,6 @@ impl Tried {
         self.switches += tally.switches;
         self.preemptions += tally.preemptions;
         self.inside += tally.inside;
-        add_counts(&mut self.waits, &tally.waits);
-    }
-}
-
-/// Adds counts to the sums at their places.
-fn add_counts(sums: &mut [u64], counts: &[u32])
-    requires length { length sums.old ≡ length counts.now }
-    requires few { All (λ stores. stores < 2 ^ 63) sums.old }
-    ensures { sums.new ≡ added sums.old counts.now }
-{
-    for (place, count) in counts.iter().enumerate() {
-        sums[place] += u64::from(*count);
+        tally.waits.add_to(&mut self.waits);
     }
 }

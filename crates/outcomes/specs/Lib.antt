@@ -18,3 +18,4 @@ pub mod Statuses
 pub mod Summary
 pub mod Text
 pub mod Told
+pub mod Traces

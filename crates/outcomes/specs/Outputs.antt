@@ -17,8 +17,8 @@ use Rattle.block_view.specs.Acts.{acts_of}
 use Rattle.log_gather.specs.Gathered.{gathered}
 use Rattle.place_text.specs.Place.{place_text}
 use Rattle.command_words.specs.declared.commands.Draws.{Draws}
-use Rattle.command_words.specs.declared.table.Shown.{Shown}
-use Rattle.command_words.specs.declared.table.Shown.TheVariants as shows
+use Rattle.command_words.specs.declared.commands.Shown.{Shown}
+use Rattle.command_words.specs.declared.commands.Shown.TheVariants as shows
 use Rattle.command_words.specs.Commands.{Command, Run, Runs, Makes, Tries, Explores, Pairs, Source, Rule, Script, Workers, Drawn, DrawnAfter}
 use Rattle.command_words.specs.Words.{command_of}
 use Rattle.outcomes.specs.Explorations.{IsExploreOutput}
@@ -28,6 +28,7 @@ use Rattle.outcomes.specs.Programs.{Files, IsProgram, IsScript, asks_of}
 use Rattle.outcomes.specs.Runs.{IsChosenRun, IsSoloRun, IsPlayedRun}
 use Rattle.outcomes.specs.Summary.{act_line, summary_text}
 use Rattle.outcomes.specs.Text.{output_text}
+use Rattle.outcomes.specs.Traces.{trace_text}
 
 -- the output text of a log: its lines, and the console and the end that it comes to
 abbrev pub log_output : Setting → List Entry → List ℕ
@@ -44,6 +45,7 @@ text_of shows.Summary s bytes log end = summary_text s.limits.harts (acts_of s l
 text_of shows.Place s bytes log end = place_text s (history s log)
 text_of shows.Acts s bytes log end = flat_map act_line (acts_of s log)
 text_of shows.Gathered s bytes log end = output_text bytes (gathered s log) end
+text_of (shows.Trace span) s bytes log end = trace_text span s log
 
 -- of a log, with the console and the end that it comes to
 abbrev pub shown_text : Shown → Setting → List Entry → List ℕ

@@ -1,48 +1,15 @@
 -- The words of an add block.
-use Rattle.std.proofs.Common.{refl, arith, pos}
+use Rattle.std.proofs.Common.{refl, arith, pos, rules}
 use Rattle.rv_inst.specs.declared.instruction.Inst.TheVariants as inst
 use Rattle.percpu_lib.specs.Adds.{add_block}
 use Rattle.percpu_lib.specs.Uses.{add_form}
 use Rattle.percpu_lib.specs.declared.slots.Slots.{Slots}
 use Rattle.percpu_lib.proofs.BlockCode.{IsFormed}
-use Rattle.percpu_lib.proofs.FormedWords.{AreFit, words_fit}
-
-fit : (p : Slots) → AreFit (add_form p) 0 (add_block p)
-fit p = (
-  (refl, refl),
-  (
-    (refl, refl),
-    (
-      (refl, refl),
-      (
-        refl,
-        (
-          (refl, refl),
-          (
-            (refl, refl),
-            (
-              (refl, refl),
-              (
-                (refl, refl),
-                ((refl, refl), ((refl, refl), (refl, ((refl, refl), (refl, ((refl, refl), tt)))))),
-              ),
-            ),
-          ),
-        ),
-      ),
-    ),
-  ),
-)
+use Rattle.percpu_lib.proofs.FormedWords.{formed_of, words_fit}
 
 pub add_formed : (p : Slots) → IsFormed (add_form p)
-add_formed p = record {
-  some = omega arith;
-  within = omega arith;
-  short = omega arith;
-  inside = omega arith;
-  lui = refl;
-  addi = refl;
-  store = refl;
-  words = words_fit (add_form p) (omega arith) (omega arith) 0 (add_block p) (omega arith) (fit p);
-  entry = (inst.Lw 5 p.area (pos 0), refl);
-}
+add_formed p =
+    formed_of (add_form p) (omega arith) (omega arith) (omega arith) (omega arith) refl refl refl
+    (inst.Lw 5 p.area (pos 0)) refl
+    (words_fit (add_form p) (omega arith) (omega arith) 0 (add_block p) (omega arith)
+    (search rules))

@@ -1,5 +1,5 @@
--- A worked log, by computation: a thread registers its area and is to add 32 to the cell of its processor by an
--- add block. It is preempted inside, begins anew at the abort handler, and adds once. It uses the block as
+-- A worked log, by computation: a thread registers its area and is to add 32 to the cell of its processor by
+-- an add block. It is preempted inside, begins anew at the abort handler, and adds once. It uses the block as
 -- HoldsAdd asks.
 use Rattle.std.proofs.Common.{◌≡◌, ℕ, ◌+◌, List, [], ◌∷◌, ◌++◌, replicate, take, drop, refl}
 use Rattle.std.proofs.Common.{true, Some, Ok}
@@ -9,8 +9,9 @@ use Rattle.mach_types.specs.declared.events.Entry.{Entry}
 use Rattle.mach_types.specs.declared.events.Kind.TheVariants as kind
 use Rattle.mach_types.specs.declared.sequences.Area.{Area}
 use Rattle.rv_inst.specs.Meaning.{meaning}
-use Rattle.rv_inst.specs.Table.{row_of, rows, lui_rows, auipc_rows, jal_rows, jalr_rows, branch_rows, load_rows, store_rows}
-use Rattle.rv_inst.specs.Table.{op_imm_rows, op_imm_32_rows, op_rows, op_32_rows, misc_mem_rows, amo_rows, system_rows}
+use Rattle.rv_inst.specs.Table.{row_of, rows, lui_rows, auipc_rows, jal_rows, jalr_rows, branch_rows}
+use Rattle.rv_inst.specs.Table.{load_rows, store_rows, op_imm_rows, op_imm_32_rows, op_rows, op_32_rows}
+use Rattle.rv_inst.specs.Table.{misc_mem_rows, amo_rows, system_rows}
 use Rattle.block_model.specs.Acts.{Sequence, sequence_on}
 use Rattle.block_model.specs.Deciding.{decide, done, history}
 use Rattle.block_model.specs.History.{file, running}
@@ -26,6 +27,7 @@ use Rattle.percpu_lib.specs.Adds.{add_block, add_range, cell_seen, placed_add}
 use Rattle.percpu_lib.specs.Uses.{HoldsAdd, SharesArea, add_form, cells_of}
 use Rattle.percpu_lib.specs.declared.slots.Slots.{Slots}
 use Rattle.percpu_lib.proofs.ExampleParts.{AreThere, entry, holds_so, line}
+use Rattle.percpu_lib.proofs.ExampleParts.{data_at, setting_of, walk}
 use Rattle.percpu_lib.proofs.FormTests.{add_tested}
 use Rattle.percpu_lib.proofs.RetryParts.{calm_so, is_retried, retried_so}
 use Rattle.percpu_lib.proofs.ShareTests.{all_shares, none_other, shares_so}
@@ -35,27 +37,19 @@ use Rattle.percpu_lib.proofs.UseTests.{all_can_begin, always_begins_freely, are_
 -- `addi x17, x0, 293`, `ecall`, `addi x9, x8, 64`; from 0x100D0 on the block, and at 0x10120 its descriptor
 abbrev code : List ℕ
 code =
-    0x37 ∷ 0x04 ∷ 0x02 ∷ 0x00 ∷ 0x13 ∷ 0x05 ∷ 0x04 ∷ 0x00 ∷ 0x93 ∷ 0x05 ∷ 0x00 ∷ 0x02 ∷ 0xB7 ∷ 0x16 ∷ 0x40 ∷ 0xF1
-    ∷ 0x93 ∷ 0x86 ∷ 0x36 ∷ 0x07 ∷ 0x93 ∷ 0x08 ∷ 0x50 ∷ 0x12 ∷ 0x73 ∷ 0x00 ∷ 0x00 ∷ 0x00 ∷ 0x93 ∷ 0x04 ∷ 0x04 ∷ 0x04
-    ∷ 0x83 ∷ 0x22 ∷ 0x04 ∷ 0x00 ∷ 0x37 ∷ 0x03 ∷ 0x01 ∷ 0x00 ∷ 0x13 ∷ 0x03 ∷ 0x03 ∷ 0x12 ∷ 0x23 ∷ 0x34 ∷ 0x64 ∷ 0x00
-    ∷ 0x03 ∷ 0x23 ∷ 0x44 ∷ 0x00 ∷ 0xE3 ∷ 0x16 ∷ 0x53 ∷ 0xFE ∷ 0x93 ∷ 0x92 ∷ 0x62 ∷ 0x00 ∷ 0xB3 ∷ 0x82 ∷ 0x92 ∷ 0x00
-    ∷ 0x03 ∷ 0xB3 ∷ 0x02 ∷ 0x00 ∷ 0x33 ∷ 0x03 ∷ 0xB3 ∷ 0x00 ∷ 0x23 ∷ 0xB0 ∷ 0x62 ∷ 0x00 ∷ 0x6F ∷ 0x00 ∷ 0xC0 ∷ 0x00
-    ∷ 0x73 ∷ 0x10 ∷ 0x40 ∷ 0xF1 ∷ 0x6F ∷ 0xF0 ∷ 0xDF ∷ 0xFC ∷ 0x00 ∷ 0x00 ∷ 0x00 ∷ 0x00 ∷ 0x00 ∷ 0x00 ∷ 0x00 ∷ 0x00
-    ∷ 0x00 ∷ 0x00 ∷ 0x00 ∷ 0x00 ∷ 0x00 ∷ 0x00 ∷ 0x00 ∷ 0x00 ∷ 0x00 ∷ 0x00 ∷ 0x00 ∷ 0x00 ∷ 0x00 ∷ 0x00 ∷ 0x00 ∷ 0x00
-    ∷ 0x00 ∷ 0x00 ∷ 0x00 ∷ 0x00 ∷ 0x00 ∷ 0x00 ∷ 0x00 ∷ 0x00 ∷ 0xE0 ∷ 0x00 ∷ 0x01 ∷ 0x00 ∷ 0x00 ∷ 0x00 ∷ 0x00 ∷ 0x00
-    ∷ 0x1C ∷ 0x00 ∷ 0x00 ∷ 0x00 ∷ 0x00 ∷ 0x00 ∷ 0x00 ∷ 0x00 ∷ 0x04 ∷ 0x01 ∷ 0x01 ∷ 0x00 ∷ 0x00 ∷ 0x00 ∷ 0x00 ∷ 0x00 ∷ []
+    0x37 ∷ 0x04 ∷ 0x02 ∷ 0x00 ∷ 0x13 ∷ 0x05 ∷ 0x04 ∷ 0x00 ∷ 0x93 ∷ 0x05 ∷ 0x00 ∷ 0x02 ∷ 0xB7 ∷ 0x16 ∷ 0x40
+    ∷ 0xF1 ∷ 0x93 ∷ 0x86 ∷ 0x36 ∷ 0x07 ∷ 0x93 ∷ 0x08 ∷ 0x50 ∷ 0x12 ∷ 0x73 ∷ 0x00 ∷ 0x00 ∷ 0x00 ∷ 0x93 ∷ 0x04
+    ∷ 0x04 ∷ 0x04 ∷ 0x83 ∷ 0x22 ∷ 0x04 ∷ 0x00 ∷ 0x37 ∷ 0x03 ∷ 0x01 ∷ 0x00 ∷ 0x13 ∷ 0x03 ∷ 0x03 ∷ 0x12 ∷ 0x23
+    ∷ 0x34 ∷ 0x64 ∷ 0x00 ∷ 0x03 ∷ 0x23 ∷ 0x44 ∷ 0x00 ∷ 0xE3 ∷ 0x16 ∷ 0x53 ∷ 0xFE ∷ 0x93 ∷ 0x92 ∷ 0x62 ∷ 0x00
+    ∷ 0xB3 ∷ 0x82 ∷ 0x92 ∷ 0x00 ∷ 0x03 ∷ 0xB3 ∷ 0x02 ∷ 0x00 ∷ 0x33 ∷ 0x03 ∷ 0xB3 ∷ 0x00 ∷ 0x23 ∷ 0xB0 ∷ 0x62
+    ∷ 0x00 ∷ 0x6F ∷ 0x00 ∷ 0xC0 ∷ 0x00 ∷ 0x73 ∷ 0x10 ∷ 0x40 ∷ 0xF1 ∷ 0x6F ∷ 0xF0 ∷ 0xDF ∷ 0xFC ∷ 0x00 ∷ 0x00
+    ∷ 0x00 ∷ 0x00 ∷ 0x00 ∷ 0x00 ∷ 0x00 ∷ 0x00 ∷ 0x00 ∷ 0x00 ∷ 0x00 ∷ 0x00 ∷ 0x00 ∷ 0x00 ∷ 0x00 ∷ 0x00 ∷ 0x00
+    ∷ 0x00 ∷ 0x00 ∷ 0x00 ∷ 0x00 ∷ 0x00 ∷ 0x00 ∷ 0x00 ∷ 0x00 ∷ 0x00 ∷ 0x00 ∷ 0x00 ∷ 0x00 ∷ 0x00 ∷ 0x00 ∷ 0x00
+    ∷ 0xE0 ∷ 0x00 ∷ 0x01 ∷ 0x00 ∷ 0x00 ∷ 0x00 ∷ 0x00 ∷ 0x00 ∷ 0x1C ∷ 0x00 ∷ 0x00 ∷ 0x00 ∷ 0x00 ∷ 0x00 ∷ 0x00
+    ∷ 0x00 ∷ 0x04 ∷ 0x01 ∷ 0x01 ∷ 0x00 ∷ 0x00 ∷ 0x00 ∷ 0x00 ∷ 0x00 ∷ []
 
 abbrev pub adding : Setting
-adding = record {
-  program = record {
-    pages = record { number = 0x10; perm = 5; bytes = replicate 0xB0 0 ++ code } ∷ record { number = 0x20; perm = 6; bytes = [] } ∷ [];
-    entry = 0x100B0;
-    phdr = 0x10040;
-    phnum = 2;
-    break_at = 0x21000;
-  };
-  limits = record { harts = 1; frames = 128; steps = 200 };
-}
+adding = setting_of 0xB0 code (data_at 0x20 [] ∷ []) 0x21000
 
 abbrev pub slots : Slots
 slots = record { area = 8; cells = 9; value = 11; table = 0x10120 }
@@ -66,9 +60,9 @@ at = 0x100D0
 abbrev pub area : Area
 area = record { at = 0x20000; sig = 0xF1401073 }
 
--- the thread runs, and executes the first eight instructions and the first six words of the block, whose store
--- then enters memory. It is preempted and runs again; it executes the jump at the abort handler, the first six
--- words once more, whose store enters memory, and five more words
+-- the thread runs, and executes the first eight instructions and the first six words of the block, whose
+-- store then enters memory. It is preempted and runs again; it executes the jump at the abort handler, the
+-- first six words once more, whose store enters memory, and five more words
 abbrev lines : List Ask
 lines =
     line (asked.Run (record { 0 = 1 }))
@@ -80,37 +74,9 @@ lines =
 
 abbrev pub log : List Entry
 log =
-    entry kind.Run 1 0x100B0
-    ∷ entry kind.Exec 1 0x100B0
-    ∷ entry kind.Exec 1 0x100B4
-    ∷ entry kind.Exec 1 0x100B8
-    ∷ entry kind.Exec 1 0x100BC
-    ∷ entry kind.Exec 1 0x100C0
-    ∷ entry kind.Exec 1 0x100C4
-    ∷ entry kind.Exec 1 0x100C8
-    ∷ entry kind.Exec 1 0x100CC
-    ∷ entry kind.Exec 1 0x100D0
-    ∷ entry kind.Exec 1 0x100D4
-    ∷ entry kind.Exec 1 0x100D8
-    ∷ entry kind.Exec 1 0x100DC
-    ∷ entry kind.Exec 1 0x100E0
-    ∷ entry kind.Exec 1 0x100E4
-    ∷ entry kind.Drain 1 0x100E8
-    ∷ entry kind.Preempt 1 0x100E8
-    ∷ entry kind.Run 1 0x100E8
-    ∷ entry kind.Exec 1 0x10104
-    ∷ entry kind.Exec 1 0x100D0
-    ∷ entry kind.Exec 1 0x100D4
-    ∷ entry kind.Exec 1 0x100D8
-    ∷ entry kind.Exec 1 0x100DC
-    ∷ entry kind.Exec 1 0x100E0
-    ∷ entry kind.Exec 1 0x100E4
-    ∷ entry kind.Drain 1 0x100E8
-    ∷ entry kind.Exec 1 0x100E8
-    ∷ entry kind.Exec 1 0x100EC
-    ∷ entry kind.Exec 1 0x100F0
-    ∷ entry kind.Exec 1 0x100F4
-    ∷ entry kind.Exec 1 0x100F8 ∷ []
+    entry kind.Run 1 0x100B0 ∷ walk 0x100B0 14 ++ entry kind.Drain 1 0x100E8
+    ∷ entry kind.Preempt 1 0x100E8 ∷ entry kind.Run 1 0x100E8 ∷ entry kind.Exec 1 0x10104 ∷ walk 0x100D0 6
+    ++ entry kind.Drain 1 0x100E8 ∷ walk 0x100E8 5
 
 is_played : played adding lines ≡ Ok log
 unfolding played decide history done meaning row_of rows lui_rows auipc_rows jal_rows jalr_rows branch_rows load_rows store_rows op_imm_rows op_imm_32_rows op_rows op_32_rows misc_mem_rows amo_rows system_rows are_readable number_at
@@ -158,15 +124,18 @@ fine = refl
 
 pub holds : HoldsAdd adding (history adding log) slots at area 1
 holds =
-    holds_so adding (add_form slots) (add_tested slots) at area 1 (history adding log) is_run.allowed fine refl there
+    holds_so adding (add_form slots) (add_tested slots) at area 1 (history adding log) is_run.allowed fine
+    refl there
 
 -- it can always begin, and from the retry label on, once it was aborted, its hart is left undisturbed
-begins_fine : always_begins_freely adding (add_form slots) (add_tested slots) at area 1 (history adding log) ≡ true
+begins_fine : always_begins_freely adding (add_form slots) (add_tested slots) at area 1 (history adding log)
+    ≡ true
 unfolding decide history done meaning row_of rows lui_rows auipc_rows jal_rows jalr_rows branch_rows load_rows store_rows op_imm_rows op_imm_32_rows op_rows op_32_rows misc_mem_rows amo_rows system_rows are_readable number_at
 begins_fine = refl
 
 pub can_begin : CanAlwaysBegin adding (placed_add slots at area) 1 (history adding log)
-can_begin = all_can_begin adding (add_form slots) (add_tested slots) at area 1 (history adding log) is_run.allowed begins_fine
+can_begin = all_can_begin adding (add_form slots) (add_tested slots) at area 1 (history adding log)
+    is_run.allowed begins_fine
 
 abbrev pub earlier : List Entry
 earlier = take 19 log
@@ -188,17 +157,19 @@ shares_fine = refl
 
 -- it uses its area for this block alone
 pub shares : SharesArea adding (history adding log) slots at area 1 []
-shares = all_shares adding (add_form slots) (add_tested slots) at area 1 [] (history adding log) is_run.allowed fine shares_fine (λ other has. absurd (none_other other has))
+shares = all_shares adding (add_form slots) (add_tested slots) at area 1 [] (history adding log)
+    is_run.allowed fine shares_fine (λ other has. absurd (none_other other has))
 
 pub undisturbed : IsUndisturbed 0 rest
 undisturbed = calm_so rest refl
 
--- before that it was at the retry label a first time. From there it walked to the seventh word of the block; it was
--- preempted there, and began to run again at the abort handler; and from there it walked back
+-- before that it was at the retry label a first time. From there it walked to the seventh word of the block;
+-- it was preempted there, and began to run again at the abort handler; and from there it walked back
 abbrev pub first_time : List Entry
 first_time = take 9 log
 
-comes_back : is_retried adding (placed_add slots at area) 1 first_time (take 7 (drop 9 log)) (take 2 (drop 16 log))
+comes_back : is_retried adding (placed_add slots at area) 1 first_time (take 7 (drop 9 log))
+    (take 2 (drop 16 log))
     (take 1 (drop 18 log)) ≡ true
 unfolding decide history done meaning row_of rows lui_rows auipc_rows jal_rows jalr_rows branch_rows load_rows store_rows op_imm_rows op_imm_32_rows op_rows op_32_rows misc_mem_rows amo_rows system_rows are_readable number_at
 comes_back = refl

@@ -27,23 +27,14 @@ use Rattle.percpu_lib.specs.declared.slots.Slots.{Slots}
 use Rattle.percpu_lib.proofs.AddCode.{add_formed}
 use Rattle.percpu_lib.proofs.BlockCode.{behind_range}
 use Rattle.percpu_lib.proofs.BlockWords.{beside_pointer, or_true}
-use Rattle.percpu_lib.proofs.CellPath.{BeginsSo, inside_at, to_cell}
+use Rattle.percpu_lib.proofs.CellPath.{BeginsSo, begins_of, inside_at, to_cell}
 use Rattle.percpu_lib.proofs.CourseLaw.{HasPath, course_of, way}
 use Rattle.percpu_lib.proofs.Courses.{HasCourse}
 
 begins_so : (p : Slots) → AreSlots p → BeginsSo (add_form p) 6 64
-begins_so p slots = record {
-  lw = refl;
-  bne = refl;
-  slli = refl;
-  add = refl;
-  long = omega arith;
-  five = refl;
-  six = refl;
-  area_kept = slots.area;
-  cells_kept = slots.cells;
-  shifts = λ cpu few. omega arith;
-}
+begins_so p slots =
+    begins_of (add_form p) 6 64 refl refl refl refl (omega arith) refl refl slots.area slots.cells
+    (λ cpu few. omega arith)
 
 module _ (s : Setting) (p : Slots) (at : ℕ) (area : Area) (h t : ℕ) (begun : History)
     (held : AreHeld (code_of s.program.pages) at (add_block p)) (slots : AreSlots p)
@@ -81,7 +72,8 @@ module _ (s : Setting) (p : Slots) (at : ℕ) (area : Area) (h t : ℕ) (begun :
 
   in_cell : each_byte bytes cell 8 ≡ true
   in_cell =
-      each_implies (among cell 8) bytes (λ a is. ap (λ b. among area.at 32 a || b) is ∙ or_true (among area.at 32 a))
+      each_implies (among cell 8) bytes (λ a is. ap (λ b. among area.at 32 a || b) is
+      ∙ or_true (among area.at 32 a))
       cell 8 (each_among cell 8 cell 8 (omega arith) (omega arith))
 
   area_bytes : (a : ℕ) → among area.at 32 a ≡ true → bytes a ≡ true
@@ -91,7 +83,8 @@ module _ (s : Setting) (p : Slots) (at : ℕ) (area : Area) (h t : ℕ) (begun :
   keeps =
       let low = place.low in
       let low_cells = place.apart.low_cells in
-      to_cell s (add_form p) at area h t begun Inside Done (add_formed p) held place 6 64 (begins_so p slots) refl
+      to_cell s (add_form p) at area h t begun Inside Done (add_formed p) held place 6 64 (begins_so p slots)
+      refl
       area_bytes cells refl (omega arith)
       (λ y now.
       then_load w (at + 32) _ [] y now (here 8 (omega arith) (omega arith)) refl
@@ -114,11 +107,13 @@ module _ (s : Setting) (p : Slots) (at : ℕ) (area : Area) (h t : ℕ) (begun :
       (λ f like. means_sd f (at + 40) 5 6 (pos 0) cell cell sum sum (like.temp 5 refl) (omega arith)
       (like.temp 6 refl) (omega arith))
       in_cell (omega arith) (omega arith) (omega arith)
-      (λ v last. leaves w (at + 44) _ _ v last (behind_range (add_form p) at 11 low (omega arith) (omega arith))
+      (λ v last. leaves w (at + 44) _ _ v last (behind_range (add_form p) at 11 low (omega arith)
+      (omega arith))
       (inr (refl, refl))))))
     where
       here : (k : ℕ) → 4 ≤ k → k < 11 → is_inside (add_range at) (at + 4 * k) ≡ true
-      here k from lt = inside_at s (add_form p) at area h t begun Inside Done (add_formed p) held place k from lt
+      here k from lt =
+          inside_at s (add_form p) at area h t begun Inside Done (add_formed p) held place k from lt
 
   path : HasPath s (add_form p) at area h t begun Inside Done
   path = record {
@@ -127,8 +122,10 @@ module _ (s : Setting) (p : Slots) (at : ℕ) (area : Area) (h t : ℕ) (begun :
     area_bytes = area_bytes;
     points = λ es none. ap (λ (x : List Store). word_at (seen_byte x seen) (area.at + 8) 8) none
         ∙ word_unchanged seen (area.at + 8) 8;
-    points_done = λ temps es stored. ap (λ (x : List Store). word_at (seen_byte x seen) (area.at + 8) 8) stored
-        ∙ beside_word seen (cell_store cells h sum) (area.at + 8) 8 (beside_pointer cell area.at place.apart.beside);
+    points_done = λ temps es stored. ap (λ (x : List Store). word_at (seen_byte x seen) (area.at + 8) 8)
+        stored
+        ∙ beside_word seen (cell_store cells h sum) (area.at + 8) 8
+        (beside_pointer cell area.at place.apart.beside);
     partial = λ temps es last after none. record {
       same = after.sees cell in_cell ∙ ap (λ (x : List Store). word_at (seen_byte x seen) cell 8) none
           ∙ word_unchanged seen cell 8;
@@ -151,5 +148,6 @@ add_course p = record {
   formed = add_formed p;
   course = λ s at area h t begun held slots place.
       course_of s (add_form p) at area h t begun (Inside s p at area h t begun held slots place)
-      (Done s p at area h t begun held slots place) (add_formed p) place (path s p at area h t begun held slots place);
+      (Done s p at area h t begun held slots place) (add_formed p) place
+      (path s p at area h t begun held slots place);
 }

@@ -1,7 +1,7 @@
 -- A sequence of an alloc block is one run of its thread alone, and so takes one item or none.
-use Rattle.std.proofs.Common.{◌≡◌, ◌≢◌, ℕ, ◌+◌, ◌-◌, ◌*◌, ◌<◌, ◌≤◌, ◌%◌, ◌^◌, List, [], ◌∷◌, ◌++◌, refl, ap, ◌∙◌, subst}
-use Rattle.std.proofs.Common.{arith, Bool, true, false, not, ◌&&◌, ◌||◌, eqb, Option, Some, inl, inr, ◌⊎◌, append-nil, pos}
-use Rattle.std.proofs.Common.{negsuc, unwrap_or}
+use Rattle.std.proofs.Common.{◌≡◌, ◌≢◌, ℕ, ◌+◌, ◌-◌, ◌*◌, ◌<◌, ◌≤◌, ◌%◌, ◌^◌, List, [], ◌∷◌, ◌++◌, refl, ap}
+use Rattle.std.proofs.Common.{◌∙◌, subst, arith, Bool, true, false, not, ◌&&◌, ◌||◌, eqb, Option, Some, inl}
+use Rattle.std.proofs.Common.{inr, ◌⊎◌, append-nil, pos, negsuc, unwrap_or, rules}
 use Rattle.std.proofs.lemmas.Bool.{eqb-false, eqb-true}
 use Rattle.mach_types.specs.Bytes.{each_byte, word_at}
 use Rattle.mach_types.specs.Kernel.Areas.{is_inside}
@@ -35,84 +35,24 @@ use Rattle.percpu_lib.specs.Words.{AreHeld, AreSlots, is_changed}
 use Rattle.percpu_lib.specs.declared.slots.Slots.{Slots}
 use Rattle.percpu_lib.proofs.BlockCode.{IsFormed, behind_range}
 use Rattle.percpu_lib.proofs.BlockWords.{beside_pointer, or_true}
-use Rattle.percpu_lib.proofs.CellPath.{BeginsSo, inside_at, to_cell}
-use Rattle.percpu_lib.proofs.Changes.{area_not_changed, cells_not_changed, means_beq_not, means_beq_taken, put_other}
-use Rattle.percpu_lib.proofs.Changes.{put_same, scratch_not, some_value, value_changed}
+use Rattle.percpu_lib.proofs.CellPath.{BeginsSo, begins_of, inside_at, to_cell}
+use Rattle.percpu_lib.proofs.Changes.{area_not_changed, cells_not_changed, means_beq_not, means_beq_taken}
+use Rattle.percpu_lib.proofs.Changes.{put_other, put_same, scratch_not, some_value, value_changed}
 use Rattle.percpu_lib.proofs.CourseLaw.{HasPath, IsAfter, course_of, way}
 use Rattle.percpu_lib.proofs.Courses.{HasCourse}
-use Rattle.percpu_lib.proofs.FormedWords.{AreFit, words_fit}
-
-fit : (p : Slots) → AreFit (alloc_form p) 0 (alloc_block p)
-fit p = (
-  (refl, refl),
-  (
-    (refl, refl),
-    (
-      (refl, refl),
-      (
-        refl,
-        (
-          (refl, refl),
-          (
-            (refl, refl),
-            (
-              (refl, refl),
-              (
-                (refl, refl),
-                (
-                  (refl, refl),
-                  (
-                    (refl, value_changed p),
-                    (
-                      (refl, refl),
-                      (
-                        (refl, refl),
-                        (
-                          (refl, refl),
-                          (
-                            (refl, refl),
-                            ((refl, value_changed p), (refl, ((refl, refl), (refl, ((refl, refl), tt))))),
-                          ),
-                        ),
-                      ),
-                    ),
-                  ),
-                ),
-              ),
-            ),
-          ),
-        ),
-      ),
-    ),
-  ),
-)
+use Rattle.percpu_lib.proofs.FormedWords.{formed_of, words_fit}
 
 pub alloc_formed : (p : Slots) → IsFormed (alloc_form p)
-alloc_formed p = record {
-  some = omega arith;
-  within = omega arith;
-  short = omega arith;
-  inside = omega arith;
-  lui = refl;
-  addi = refl;
-  store = refl;
-  words = words_fit (alloc_form p) (omega arith) (omega arith) 0 (alloc_block p) (omega arith) (fit p);
-  entry = (inst.Lw 5 p.area (pos 0), refl);
-}
+alloc_formed p =
+    formed_of (alloc_form p) (omega arith) (omega arith) (omega arith) (omega arith) refl refl refl
+    (inst.Lw 5 p.area (pos 0)) refl
+    (words_fit (alloc_form p) (omega arith) (omega arith) 0 (alloc_block p) (omega arith)
+    (search (rules, value_changed p)))
 
 begins_so : (p : Slots) → AreSlots p → BeginsSo (alloc_form p) 13 8192
-begins_so p slots = record {
-  lw = refl;
-  bne = refl;
-  slli = refl;
-  add = refl;
-  long = omega arith;
-  five = refl;
-  six = refl;
-  area_kept = area_not_changed p slots;
-  cells_kept = cells_not_changed p slots;
-  shifts = λ cpu few. omega arith;
-}
+begins_so p slots =
+    begins_of (alloc_form p) 13 8192 refl refl refl refl (omega arith) refl refl (area_not_changed p slots)
+    (cells_not_changed p slots) (λ cpu few. omega arith)
 
 module _ (s : Setting) (p : Slots) (at : ℕ) (area : Area) (h t : ℕ) (begun : History)
     (held : AreHeld (code_of s.program.pages) at (alloc_block p)) (slots : AreSlots p)
@@ -187,7 +127,8 @@ module _ (s : Setting) (p : Slots) (at : ℕ) (area : Area) (h t : ℕ) (begun :
       slot 8 (each_among slot 8 slot 8 (omega arith) (omega arith))
 
   here : (k : ℕ) → 4 ≤ k → k < 16 → is_inside (alloc_range at) (at + 4 * k) ≡ true
-  here k from lt = inside_at s (alloc_form p) at area h t begun Inside Done (alloc_formed p) held place k from lt
+  here k from lt =
+      inside_at s (alloc_form p) at area h t begun Inside Done (alloc_formed p) held place k from lt
 
   out : is_inside (alloc_range at) (at + 64) ≡ false
   out = let low = place.low in behind_range (alloc_form p) at 16 low (omega arith) (omega arith)
@@ -248,7 +189,8 @@ module _ (s : Setting) (p : Slots) (at : ℕ) (area : Area) (h t : ℕ) (begun :
       (λ v next.
       then_next w (at + 52) _ [] v next (here 13 (omega arith) (omega arith)) refl
       (inst.Add 7 7 5) (held.holds 13 (inst.Add 7 7 5) refl) 7 (pool + 8 * (count - 1)) (at + 56)
-      (λ f like. means_add f (at + 52) (at + 56) (omega arith) 7 7 5 (8 * (count - 1)) pool (pool + 8 * (count - 1))
+      (λ f like. means_add f (at + 52) (at + 56) (omega arith) 7 7 5 (8 * (count - 1)) pool
+      (pool + 8 * (count - 1))
       (like.temp 7 refl) (like.temp 5 refl ∙ beside_value 5 0 (put 6 count temps_0) refl) (omega arith))
       refl refl (omega arith) (omega arith) (omega arith) rest)))
 
@@ -261,8 +203,10 @@ module _ (s : Setting) (p : Slots) (at : ℕ) (area : Area) (h t : ℕ) (begun :
       then_load w (at + 56) _ [] y was (here 14 (omega arith) (omega arith)) refl
       (inst.Ld p.value 7 (pos 64)) (held.holds 14 (inst.Ld p.value 7 (pos 64)) refl)
       slot 8 p.value item_word.0 (at + 60) true
-      (λ f like. means_ld f (at + 56) p.value 7 (pos 64) (pool + 8 * (count - 1)) slot (like.temp 7 refl) (omega arith))
-      (in_slot some) (word_unchanged seen slot 8 ∙ item_word.1) (value_changed p) (some_value p slots) slots.low_value
+      (λ f like. means_ld f (at + 56) p.value 7 (pos 64) (pool + 8 * (count - 1)) slot (like.temp 7 refl)
+      (omega arith))
+      (in_slot some) (word_unchanged seen slot 8 ∙ item_word.1) (value_changed p) (some_value p slots)
+      slots.low_value
       (omega arith) (omega arith) (omega arith)
       (λ z now.
       then_store w (at + 60) _ [] z now (here 15 (omega arith) (omega arith)) refl
@@ -274,9 +218,18 @@ module _ (s : Setting) (p : Slots) (at : ℕ) (area : Area) (h t : ℕ) (begun :
       (like.temp 6 refl ∙ beside_value 6 (loaded item_word.0 8 true) temps_5 refl) (omega arith))
       in_count (omega arith) (omega arith) (omega arith)
       (λ v last. leaves w (at + 64) _ _ v last out
-      (inr (refl, inr (some, put_same p.value (loaded item_word.0 8 true) temps_5 ∙ loaded_word item_word.0, refl)))))
+      (inr (
+        refl,
+        inr (
+          some,
+          put_same p.value (loaded item_word.0 8 true) temps_5
+              ∙ loaded_word item_word.0,
+          refl,
+        ),
+      ))))
 
-  by_count : (y : Stand) → IsAt (is_changed p) old (at + 40) temps_2 [] y → (b : Bool) → eqb count 0 ≡ b → KeepsOn w y
+  by_count : (y : Stand) → IsAt (is_changed p) old (at + 40) temps_2 [] y → (b : Bool) → eqb count 0 ≡ b
+      → KeepsOn w y
   by_count y was true is = ends y was is
   by_count y was false is = finds y was is (λ z now. takes z now is)
 
@@ -284,7 +237,8 @@ module _ (s : Setting) (p : Slots) (at : ℕ) (area : Area) (h t : ℕ) (begun :
   keeps =
       let low = place.low in
       let low_pool = place.apart.low_pool in
-      to_cell s (alloc_form p) at area h t begun Inside Done (alloc_formed p) held place 13 8192 (begins_so p slots) refl
+      to_cell s (alloc_form p) at area h t begun Inside Done (alloc_formed p) held place 13 8192
+      (begins_so p slots) refl
       area_bytes pools refl (omega arith)
       (λ y now.
       then_load w (at + 32) _ [] y now (here 8 (omega arith) (omega arith)) refl
@@ -331,7 +285,8 @@ module _ (s : Setting) (p : Slots) (at : ℕ) (area : Area) (h t : ℕ) (begun :
       ∙ stored_word (sees s h begun) (count_store pool (count - 1)) (omega arith))
       (after.stored ∙ ap (λ (x : List Store). stores h begun ++ x) some.2)
 
-  points : (es : List Store) → es ≡ [] → word_at (seen_byte es seen) (area.at + 8) 8 ≡ word_at seen (area.at + 8) 8
+  points : (es : List Store) → es ≡ [] → word_at (seen_byte es seen) (area.at + 8) 8
+      ≡ word_at seen (area.at + 8) 8
   points es none = ap (λ (x : List Store). word_at (seen_byte x seen) (area.at + 8) 8) none
       ∙ word_unchanged seen (area.at + 8) 8
 
@@ -340,7 +295,8 @@ module _ (s : Setting) (p : Slots) (at : ℕ) (area : Area) (h t : ℕ) (begun :
   points_done temps es (inl none) = points es none.2
   points_done temps es (inr some) =
       ap (λ (x : List Store). word_at (seen_byte x seen) (area.at + 8) 8) some.2
-      ∙ beside_word seen (count_store pool (count - 1)) (area.at + 8) 8 (beside_pointer pool area.at place.apart.beside)
+      ∙ beside_word seen (count_store pool (count - 1)) (area.at + 8) 8
+      (beside_pointer pool area.at place.apart.beside)
 
   path : HasPath s (alloc_form p) at area h t begun Inside Done
   path = record {
@@ -363,5 +319,6 @@ alloc_course p = record {
   formed = alloc_formed p;
   course = λ s at area h t begun held slots place.
       course_of s (alloc_form p) at area h t begun (Inside s p at area h t begun held slots place)
-      (Done s p at area h t begun held slots place) (alloc_formed p) place (path s p at area h t begun held slots place);
+      (Done s p at area h t begun held slots place) (alloc_formed p) place
+      (path s p at area h t begun held slots place);
 }

@@ -1,8 +1,9 @@
--- No sequence of a block of the library has a word of another block before its sequence: those words are a load into
--- x5, a LUI, an ADDI and a store, maybe behind a copy, and a sequence begins with a load into x6, ends with a store and
--- has neither of the first two.
-use Rattle.std.proofs.Common.{◌≡◌, ℕ, zero, suc, ◌+◌, ◌*◌, ◌-◌, ◌/◌, ◌%◌, ◌<◌, ◌≤◌, ◌^◌, List, [], ◌∷◌, length, refl, sym, ap, ◌∙◌}
-use Rattle.std.proofs.Common.{◌++◌, arith, Bool, true, false, eqb, Option, Some, slice_get, pos, inl, inr, ◌⊎◌}
+-- No sequence of a block of the library has a word of another block before its sequence: those words are a
+-- load into x5, a LUI, an ADDI and a store, maybe behind a copy, and a sequence begins with a load into x6,
+-- ends with a store and has neither of the first two.
+use Rattle.std.proofs.Common.{◌≡◌, ℕ, zero, suc, ◌+◌, ◌*◌, ◌-◌, ◌/◌, ◌%◌, ◌<◌, ◌≤◌, ◌^◌, List, [], ◌∷◌}
+use Rattle.std.proofs.Common.{length, refl, sym, ap, ◌∙◌, ◌++◌, arith, Bool, true, false, eqb, Option, Some}
+use Rattle.std.proofs.Common.{slice_get, ℤ, pos, inl, inr, ◌⊎◌}
 use Rattle.std.specs.Option.{option_map}
 use Rattle.std.proofs.lemmas.Bool.{cases_lt, false≢true, ltb-true}
 use Rattle.elf_load.specs.declared.image.ImagePage.{ImagePage}
@@ -16,7 +17,8 @@ use Rattle.alone_laws.specs.Spans.{code_of}
 use Rattle.alone_laws.specs.Uses.{Placed, is_before}
 use Rattle.percpu_lib.specs.Adds.{add_steps}
 use Rattle.percpu_lib.specs.Allocs.{alloc_steps}
-use Rattle.percpu_lib.specs.Beside.{HoldsSequence, IsOfLibrary, is_add, is_alloc, is_free, is_pop, is_push, is_ring_get, is_ring_put, sequence_lines}
+use Rattle.percpu_lib.specs.Beside.{HoldsSequence, IsOfLibrary, is_add, is_alloc, is_free, is_pop, is_push}
+use Rattle.percpu_lib.specs.Beside.{is_ring_get, is_ring_put, sequence_lines}
 use Rattle.percpu_lib.specs.Forms.{Form, placed_of}
 use Rattle.percpu_lib.specs.Frees.{free_steps}
 use Rattle.percpu_lib.specs.Lines.{instructions}
@@ -54,146 +56,57 @@ abbrev AreLate : List (Option Inst) → Type 0
 AreLate [] = Unit {0}
 AreLate (o ∷ rest) = IsLate o × AreLate rest
 
-late : (i : Inst) → is_early i ≡ false → IsLate (Some i)
-late i test = record { instruction = i; is = refl; late = test }
+-- lines of instructions that aren't early, and whose branches lead to labels that are bound
+abbrev AreLateLines : List (Option ℕ) → List Line → Type 0
+AreLateLines labels [] = Unit {0}
+AreLateLines labels (line.Label n ∷ rest) = AreLateLines labels rest
+AreLateLines labels (line.Plain i ∷ rest) = (is_early i ≡ false) × AreLateLines labels rest
+AreLateLines labels (line.Branch i l ∷ rest) = ((to : ℕ) × (index_of labels l ≡ Some to)
+    × ((z : ℤ) → is_early (aimed i z) ≡ false)) × AreLateLines labels rest
+AreLateLines labels (line.Data w ∷ rest) = ⊥
 
-to_retry : (o : Option ℕ) (n to : ℕ) → o ≡ Some to → IsLate (option_map (λ t. aimed (inst.Bne 6 5 (pos 0)) (distance n t)) o)
-to_retry o n to bound = record {
-  instruction = inst.Bne 6 5 (distance n to);
-  is = ap (option_map (λ t. aimed (inst.Bne 6 5 (pos 0)) (distance n t))) bound;
-  late = refl;
-}
+late_joined : (labels : List (Option ℕ)) (xs ys : List Line) → AreLateLines labels xs → AreLateLines labels ys
+    → AreLateLines labels (xs ++ ys)
+late_joined labels [] ys are rest = rest
+late_joined labels (line.Label n ∷ xs) ys are rest = late_joined labels xs ys are rest
+late_joined labels (line.Plain i ∷ xs) ys are rest = (are.0, late_joined labels xs ys are.1 rest)
+late_joined labels (line.Branch i l ∷ xs) ys are rest = (are.0, late_joined labels xs ys are.1 rest)
+late_joined labels (line.Data w ∷ xs) ys are rest = absurd are
 
-to_leave : (a b : ℕ) (o : Option ℕ) (n to : ℕ) → o ≡ Some to
-    → IsLate (option_map (λ t. aimed (inst.Beq a b (pos 0)) (distance n t)) o)
-to_leave a b o n to bound = record {
-  instruction = inst.Beq a b (distance n to);
-  is = ap (option_map (λ t. aimed (inst.Beq a b (pos 0)) (distance n t))) bound;
-  late = refl;
-}
-
-to_leave_not : (a b : ℕ) (o : Option ℕ) (n to : ℕ) → o ≡ Some to
-    → IsLate (option_map (λ t. aimed (inst.Bne a b (pos 0)) (distance n t)) o)
-to_leave_not a b o n to bound = record {
-  instruction = inst.Bne a b (distance n to);
-  is = ap (option_map (λ t. aimed (inst.Bne a b (pos 0)) (distance n t))) bound;
-  late = refl;
-}
-
--- lines of instructions that aren't early
-abbrev AreLateLines : List Line → Type 0
-AreLateLines [] = Unit {0}
-AreLateLines (line.Label n ∷ rest) = ⊥
-AreLateLines (line.Plain i ∷ rest) = (is_early i ≡ false) × AreLateLines rest
-AreLateLines (line.Branch i n ∷ rest) = ⊥
-AreLateLines (line.Data w ∷ rest) = ⊥
-
-late_joined : (xs ys : List Line) → AreLateLines xs → AreLateLines ys → AreLateLines (xs ++ ys)
-late_joined [] ys are rest = rest
-late_joined (line.Label n ∷ xs) ys are rest = absurd are
-late_joined (line.Plain i ∷ xs) ys are rest = (are.0, late_joined xs ys are.1 rest)
-late_joined (line.Branch i n ∷ xs) ys are rest = absurd are
-late_joined (line.Data w ∷ xs) ys are rest = absurd are
-
-lines_late : (labels : List (Option ℕ)) (n : ℕ) (xs : List Line) → AreLateLines xs → AreLate (instructions labels n xs)
+lines_late : (labels : List (Option ℕ)) (n : ℕ) (xs : List Line) → AreLateLines labels xs
+    → AreLate (instructions labels n xs)
 lines_late labels n [] are = tt
-lines_late labels n (line.Label l ∷ xs) are = absurd are
-lines_late labels n (line.Plain i ∷ xs) are = (late i are.0, lines_late labels (n + 1) xs are.1)
-lines_late labels n (line.Branch i l ∷ xs) are = absurd are
+lines_late labels n (line.Label l ∷ xs) are = lines_late labels n xs are
+lines_late labels n (line.Plain i ∷ xs) are =
+    (record { instruction = i; is = refl; late = are.0 }, lines_late labels (n + 1) xs are.1)
+lines_late labels n (line.Branch i l ∷ xs) are = (
+  record {
+    instruction = aimed i (distance n are.0.0);
+    is = ap (option_map (λ t. aimed i (distance n t))) are.0.1;
+    late = are.0.2 (distance n are.0.0);
+  },
+  lines_late labels (n + 1) xs are.1,
+)
 lines_late labels n (line.Data w ∷ xs) are = absurd are
 
-put_late : (q : Slots) (k : ℕ) → AreLateLines (put_words q k)
-put_late q zero = tt
-put_late q (suc k) =
-    late_joined (put_words q k) (put_word q k) (put_late q k) (refl, (refl, (refl, (refl, (refl, (refl, tt))))))
+fewer : (labels : List (Option ℕ)) (n : ℕ) (xs : List Line) → length (instructions labels n xs) ≤ length xs
+fewer labels n [] = omega arith
+fewer labels n (line.Label l ∷ xs) = let less = fewer labels n xs in omega arith
+fewer labels n (line.Plain i ∷ xs) = let less = fewer labels (n + 1) xs in omega arith
+fewer labels n (line.Branch i l ∷ xs) = let less = fewer labels (n + 1) xs in omega arith
+fewer labels n (line.Data w ∷ xs) = let less = fewer labels (n + 1) xs in omega arith
 
-get_late : (q : Slots) (k : ℕ) → AreLateLines (get_words q k)
-get_late q zero = tt
-get_late q (suc k) =
-    late_joined (get_words q k) (get_word q k) (get_late q k) (refl, (refl, (refl, (refl, (refl, (refl, tt))))))
+put_late : (labels : List (Option ℕ)) (q : Slots) (k : ℕ) → AreLateLines labels (put_words q k)
+put_late labels q zero = tt
+put_late labels q (suc k) =
+    late_joined labels (put_words q k) (put_word q k) (put_late labels q k)
+    (refl, (refl, (refl, (refl, (refl, (refl, tt))))))
 
--- the sequence of a ring block
-put_sequence : (q : Slots) (labels : List (Option ℕ)) (first retry leave base count : ℕ)
-    → index_of labels base ≡ Some retry → index_of labels (base + 2) ≡ Some leave
-    → AreLate (instructions labels first (sequence_lines q base 13 (put_steps q base count)))
-put_sequence q labels first retry leave base count to_start to_end =
-    let words = lines_late labels (first + 1 + 1 + 1 + 1 + 1 + 1 + 1 + 1 + 1 + 1 + 1)
-    (line.Plain (inst.Addi q.value 28 (pos 0)) ∷ (put_words q count ++ line.Plain (inst.Sd 5 6 (pos 8)) ∷ []))
-    (refl, late_joined (put_words q count) (line.Plain (inst.Sd 5 6 (pos 8)) ∷ []) (put_late q count) (refl, tt)) in (
-      late _ refl,
-      (
-        to_retry (index_of labels base) (first + 1) retry to_start,
-        (
-          late _ refl,
-          (
-            late _ refl,
-            (
-              late _ refl,
-              (
-                late _ refl,
-                (
-                  late _ refl,
-                  (
-                    late _ refl,
-                    (
-                      late _ refl,
-                      (
-                        late _ refl,
-                        (
-                          to_leave 7 0 (index_of labels (base + 2)) (first + 1 + 1 + 1 + 1 + 1 + 1 + 1 + 1 + 1 + 1) leave to_end,
-                          words,
-                        ),
-                      ),
-                    ),
-                  ),
-                ),
-              ),
-            ),
-          ),
-        ),
-      ),
-    )
-
-get_sequence : (q : Slots) (labels : List (Option ℕ)) (first retry leave base count : ℕ)
-    → index_of labels base ≡ Some retry → index_of labels (base + 2) ≡ Some leave
-    → AreLate (instructions labels first (sequence_lines q base 13 (get_steps q base count)))
-get_sequence q labels first retry leave base count to_start to_end =
-    let words = lines_late labels (first + 1 + 1 + 1 + 1 + 1 + 1 + 1 + 1 + 1 + 1 + 1)
-    (line.Plain (inst.Addi q.value 28 (pos 0)) ∷ (get_words q count ++ line.Plain (inst.Sd 5 6 (pos 0)) ∷ []))
-    (refl, late_joined (get_words q count) (line.Plain (inst.Sd 5 6 (pos 0)) ∷ []) (get_late q count) (refl, tt)) in (
-      late _ refl,
-      (
-        to_retry (index_of labels base) (first + 1) retry to_start,
-        (
-          late _ refl,
-          (
-            late _ refl,
-            (
-              late _ refl,
-              (
-                late _ refl,
-                (
-                  late _ refl,
-                  (
-                    late _ refl,
-                    (
-                      late _ refl,
-                      (
-                        late _ refl,
-                        (
-                          to_leave_not 7 0 (index_of labels (base + 2)) (first + 1 + 1 + 1 + 1 + 1 + 1 + 1 + 1 + 1 + 1) leave to_end,
-                          words,
-                        ),
-                      ),
-                    ),
-                  ),
-                ),
-              ),
-            ),
-          ),
-        ),
-      ),
-    )
+get_late : (labels : List (Option ℕ)) (q : Slots) (k : ℕ) → AreLateLines labels (get_words q k)
+get_late labels q zero = tt
+get_late labels q (suc k) =
+    late_joined labels (get_words q k) (get_word q k) (get_late labels q k)
+    (refl, (refl, (refl, (refl, (refl, (refl, tt))))))
 
 each_late : (ws : List (Option Inst)) → AreLate ws → (k : ℕ) → k < length ws
     → (i : Inst) × (slice_get ws k ≡ Some (Some i)) × (is_early i ≡ false)
@@ -216,9 +129,12 @@ record IsKnown (q : Slots) (ws : List (Option Inst)) : Type 0 where
   ends : slice_get ws (length ws - 1) ≡ Some (Some last)
   stores : is_store last ≡ true
 
-module _ (pages : List ImagePage) (form : Form) (lead : ℕ) (asks : AsksFirst form lead) (one : lead ≤ 1) (at : ℕ)
-    (area : Area) (x : Placed) (q : Slots) (ws : List (Option Inst)) (held : AreHeld (code_of pages) at form.words)
-    (low : at < 2 ^ 37) (stands : AreHeld (code_of pages) x.range.start ws) (long : x.range.length ≡ 4 * length ws)
+module _ (pages : List ImagePage) (form : Form) (lead : ℕ) (asks : AsksFirst form lead) (one : lead ≤ 1)
+    (at : ℕ)
+    (area : Area) (x : Placed) (q : Slots) (ws : List (Option Inst))
+    (held : AreHeld (code_of pages) at form.words)
+    (low : at < 2 ^ 37) (stands : AreHeld (code_of pages) x.range.start ws)
+    (long : x.range.length ≡ 4 * length ws)
     (low_start : x.range.start < 2 ^ 37) (known : IsKnown q ws) where
   abbrev p : Slots
   p = form.slots
@@ -227,7 +143,8 @@ module _ (pages : List ImagePage) (form : Form) (lead : ℕ) (asks : AsksFirst f
   start = x.range.start
 
   -- an early word doesn't stand in the sequence, and its first word is a load
-  not_early : (a k : ℕ) (i : Inst) → code_of pages a ≡ Some i → is_early i ≡ true → a ≡ start + 4 * k → k < length ws
+  not_early : (a k : ℕ) (i : Inst) → code_of pages a ≡ Some i → is_early i ≡ true → a ≡ start + 4 * k → k
+      < length ws
       → ⊥
   not_early a k i is early same lt =
       let w = each_late ws known.late k lt in
@@ -271,7 +188,8 @@ module _ (pages : List ImagePage) (form : Form) (lead : ℕ) (asks : AsksFirst f
   not_copy : (j k : ℕ) → j < lead → at + 4 * j ≡ start + 4 * k → k < length ws → ⊥
   not_copy j k lt same within = by_place (cases_lt (k + 1) (length ws))
     where
-      copy : code_of pages (at + 4 * j) ≡ Some (inst.Addi (asks.copies j lt).rd (asks.copies j lt).rs (asks.copies j lt).imm)
+      copy : code_of pages (at + 4 * j) ≡ Some (inst.Addi (asks.copies j lt).rd (asks.copies j lt).rs
+          (asks.copies j lt).imm)
       copy = held.holds j (inst.Addi (asks.copies j lt).rd (asks.copies j lt).rs (asks.copies j lt).imm)
           (asks.copies j lt).there
 
@@ -279,7 +197,8 @@ module _ (pages : List ImagePage) (form : Form) (lead : ℕ) (asks : AsksFirst f
       no_last there =
           let i : Inst = inst.Addi (asks.copies j lt).rd (asks.copies j lt).rs (asks.copies j lt).imm in
           let both : i ≡ known.last =
-          same_inst i known.last (sym copy ∙ ap (code_of pages) there ∙ stands.holds (length ws - 1) known.last known.ends) in
+          same_inst i known.last (sym copy ∙ ap (code_of pages) there
+          ∙ stands.holds (length ws - 1) known.last known.ends) in
           false≢true (ap is_store both ∙ known.stores)
 
       by_place : (k + 1 < length ws) ⊎ (length ws ≤ k + 1) → ⊥
@@ -313,7 +232,8 @@ module _ (pages : List ImagePage) (form : Form) (lead : ℕ) (asks : AsksFirst f
 
   start_aligned : start % 4 ≡ 0
   start_aligned =
-      let first = held_aligned pages (start + 4 * 0) (inst.Lw 6 q.area (pos 4)) (stands.holds 0 (inst.Lw 6 q.area (pos 4)) known.starts) in
+      let first = held_aligned pages (start + 4 * 0) (inst.Lw 6 q.area (pos 4))
+      (stands.holds 0 (inst.Lw 6 q.area (pos 4)) known.starts) in
       omega (arith, first)
 
   -- an address of both
@@ -333,7 +253,8 @@ module _ (pages : List ImagePage) (form : Form) (lead : ℕ) (asks : AsksFirst f
           let small = one in
           let all = asks.all in
           let first : (at + 4 * form.first + (2 ^ 64 - at)) % 2 ^ 64 ≡ 4 * (lead + 4) = omega arith in
-          let lt = ltb-true ((pc + (2 ^ 64 - at)) % 2 ^ 64) ((at + 4 * form.first + (2 ^ 64 - at)) % 2 ^ 64) here in
+          let lt =
+          ltb-true ((pc + (2 ^ 64 - at)) % 2 ^ 64) ((at + 4 * form.first + (2 ^ 64 - at)) % 2 ^ 64) here in
           omega arith
 
       by_test : (c : Bool) → is_inside x.range pc ≡ c → is_inside x.range pc ≡ false
@@ -344,227 +265,92 @@ module _ (pages : List ImagePage) (form : Form) (lead : ℕ) (asks : AsksFirst f
           let within = ltb-true ((pc + (2 ^ 64 - start)) % 2 ^ 64) x.range.length inside in
           let one_way = near_at at pc (4 * (lead + 4)) low (omega arith) near in
           let other_way = near_at start pc x.range.length low_start (omega (arith, long)) within in
-          absurd (by_address ((pc + (2 ^ 64 - at)) % 2 ^ 64) ((pc + (2 ^ 64 - start)) % 2 ^ 64) (sym one_way ∙ other_way)
+          absurd (by_address ((pc + (2 ^ 64 - at)) % 2 ^ 64) ((pc + (2 ^ 64 - start)) % 2 ^ 64)
+          (sym one_way ∙ other_way)
           near (omega (arith, long)))
 
-module _ (pages : List ImagePage) (form : Form) (lead : ℕ) (asks : AsksFirst form lead) (one : lead ≤ 1) (at : ℕ)
+module _ (pages : List ImagePage) (form : Form) (lead : ℕ) (asks : AsksFirst form lead) (one : lead ≤ 1)
+    (at : ℕ)
     (area : Area) (x : Placed) (held : AreHeld (code_of pages) at form.words) (low : at < 2 ^ 37) where
-  of_sequence : (q : Slots) (base shift : ℕ) (inside : List Line) (its : HoldsSequence (code_of pages) x q base shift inside)
-      → IsKnown q (instructions its.labels its.first (sequence_lines q base shift inside))
-      → LiesBeside (placed_of form at area) x
-  of_sequence q base shift inside its known = record {
+  of_sequence : (q : Slots) (base shift : ℕ) (inside : List Line)
+      (its : HoldsSequence (code_of pages) x q base shift inside)
+      → AreLateLines its.labels inside → length inside ≤ 90 → (last : Inst)
+      → slice_get (instructions its.labels its.first (sequence_lines q base shift inside))
+      (length (instructions its.labels its.first (sequence_lines q base shift inside)) - 1) ≡ Some (Some last)
+      → is_store last ≡ true → LiesBeside (placed_of form at area) x
+  of_sequence q base shift inside its late few last ends stores = record {
     low_table = let small = its.low_table in omega arith;
     apart = apart pages form lead asks one at area x q
-        (instructions its.labels its.first (sequence_lines q base shift inside)) held low its.stands its.long its.low known;
+        (instructions its.labels its.first (sequence_lines q base shift inside)) held low its.stands its.long
+        its.low known;
   }
+    where
+      known : IsKnown q (instructions its.labels its.first (sequence_lines q base shift inside))
+      known =
+          let most = fewer its.labels (its.first + 1 + 1 + 1 + 1) inside in
+          record {
+            few = omega arith;
+            some = omega arith;
+            late = lines_late its.labels its.first (sequence_lines q base shift inside)
+                (refl, ((its.retry, its.bound_retry, λ z. refl), (refl, (refl, late))));
+            starts = refl;
+            last = last;
+            ends = ends;
+            stores = stores;
+          }
+
+  -- a sequence of a ring block
+  abbrev OfRing : Slots → ℕ → List Line → ℕ → Type 0
+  OfRing q base steps offset = (its : HoldsSequence (code_of pages) x q base 13 steps) → length steps ≤ 90
+      → slice_get (instructions its.labels its.first (sequence_lines q base 13 steps))
+      (length (instructions its.labels its.first (sequence_lines q base 13 steps)) - 1)
+      ≡ Some (Some (inst.Sd 5 6 (pos offset)))
+      → LiesBeside (placed_of form at area) x
+
+  of_put : (q : Slots) (base count : ℕ) → OfRing q base (put_steps q base count) 8
+  of_put q base count its few ends =
+      let words = late_joined its.labels (put_words q count) (line.Plain (inst.Sd 5 6 (pos 8)) ∷ [])
+      (put_late its.labels q count) (refl, tt) in
+      of_sequence q base 13 (put_steps q base count) its
+      (refl, (refl, (refl, (refl, (refl, (refl, ((its.leave, its.bound_leave, λ z. refl), (refl, words))))))))
+      few (inst.Sd 5 6 (pos 8)) ends refl
+
+  of_get : (q : Slots) (base count : ℕ) → OfRing q base (get_steps q base count) 0
+  of_get q base count its few ends =
+      let words = late_joined its.labels (get_words q count) (line.Plain (inst.Sd 5 6 (pos 0)) ∷ [])
+      (get_late its.labels q count) (refl, tt) in
+      of_sequence q base 13 (get_steps q base count) its
+      (refl, (refl, (refl, (refl, (refl, (refl, ((its.leave, its.bound_leave, λ z. refl), (refl, words))))))))
+      few (inst.Sd 5 6 (pos 0)) ends refl
 
   pub beside : IsOfLibrary (code_of pages) x → LiesBeside (placed_of form at area) x
   beside (is_add q base its) =
-      of_sequence q base 6 (add_steps q) its (record {
-        few = omega arith;
-        some = omega arith;
-        late = (
-          late _ refl,
-          (
-            to_retry (index_of its.labels base) (its.first + 1) its.retry its.bound_retry,
-            (late _ refl, (late _ refl, (late _ refl, (late _ refl, (late _ refl, tt))))),
-          ),
-        );
-        starts = refl;
-        last = inst.Sd 5 6 (pos 0);
-        ends = refl;
-        stores = refl;
-      })
+      of_sequence q base 6 (add_steps q) its (refl, (refl, (refl, tt))) (omega arith) (inst.Sd 5 6 (pos 0)) refl refl
   beside (is_push q base its) =
-      of_sequence q base 6 (push_steps q) its (record {
-        few = omega arith;
-        some = omega arith;
-        late = (
-          late _ refl,
-          (
-            to_retry (index_of its.labels base) (its.first + 1) its.retry its.bound_retry,
-            (late _ refl, (late _ refl, (late _ refl, (late _ refl, (late _ refl, tt))))),
-          ),
-        );
-        starts = refl;
-        last = inst.Sd 5 q.value (pos 0);
-        ends = refl;
-        stores = refl;
-      })
+      of_sequence q base 6 (push_steps q) its (refl, (refl, (refl, tt))) (omega arith) (inst.Sd 5 q.value (pos 0))
+      refl refl
   beside (is_pop q base its) =
-      of_sequence q base 6 (pop_steps q base) its (record {
-        few = omega arith;
-        some = omega arith;
-        late = (
-          late _ refl,
-          (
-            to_retry (index_of its.labels base) (its.first + 1) its.retry its.bound_retry,
-            (
-              late _ refl,
-              (
-                late _ refl,
-                (
-                  late _ refl,
-                  (
-                    to_leave q.value 0 (index_of its.labels (base + 2)) (its.first + 1 + 1 + 1 + 1 + 1) its.leave its.bound_leave,
-                    (late _ refl, (late _ refl, tt)),
-                  ),
-                ),
-              ),
-            ),
-          ),
-        );
-        starts = refl;
-        last = inst.Sd 5 6 (pos 0);
-        ends = refl;
-        stores = refl;
-      })
+      of_sequence q base 6 (pop_steps q base) its
+      (refl, ((its.leave, its.bound_leave, λ z. refl), (refl, (refl, tt)))) (omega arith) (inst.Sd 5 6 (pos 0)) refl refl
   beside (is_alloc q base its) =
-      of_sequence q base 13 (alloc_steps q base) its (record {
-        few = omega arith;
-        some = omega arith;
-        late = (
-          late _ refl,
-          (
-            to_retry (index_of its.labels base) (its.first + 1) its.retry its.bound_retry,
-            (
-              late _ refl,
-              (
-                late _ refl,
-                (
-                  late _ refl,
-                  (
-                    late _ refl,
-                    (
-                      to_leave 6 0 (index_of its.labels (base + 2)) (its.first + 1 + 1 + 1 + 1 + 1 + 1) its.leave its.bound_leave,
-                      (late _ refl, (late _ refl, (late _ refl, (late _ refl, (late _ refl, tt))))),
-                    ),
-                  ),
-                ),
-              ),
-            ),
-          ),
-        );
-        starts = refl;
-        last = inst.Sd 5 6 (pos 0);
-        ends = refl;
-        stores = refl;
-      })
+      of_sequence q base 13 (alloc_steps q base) its
+      (refl, (refl, ((its.leave, its.bound_leave, λ z. refl), (refl, (refl, (refl, (refl, (refl, tt))))))))
+      (omega arith) (inst.Sd 5 6 (pos 0)) refl refl
   beside (is_free q base its) =
-      of_sequence q base 13 (free_steps q base) its (record {
-        few = omega arith;
-        some = omega arith;
-        late = (
-          late _ refl,
-          (
-            to_retry (index_of its.labels base) (its.first + 1) its.retry its.bound_retry,
-            (
-              late _ refl,
-              (
-                late _ refl,
-                (
-                  late _ refl,
-                  (
-                    late _ refl,
-                    (
-                      to_leave 6 7 (index_of its.labels (base + 2)) (its.first + 1 + 1 + 1 + 1 + 1 + 1) its.leave its.bound_leave,
-                      (
-                        late _ refl,
-                        (late _ refl, (late _ refl, (late _ refl, (late _ refl, (late _ refl, tt))))),
-                      ),
-                    ),
-                  ),
-                ),
-              ),
-            ),
-          ),
-        );
-        starts = refl;
-        last = inst.Sd 5 6 (pos 0);
-        ends = refl;
-        stores = refl;
-      })
+      of_sequence q base 13 (free_steps q base) its
+      (refl, (refl, ((its.leave, its.bound_leave, λ z. refl), (refl, (refl, (refl, (refl, (refl, (refl, tt)))))))))
+      (omega arith) (inst.Sd 5 6 (pos 0)) refl refl
   beside (is_ring_put q base zero some few its) = absurd (omega arith)
-  beside (is_ring_put q base (suc zero) some few its) =
-      of_sequence q base 13 (put_steps q base 1) its (record {
-        few = omega arith;
-        some = omega arith;
-        late = put_sequence q its.labels its.first its.retry its.leave base 1 its.bound_retry its.bound_leave;
-        starts = refl;
-        last = inst.Sd 5 6 (pos 8);
-        ends = refl;
-        stores = refl;
-      })
-  beside (is_ring_put q base (suc (suc zero)) some few its) =
-      of_sequence q base 13 (put_steps q base 2) its (record {
-        few = omega arith;
-        some = omega arith;
-        late = put_sequence q its.labels its.first its.retry its.leave base 2 its.bound_retry its.bound_leave;
-        starts = refl;
-        last = inst.Sd 5 6 (pos 8);
-        ends = refl;
-        stores = refl;
-      })
-  beside (is_ring_put q base (suc (suc (suc zero))) some few its) =
-      of_sequence q base 13 (put_steps q base 3) its (record {
-        few = omega arith;
-        some = omega arith;
-        late = put_sequence q its.labels its.first its.retry its.leave base 3 its.bound_retry its.bound_leave;
-        starts = refl;
-        last = inst.Sd 5 6 (pos 8);
-        ends = refl;
-        stores = refl;
-      })
+  beside (is_ring_put q base (suc zero) some few its) = of_put q base 1 its (omega arith) refl
+  beside (is_ring_put q base (suc (suc zero)) some few its) = of_put q base 2 its (omega arith) refl
+  beside (is_ring_put q base (suc (suc (suc zero))) some few its) = of_put q base 3 its (omega arith) refl
   beside (is_ring_put q base (suc (suc (suc (suc zero)))) some few its) =
-      of_sequence q base 13 (put_steps q base 4) its (record {
-        few = omega arith;
-        some = omega arith;
-        late = put_sequence q its.labels its.first its.retry its.leave base 4 its.bound_retry its.bound_leave;
-        starts = refl;
-        last = inst.Sd 5 6 (pos 8);
-        ends = refl;
-        stores = refl;
-      })
+      of_put q base 4 its (omega arith) refl
   beside (is_ring_put q base (suc (suc (suc (suc (suc count))))) some few its) = absurd (omega arith)
   beside (is_ring_get q base zero some few its) = absurd (omega arith)
-  beside (is_ring_get q base (suc zero) some few its) =
-      of_sequence q base 13 (get_steps q base 1) its (record {
-        few = omega arith;
-        some = omega arith;
-        late = get_sequence q its.labels its.first its.retry its.leave base 1 its.bound_retry its.bound_leave;
-        starts = refl;
-        last = inst.Sd 5 6 (pos 0);
-        ends = refl;
-        stores = refl;
-      })
-  beside (is_ring_get q base (suc (suc zero)) some few its) =
-      of_sequence q base 13 (get_steps q base 2) its (record {
-        few = omega arith;
-        some = omega arith;
-        late = get_sequence q its.labels its.first its.retry its.leave base 2 its.bound_retry its.bound_leave;
-        starts = refl;
-        last = inst.Sd 5 6 (pos 0);
-        ends = refl;
-        stores = refl;
-      })
-  beside (is_ring_get q base (suc (suc (suc zero))) some few its) =
-      of_sequence q base 13 (get_steps q base 3) its (record {
-        few = omega arith;
-        some = omega arith;
-        late = get_sequence q its.labels its.first its.retry its.leave base 3 its.bound_retry its.bound_leave;
-        starts = refl;
-        last = inst.Sd 5 6 (pos 0);
-        ends = refl;
-        stores = refl;
-      })
+  beside (is_ring_get q base (suc zero) some few its) = of_get q base 1 its (omega arith) refl
+  beside (is_ring_get q base (suc (suc zero)) some few its) = of_get q base 2 its (omega arith) refl
+  beside (is_ring_get q base (suc (suc (suc zero))) some few its) = of_get q base 3 its (omega arith) refl
   beside (is_ring_get q base (suc (suc (suc (suc zero)))) some few its) =
-      of_sequence q base 13 (get_steps q base 4) its (record {
-        few = omega arith;
-        some = omega arith;
-        late = get_sequence q its.labels its.first its.retry its.leave base 4 its.bound_retry its.bound_leave;
-        starts = refl;
-        last = inst.Sd 5 6 (pos 0);
-        ends = refl;
-        stores = refl;
-      })
+      of_get q base 4 its (omega arith) refl
   beside (is_ring_get q base (suc (suc (suc (suc (suc count))))) some few its) = absurd (omega arith)

@@ -1,7 +1,7 @@
 -- How the sequence of each block begins: it asks whether it still is on the chosen processor, and finds the
 -- address of that one's data.
-use Rattle.std.proofs.Common.{◌≡◌, ℕ, ◌+◌, ◌*◌, ◌^◌, ◌<◌, ◌≤◌, List, [], refl, sym, ap, ◌∙◌, arith, subst, inl, inr}
-use Rattle.std.proofs.Common.{Bool, true, false, eqb, slice_get, Some, pos, negsuc}
+use Rattle.std.proofs.Common.{◌≡◌, ℕ, ◌+◌, ◌*◌, ◌^◌, ◌<◌, ◌≤◌, List, [], refl, sym, ap, ◌∙◌, arith, subst}
+use Rattle.std.proofs.Common.{inl, inr, Bool, true, false, eqb, slice_get, Some, pos, negsuc}
 use Rattle.std.proofs.lemmas.Bool.{eqb-true}
 use Rattle.std.proofs.lemmas.Int.{ints}
 use Rattle.mach_types.specs.Kernel.Areas.{is_inside}
@@ -26,8 +26,8 @@ use Rattle.percpu_lib.specs.Words.{AreHeld}
 use Rattle.percpu_lib.proofs.BlockCode.{IsFormed, before_range, within_range}
 use Rattle.percpu_lib.proofs.CourseLaw.{block, in_area, way}
 
--- the first words of a sequence: they load the processor, go back to the retry label where it isn't the chosen one,
--- and make the address of its data, which lie so many bytes apart
+-- the first words of a sequence: they load the processor, go back to the retry label where it isn't the
+-- chosen one, and make the address of its data, which lie so many bytes apart
 pub record BeginsSo (form : Form) (shift scale : ℕ) : Type 0 where
   pub lw : slice_get form.words form.first ≡ Some (Some (inst.Lw 6 form.slots.area (pos 4)))
   pub bne : slice_get form.words (form.first + 1) ≡ Some (Some (inst.Bne 6 5 (negsuc (4 * form.first + 3))))
@@ -39,6 +39,28 @@ pub record BeginsSo (form : Form) (shift scale : ℕ) : Type 0 where
   pub area_kept : form.may form.slots.area ≡ false
   pub cells_kept : form.may form.slots.cells ≡ false
   pub shifts : (cpu : ℕ) → cpu < 8 → shift_left cpu shift ≡ scale * cpu
+
+-- the same, from its facts one by one
+pub begins_of : (form : Form) (shift scale : ℕ)
+    → slice_get form.words form.first ≡ Some (Some (inst.Lw 6 form.slots.area (pos 4)))
+    → slice_get form.words (form.first + 1) ≡ Some (Some (inst.Bne 6 5 (negsuc (4 * form.first + 3))))
+    → slice_get form.words (form.first + 2) ≡ Some (Some (inst.Slli 5 5 shift))
+    → slice_get form.words (form.first + 3) ≡ Some (Some (inst.Add 5 5 form.slots.cells))
+    → 5 ≤ form.inside → form.may 5 ≡ true → form.may 6 ≡ true
+    → form.may form.slots.area ≡ false → form.may form.slots.cells ≡ false
+    → ((cpu : ℕ) → cpu < 8 → shift_left cpu shift ≡ scale * cpu) → BeginsSo form shift scale
+begins_of form shift scale lw bne slli add long five six area cells shifts = record {
+  lw = lw;
+  bne = bne;
+  slli = slli;
+  add = add;
+  long = long;
+  five = five;
+  six = six;
+  area_kept = area;
+  cells_kept = cells;
+  shifts = shifts;
+}
 
 module _ (s : Setting) (form : Form) (at : ℕ) (area : Area) (h t : ℕ) (begun : History)
     (Inside : List Store → Type 0) (Done : (ℕ → ℕ) → List Store → Type 0)
@@ -57,7 +79,8 @@ module _ (s : Setting) (form : Form) (at : ℕ) (area : Area) (h t : ℕ) (begun
       omega arith
 
   -- a word of the sequence
-  pub inside_at : (k : ℕ) → form.first ≤ k → k < committed form → is_inside (range_of form at) (at + 4 * k) ≡ true
+  pub inside_at : (k : ℕ) → form.first ≤ k → k < committed form → is_inside (range_of form at) (at + 4 * k)
+      ≡ true
   inside_at k from lt = within_range form at k place.low short from lt
 
   retry_out : is_inside (range_of form at) at ≡ false
@@ -67,7 +90,8 @@ module _ (s : Setting) (form : Form) (at : ℕ) (area : Area) (h t : ℕ) (begun
 
   -- from the start on: back to the retry label, or on to the rest, with the address in x5
   module _ (shift scale : ℕ) (begins : BeginsSo form shift scale) (nothing : Inside [])
-      (has : (a : ℕ) → among area.at 32 a ≡ true → (block s form at area h t begun Inside Done).words a ≡ true)
+      (has : (a : ℕ) → among area.at 32 a ≡ true → (block s form at area h t begun Inside Done).words a
+      ≡ true)
       (cells : ℕ) (cells_is : register old form.slots.cells ≡ cells)
       (fits : sum_64 (scale * h) cells ≡ cells + scale * h) where
     abbrev pub temps_there : ℕ → ℕ
@@ -84,9 +108,11 @@ module _ (s : Setting) (form : Form) (at : ℕ) (area : Area) (h t : ℕ) (begun
         let long = begins.long in
         let even = place.aligned in
         then_branch w (at + 4 * (form.first + 1)) (put 6 h (register old)) [] y was
-        (inside_at (form.first + 1) (omega arith) (omega arith)) nothing (inst.Bne 6 5 (negsuc (4 * form.first + 3)))
+        (inside_at (form.first + 1) (omega arith) (omega arith)) nothing
+        (inst.Bne 6 5 (negsuc (4 * form.first + 3)))
         (held.holds (form.first + 1) (inst.Bne 6 5 (negsuc (4 * form.first + 3))) begins.bne) 0 at
-        (λ f like. means_bne_taken f (at + 4 * (form.first + 1)) 6 5 (negsuc (4 * form.first + 3)) h (register old 5) at
+        (λ f like. means_bne_taken f (at + 4 * (form.first + 1)) 6 5 (negsuc (4 * form.first + 3)) h
+        (register old 5) at
         (like.temp 6 begins.six) (like.temp 5 begins.five) differs (omega (arith, ints)) even)
         (inr retry_out)
         (λ z now. leaves w at (put 6 h (register old)) [] z now retry_out (inl (refl, refl, differs)))
@@ -98,18 +124,23 @@ module _ (s : Setting) (form : Form) (at : ℕ) (area : Area) (h t : ℕ) (begun
         let near = short in
         let long = begins.long in
         then_branch w (at + 4 * (form.first + 1)) (put 6 h (register old)) [] y was
-        (inside_at (form.first + 1) (omega arith) (omega arith)) nothing (inst.Bne 6 5 (negsuc (4 * form.first + 3)))
+        (inside_at (form.first + 1) (omega arith) (omega arith)) nothing
+        (inst.Bne 6 5 (negsuc (4 * form.first + 3)))
         (held.holds (form.first + 1) (inst.Bne 6 5 (negsuc (4 * form.first + 3))) begins.bne) 0
         (at + 4 * (form.first + 2))
         (λ f like. means_bne_not f (at + 4 * (form.first + 1)) (at + 4 * (form.first + 2)) (omega arith) 6 5
-        (negsuc (4 * form.first + 3)) h (register old 5) (like.temp 6 begins.six) (like.temp 5 begins.five) same)
+        (negsuc (4 * form.first + 3)) h (register old 5) (like.temp 6 begins.six) (like.temp 5 begins.five)
+        same)
         (inl ((omega arith), (omega arith)))
         (λ z now.
         then_next w (at + 4 * (form.first + 2)) (put 6 h (register old)) [] z now
         (inside_at (form.first + 2) (omega arith) (omega arith)) nothing (inst.Slli 5 5 shift)
-        (held.holds (form.first + 2) (inst.Slli 5 5 shift) begins.slli) 5 (scale * h) (at + 4 * (form.first + 3))
-        (λ f like. means_slli f (at + 4 * (form.first + 2)) (at + 4 * (form.first + 3)) (omega arith) 5 5 shift h
-        (scale * h) (like.temp 5 begins.five ∙ sym (eqb-true h (register old 5) same)) (begins.shifts h place.few))
+        (held.holds (form.first + 2) (inst.Slli 5 5 shift) begins.slli) 5 (scale * h)
+        (at + 4 * (form.first + 3))
+        (λ f like. means_slli f (at + 4 * (form.first + 2)) (at + 4 * (form.first + 3)) (omega arith) 5 5
+        shift h
+        (scale * h) (like.temp 5 begins.five ∙ sym (eqb-true h (register old 5) same))
+        (begins.shifts h place.few))
         begins.five refl (omega arith) (omega arith) (omega arith)
         (λ u then.
         then_next w (at + 4 * (form.first + 3)) (put 5 (scale * h) (put 6 h (register old))) [] u then
@@ -121,7 +152,8 @@ module _ (s : Setting) (form : Form) (at : ℕ) (area : Area) (h t : ℕ) (begun
         (like.rest form.slots.cells begins.cells_kept ∙ cells_is) fits)
         begins.five refl (omega arith) (omega arith) (omega arith) rest))
 
-    compared : (y : Stand) → IsAt form.may old (at + 4 * (form.first + 1)) (put 6 h (register old)) [] y → Rest
+    compared : (y : Stand) → IsAt form.may old (at + 4 * (form.first + 1)) (put 6 h (register old)) [] y
+        → Rest
         → (b : Bool) → eqb h (register old 5) ≡ b → KeepsOn w y
     compared y was rest false differs = back y was differs
     compared y was rest true same = onward y was same rest
@@ -141,7 +173,8 @@ module _ (s : Setting) (form : Form) (at : ℕ) (area : Area) (h t : ℕ) (begun
         let long = begins.long in
         then_load w (at + 4 * form.first) (register old) [] (alone_from s h t begun 0) stands_at_start
         (inside_at form.first (omega arith) (omega arith)) nothing
-        (inst.Lw 6 form.slots.area (pos 4)) (held.holds form.first (inst.Lw 6 form.slots.area (pos 4)) begins.lw)
+        (inst.Lw 6 form.slots.area (pos 4)) (held.holds form.first (inst.Lw 6 form.slots.area (pos 4))
+        begins.lw)
         (area.at + 4) 4 6 h (at + 4 * (form.first + 1)) true
         (λ f like. means_lw f (at + 4 * form.first) 6 form.slots.area (pos 4) area.at (area.at + 4)
         (like.rest form.slots.area begins.area_kept ∙ place.area_is) (omega arith))

@@ -1,16 +1,19 @@
--- What worked logs have in common: lines and entries of hart 0, words that stand in a program, and a block that is used as
--- it should be where tests find so.
-use Rattle.std.proofs.Common.{◌≡◌, ◌≢◌, ℕ, suc, zero, ◌+◌, ◌*◌, ◌-◌, ◌%◌, ◌^◌, ◌<◌, ◌≤◌, List, [], ◌∷◌, refl, sym, ap, ◌∙◌, subst, arith}
-use Rattle.std.proofs.Common.{Bool, true, false, not, ◌&&◌, ◌||◌, ◌⊎◌, inl, inr, eqb, leb, ltb, Option, Some, None, slice_get}
-use Rattle.std.proofs.Common.{unwrap_or}
+-- What worked logs have in common: lines and entries of hart 0, words that stand in a program, and a block
+-- that is used as it should be where tests find so.
+use Rattle.std.proofs.Common.{◌≡◌, ◌≢◌, ℕ, suc, zero, ◌+◌, ◌*◌, ◌-◌, ◌%◌, ◌^◌, ◌<◌, ◌≤◌, List, [], ◌∷◌, refl}
+use Rattle.std.proofs.Common.{sym, ap, ◌∙◌, subst, arith, Bool, true, false, not, ◌&&◌, ◌||◌, ◌⊎◌, inl, inr}
+use Rattle.std.proofs.Common.{eqb, leb, ltb, Option, Some, None, slice_get, ◌++◌, replicate, unwrap_or}
 use Rattle.std.specs.Option.{option_map_or}
 use Rattle.std.specs.Prelude.{Contains}
-use Rattle.std.proofs.lemmas.Bool.{and_parts, eqb-false, eqb-true, false≢true, le-ltb, leb-true, ltb-true, not-true}
+use Rattle.std.proofs.lemmas.Bool.{and_parts, eqb-false, eqb-true, false≢true, le-ltb, leb-true, ltb-true}
+use Rattle.std.proofs.lemmas.Bool.{not-true}
 use Rattle.mach_types.specs.Kernel.Areas.{is_inside}
 use Rattle.mach_types.specs.declared.events.Choice.{Choice}
 use Rattle.mach_types.specs.declared.events.Entry.{Entry}
 use Rattle.mach_types.specs.declared.events.Kind.{Kind}
+use Rattle.mach_types.specs.declared.events.Kind.TheVariants as kinds
 use Rattle.mach_types.specs.declared.sequences.Area.{Area}
+use Rattle.elf_load.specs.declared.image.ImagePage.{ImagePage}
 use Rattle.rv_inst.specs.declared.instruction.Inst.{Inst}
 use Rattle.block_model.specs.Acts.{Sequence, sequence_on}
 use Rattle.block_model.specs.Deciding.{history}
@@ -28,7 +31,8 @@ use Rattle.percpu_lib.specs.Used.{IsWellUsed}
 use Rattle.percpu_lib.specs.Words.{AreHeld, AreSlots}
 use Rattle.percpu_lib.specs.declared.slots.Slots.{Slots}
 use Rattle.percpu_lib.proofs.ShareTests.{all_shares, shares_so}
-use Rattle.percpu_lib.proofs.UseTests.{IsTested, all_can_begin, all_used, always_begins_freely, are_fine, either}
+use Rattle.percpu_lib.proofs.UseTests.{IsTested, all_can_begin, all_used, always_begins_freely, are_fine}
+use Rattle.percpu_lib.proofs.UseTests.{either}
 
 -- a line of a script, and an entry of a log
 abbrev pub line : Choice → Ask
@@ -36,6 +40,29 @@ line choice = record { hart = record { 0 = 0 }; choice = choice; check = None }
 
 abbrev pub entry : Kind → ℕ → ℕ → Entry
 entry k t pc = record { hart = record { 0 = 0 }; kind = k; tid = record { 0 = t }; pc = pc }
+
+-- so many instructions of thread 1, one word behind the other, from an address on
+abbrev pub walk : ℕ → ℕ → List Entry
+walk pc zero = []
+walk pc (suc n) = entry kinds.Exec 1 pc ∷ walk (pc + 4) n
+
+-- a page of data
+abbrev pub data_at : ℕ → List ℕ → ImagePage
+data_at number bytes = record { number = number; perm = 6; bytes = bytes }
+
+-- a program for one hart, with these bytes of code, so many bytes behind 0x10000, these pages of data, and
+-- this end
+abbrev pub setting_of : ℕ → List ℕ → List ImagePage → ℕ → Setting
+setting_of start code others end = record {
+  program = record {
+    pages = record { number = 0x10; perm = 5; bytes = replicate start 0 ++ code } ∷ others;
+    entry = 0x10000 + start;
+    phdr = 0x10040;
+    phnum = 2;
+    break_at = end;
+  };
+  limits = record { harts = 1; frames = 128; steps = 200 };
+}
 
 -- the words of a block stand there
 abbrev pub AreThere : (ℕ → Option Inst) → ℕ → List (Option Inst) → Type 0
@@ -52,7 +79,8 @@ word_is reads (o ∷ rest) from there (suc k) i is =
     let same : (from + 4) + 4 * k ≡ from + 4 * suc k = omega arith in
     subst (λ n. reads n ≡ Some i) same (word_is reads rest (from + 4) there.1 k i is)
 
-pub words_held : (s : Setting) (at : ℕ) (block : List (Option Inst)) → AreThere (code_of s.program.pages) at block
+pub words_held : (s : Setting) (at : ℕ) (block : List (Option Inst))
+    → AreThere (code_of s.program.pages) at block
     → AreHeld (code_of s.program.pages) at block
 words_held s at block there = record { holds = word_is (code_of s.program.pages) block at there }
 
@@ -115,7 +143,8 @@ is_low s form at area =
     && (not (eqb form.slots.table 0) && (ltb form.slots.table 0x7FFFF800
     && (ltb at (2 ^ 37) && (leb (area.at + 32) (2 ^ 38) && leb s.limits.harts 8))))
 
-pub holds_so : (s : Setting) (form : Form) (tested : IsTested form) (at : ℕ) (area : Area) (t : ℕ) (history : History)
+pub holds_so : (s : Setting) (form : Form) (tested : IsTested form) (at : ℕ) (area : Area) (t : ℕ)
+    (history : History)
     → IsRunHistory s history → are_fine s form tested at area t history ≡ true → is_low s form at area ≡ true
     → AreThere (code_of s.program.pages) at form.words → HoldsBlock s history form at area t
 holds_so s form tested at area t history run fine low there =
@@ -166,7 +195,8 @@ lies_so b x is =
           (ltb-true ((pc + (2 ^ 64 - b.at)) % 2 ^ 64) ((b.range.start + (2 ^ 64 - b.at)) % 2 ^ 64) here);
     }
   where
-    outside : (pc : ℕ) → b.at < 2 ^ 37 → x.range.start < 2 ^ 37 → x.range.length < 2 ^ 10 → b.at ≤ b.range.start
+    outside : (pc : ℕ) → b.at < 2 ^ 37 → x.range.start < 2 ^ 37 → x.range.length < 2 ^ 10 → b.at
+        ≤ b.range.start
         → b.range.start ≤ b.at + 1024
         → (leb b.range.start x.range.start ≡ true) ⊎ (leb (x.range.start + x.range.length) b.at ≡ true)
         → (pc + (2 ^ 64 - b.at)) % 2 ^ 64 < (b.range.start + (2 ^ 64 - b.at)) % 2 ^ 64
@@ -190,15 +220,16 @@ each_beside b (x ∷ rest) is other (zero, lt, at) =
 each_beside b (x ∷ rest) is other (suc k, lt, at) =
     each_beside b rest (and_parts (stands_apart b x) (stand_apart b rest) is).1 other (k, omega arith, at)
 
--- what is found of a log at once: the thread uses the block well, beside others, and its last sequence on hart 0 has
--- come to the post-commit address, and passes a test
+-- what is found of a log at once: the thread uses the block well, beside others, and its last sequence on
+-- hart 0 has come to the post-commit address, and passes a test
 abbrev pub commits_so : Setting → Form → ℕ → ℕ → (Sequence → Bool) → Sequence → Bool
 commits_so s form at t fits q =
     eqb q.thread t
     && (is_inside (range_of form at) (file s t q.begun).pc
     && (eqb (file s t q.reached).pc (at + 4 * committed form) && fits q))
 
-abbrev pub is_good : (s : Setting) (form : Form) → IsTested form → ℕ → Area → ℕ → List Placed → (Sequence → Bool) → History
+abbrev pub is_good : (s : Setting) (form : Form) → IsTested form → ℕ → Area → ℕ → List Placed
+    → (Sequence → Bool) → History
     → Bool
 is_good s form tested at area t others fits before =
     are_fine s form tested at area t before
@@ -212,17 +243,21 @@ pub record IsGood (s : Setting) (log : List Entry) (form : Form) (at : ℕ) (are
   pub used : IsWellUsed s log form at area others sequence
   pub passes : fits sequence ≡ true
 
-pub record IsUsedSo (s : Setting) (log : List Entry) (form : Form) (at : ℕ) (area : Area) (t : ℕ) (others : List Placed)
+pub record IsUsedSo (s : Setting) (log : List Entry) (form : Form) (at : ℕ) (area : Area) (t : ℕ)
+    (others : List Placed)
     : Type 0 where
   pub run : IsBlockRun s log
   pub holds : HoldsBlock s (history s log) form at area t
   pub begins : CanAlwaysBegin s (placed_of form at area) t (history s log)
   pub shares : SharesAreaWith s (history s log) (placed_of form at area) t others
 
-module _ (s : Setting) (log : List Entry) (form : Form) (tested : IsTested form) (at : ℕ) (area : Area) (t : ℕ)
+module _ (s : Setting) (log : List Entry) (form : Form) (tested : IsTested form) (at : ℕ) (area : Area)
+    (t : ℕ)
     (others : List Placed) (fits : Sequence → Bool) (run : IsBlockRun s log)
-    (good : is_good s form tested at area t others fits (history s log) ≡ true) (low : is_low s form at area ≡ true)
-    (there : AreThere (code_of s.program.pages) at form.words) (apart : stand_apart (placed_of form at area) others ≡ true)
+    (good : is_good s form tested at area t others fits (history s log) ≡ true)
+    (low : is_low s form at area ≡ true)
+    (there : AreThere (code_of s.program.pages) at form.words)
+    (apart : stand_apart (placed_of form at area) others ≡ true)
   where
     abbrev past : History
     past = history s log
@@ -252,7 +287,8 @@ module _ (s : Setting) (log : List Entry) (form : Form) (tested : IsTested form)
           (each_beside (placed_of form at area) others apart);
     }
 
-    found : (o : Option Sequence) → sequence_on s 0 past ≡ o → option_map_or (commits_so s form at t fits) o false ≡ true
+    found : (o : Option Sequence) → sequence_on s 0 past ≡ o
+        → option_map_or (commits_so s form at t fits) o false ≡ true
         → IsGood s log form at area others fits
     found None is test = absurd (false≢true test)
     found (Some q) is test =

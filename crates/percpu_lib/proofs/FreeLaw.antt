@@ -1,7 +1,8 @@
--- A sequence of a free block is one run of its thread alone, and so puts its value into the pool once or not at all.
-use Rattle.std.proofs.Common.{◌≡◌, ◌≢◌, ℕ, ◌+◌, ◌*◌, ◌<◌, ◌≤◌, ◌%◌, ◌^◌, List, [], ◌∷◌, ◌++◌, refl, sym, ap, ◌∙◌, subst}
-use Rattle.std.proofs.Common.{arith, Bool, true, false, not, ◌&&◌, ◌||◌, eqb, Option, Some, inl, inr, ◌⊎◌, append-nil, pos}
-use Rattle.std.proofs.Common.{unwrap_or}
+-- A sequence of a free block is one run of its thread alone, and so puts its value into the pool once or not
+-- at all.
+use Rattle.std.proofs.Common.{◌≡◌, ◌≢◌, ℕ, ◌+◌, ◌*◌, ◌<◌, ◌≤◌, ◌%◌, ◌^◌, List, [], ◌∷◌, ◌++◌, refl, sym, ap}
+use Rattle.std.proofs.Common.{◌∙◌, subst, arith, Bool, true, false, not, ◌&&◌, ◌||◌, eqb, Option, Some, inl}
+use Rattle.std.proofs.Common.{inr, ◌⊎◌, append-nil, pos, unwrap_or, rules}
 use Rattle.std.proofs.lemmas.Bool.{eqb-false, eqb-true}
 use Rattle.mach_types.specs.Bytes.{byte_over, each_byte, word_at}
 use Rattle.mach_types.specs.Kernel.Areas.{is_inside}
@@ -26,110 +27,32 @@ use Rattle.alone_laws.proofs.StoredWords.{beside_word, some_word, stored_word}
 use Rattle.block_model.specs.History.{History, file, stores}
 use Rattle.block_model.specs.Setting.{Setting}
 use Rattle.percpu_lib.specs.Forms.{IsBlockPlace}
-use Rattle.percpu_lib.specs.Frees.{Frees, FreesNoMore, fills_none, fills_slot, free_block, free_bytes, free_form}
-use Rattle.percpu_lib.specs.Frees.{free_range, frees_none, frees_slot, value_of}
+use Rattle.percpu_lib.specs.Frees.{Frees, FreesNoMore, fills_none, fills_slot, free_block, free_bytes}
+use Rattle.percpu_lib.specs.Frees.{free_form, free_range, frees_none, frees_slot, value_of}
 use Rattle.percpu_lib.specs.Pools.{count_of, count_seen, count_store, pool_at, slot_at, slot_store}
 use Rattle.percpu_lib.specs.Uses.{cells_of}
 use Rattle.percpu_lib.specs.Words.{AreHeld, AreSlots, is_changed}
 use Rattle.percpu_lib.specs.declared.slots.Slots.{Slots}
 use Rattle.percpu_lib.proofs.BlockCode.{IsFormed, behind_range}
 use Rattle.percpu_lib.proofs.BlockWords.{beside_pointer, or_true}
-use Rattle.percpu_lib.proofs.CellPath.{BeginsSo, inside_at, to_cell}
-use Rattle.percpu_lib.proofs.Changes.{area_not_changed, cells_not_changed, means_beq_not, means_beq_taken, put_other}
-use Rattle.percpu_lib.proofs.Changes.{put_same, scratch_not, some_value, value_changed}
+use Rattle.percpu_lib.proofs.CellPath.{BeginsSo, begins_of, inside_at, to_cell}
+use Rattle.percpu_lib.proofs.Changes.{area_not_changed, cells_not_changed, means_beq_not, means_beq_taken}
+use Rattle.percpu_lib.proofs.Changes.{put_other, put_same, scratch_not, some_value, value_changed}
 use Rattle.percpu_lib.proofs.CourseLaw.{HasPath, IsAfter, course_of, way}
 use Rattle.percpu_lib.proofs.Courses.{HasCourse}
-use Rattle.percpu_lib.proofs.FormedWords.{AreFit, words_fit}
-
-fit : (p : Slots) → AreFit (free_form p) 0 (free_block p)
-fit p = (
-  (refl, refl),
-  (
-    (refl, refl),
-    (
-      (refl, refl),
-      (
-        (refl, refl),
-        (
-          refl,
-          (
-            (refl, refl),
-            (
-              (refl, refl),
-              (
-                (refl, refl),
-                (
-                  (refl, refl),
-                  (
-                    (refl, refl),
-                    (
-                      (refl, refl),
-                      (
-                        (refl, refl),
-                        (
-                          (refl, refl),
-                          (
-                            (refl, refl),
-                            (
-                              refl,
-                              (
-                                (refl, refl),
-                                (
-                                  (refl, value_changed p),
-                                  (
-                                    refl,
-                                    (
-                                      (refl, refl),
-                                      (
-                                        refl,
-                                        ((refl, value_changed p), ((refl, refl), tt)),
-                                      ),
-                                    ),
-                                  ),
-                                ),
-                              ),
-                            ),
-                          ),
-                        ),
-                      ),
-                    ),
-                  ),
-                ),
-              ),
-            ),
-          ),
-        ),
-      ),
-    ),
-  ),
-)
+use Rattle.percpu_lib.proofs.FormedWords.{formed_of, words_fit}
 
 pub free_formed : (p : Slots) → IsFormed (free_form p)
-free_formed p = record {
-  some = omega arith;
-  within = omega arith;
-  short = omega arith;
-  inside = omega arith;
-  lui = refl;
-  addi = refl;
-  store = refl;
-  words = words_fit (free_form p) (omega arith) (omega arith) 0 (free_block p) (omega arith) (fit p);
-  entry = (inst.Addi 28 p.value (pos 0), refl);
-}
+free_formed p =
+    formed_of (free_form p) (omega arith) (omega arith) (omega arith) (omega arith) refl refl refl
+    (inst.Addi 28 p.value (pos 0)) refl
+    (words_fit (free_form p) (omega arith) (omega arith) 0 (free_block p) (omega arith)
+    (search (rules, value_changed p)))
 
 begins_so : (p : Slots) → AreSlots p → BeginsSo (free_form p) 13 8192
-begins_so p slots = record {
-  lw = refl;
-  bne = refl;
-  slli = refl;
-  add = refl;
-  long = omega arith;
-  five = refl;
-  six = refl;
-  area_kept = area_not_changed p slots;
-  cells_kept = cells_not_changed p slots;
-  shifts = λ cpu few. omega arith;
-}
+begins_so p slots =
+    begins_of (free_form p) 13 8192 refl refl refl refl (omega arith) refl refl (area_not_changed p slots)
+    (cells_not_changed p slots) (λ cpu few. omega arith)
 
 module _ (s : Setting) (p : Slots) (at : ℕ) (area : Area) (h t : ℕ) (begun : History)
     (held : AreHeld (code_of s.program.pages) at (free_block p)) (slots : AreSlots p)
@@ -207,7 +130,8 @@ module _ (s : Setting) (p : Slots) (at : ℕ) (area : Area) (h t : ℕ) (begun :
       slot 8 (each_among slot 8 slot 8 (omega arith) (omega arith))
 
   here : (k : ℕ) → 5 ≤ k → k < 18 → is_inside (free_range at) (at + 4 * k) ≡ true
-  here k from lt = inside_at s (free_form p) at area h t begun Inside Done (free_formed p) held place k from lt
+  here k from lt =
+      inside_at s (free_form p) at area h t begun Inside Done (free_formed p) held place k from lt
 
   out : is_inside (free_range at) (at + 72) ≡ false
   out = let low = place.low in behind_range (free_form p) at 18 low (omega arith) (omega arith)
@@ -216,7 +140,8 @@ module _ (s : Setting) (p : Slots) (at : ℕ) (area : Area) (h t : ℕ) (begun :
 
   -- a write to another register that the block changes leaves the value, and a write to the value leaves that
   value_beside : (r x : ℕ) (temps : ℕ → ℕ) → is_scratch r ≡ true → put r x temps p.value ≡ temps p.value
-  value_beside r x temps is = put_other r x temps p.value (λ same. scratch_not r p.value is slots.value (sym same))
+  value_beside r x temps is =
+      put_other r x temps p.value (λ same. scratch_not r p.value is slots.value (sym same))
 
   beside_value : (r x : ℕ) (temps : ℕ → ℕ) → is_scratch r ≡ true → put p.value x temps r ≡ temps r
   beside_value r x temps is = put_other p.value x temps r (scratch_not r p.value is slots.value)
@@ -247,7 +172,8 @@ module _ (s : Setting) (p : Slots) (at : ℕ) (area : Area) (h t : ℕ) (begun :
       let even = place.aligned in
       then_branch w (at + 44) _ [] y was (here 11 (omega arith) (omega arith)) (inl refl)
       (inst.Beq 6 7 (pos 28)) (held.holds 11 (inst.Beq 6 7 (pos 28)) refl) 0 (at + 72)
-      (λ f like. means_beq_taken f (at + 44) 6 7 (pos 28) count 512 (at + 72) (like.temp 6 refl) (like.temp 7 refl) full
+      (λ f like. means_beq_taken f (at + 44) 6 7 (pos 28) count 512 (at + 72) (like.temp 6 refl)
+      (like.temp 7 refl) full
       (omega arith) (omega arith))
       (inr out)
       (λ v last. leaves w (at + 72) _ _ v last out (inr (refl, inl (full, value_2, refl))))
@@ -267,7 +193,8 @@ module _ (s : Setting) (p : Slots) (at : ℕ) (area : Area) (h t : ℕ) (begun :
       (λ z now.
       then_next w (at + 48) _ [] z now (here 12 (omega arith) (omega arith)) (inl refl)
       (inst.Slli 7 6 3) (held.holds 12 (inst.Slli 7 6 3) refl) 7 (8 * count) (at + 52)
-      (λ f like. means_slli f (at + 48) (at + 52) (omega arith) 7 6 3 count (8 * count) (like.temp 6 refl) (omega arith))
+      (λ f like. means_slli f (at + 48) (at + 52) (omega arith) 7 6 3 count (8 * count) (like.temp 6 refl)
+      (omega arith))
       refl refl (omega arith) (omega arith) (omega arith)
       (λ v next.
       then_next w (at + 52) _ [] v next (here 13 (omega arith) (omega arith)) (inl refl)
@@ -292,7 +219,8 @@ module _ (s : Setting) (p : Slots) (at : ℕ) (area : Area) (h t : ℕ) (begun :
       (λ z now.
       then_next w (at + 60) _ (filled ∷ []) z now (here 15 (omega arith) (omega arith)) (inr (free, refl))
       (inst.Addi 6 6 (pos 1)) (held.holds 15 (inst.Addi 6 6 (pos 1)) refl) 6 (count + 1) (at + 64)
-      (λ f like. means_addi f (at + 60) (at + 64) (omega arith) 6 6 (pos 1) count (count + 1) (like.temp 6 refl)
+      (λ f like. means_addi f (at + 60) (at + 64) (omega arith) 6 6 (pos 1) count (count + 1)
+      (like.temp 6 refl)
       (omega arith))
       refl refl (omega arith) (omega arith) (omega arith)
       (λ u then.
@@ -311,7 +239,8 @@ module _ (s : Setting) (p : Slots) (at : ℕ) (area : Area) (h t : ℕ) (begun :
       (λ v last. leaves w (at + 72) _ _ v last out
       (inr (refl, inr (free, put_same p.value 0 (put 6 (count + 1) temps_4), refl)))))))
 
-  by_count : (y : Stand) → IsAt (is_changed p) old (at + 44) temps_2 [] y → (b : Bool) → eqb count 512 ≡ b → KeepsOn w y
+  by_count : (y : Stand) → IsAt (is_changed p) old (at + 44) temps_2 [] y → (b : Bool) → eqb count 512 ≡ b
+      → KeepsOn w y
   by_count y was true is = ends y was is
   by_count y was false is = finds y was is (λ z now. fills z now is)
 
@@ -319,7 +248,8 @@ module _ (s : Setting) (p : Slots) (at : ℕ) (area : Area) (h t : ℕ) (begun :
   keeps =
       let low = place.low in
       let low_pool = place.apart.is_pool.low_pool in
-      to_cell s (free_form p) at area h t begun Inside Done (free_formed p) held place 13 8192 (begins_so p slots)
+      to_cell s (free_form p) at area h t begun Inside Done (free_formed p) held place 13 8192
+      (begins_so p slots)
       (inl refl) area_bytes pools refl (omega arith)
       (λ y now.
       then_load w (at + 36) _ [] y now (here 9 (omega arith) (omega arith)) (inl refl)
@@ -351,7 +281,8 @@ module _ (s : Setting) (p : Slots) (at : ℕ) (area : Area) (h t : ℕ) (begun :
 
   same_count : (temps : ℕ → ℕ) (es : List Store) (last : History) → After temps es last → es ≡ []
       → count_seen s h pools last ≡ count_seen s h pools begun
-  same_count temps es last after none = after.sees pool in_count ∙ ap pool_word none ∙ word_unchanged seen pool 8
+  same_count temps es last after none =
+      after.sees pool in_count ∙ ap pool_word none ∙ word_unchanged seen pool 8
 
   same_stores : (temps : ℕ → ℕ) (es : List Store) (last : History) → After temps es last → es ≡ []
       → stores h last ≡ stores h begun
@@ -380,7 +311,8 @@ module _ (s : Setting) (p : Slots) (at : ℕ) (area : Area) (h t : ℕ) (begun :
       (same_count temps es last after none, fills_none (same_stores temps es last after none))
   not_yet temps es last after (inr one) = (
     after.sees pool in_count ∙ ap pool_word one.1 ∙ filled_count,
-    fills_slot (eqb-false count 512 one.0) (after.stored ∙ ap (λ (x : List Store). stores h begun ++ x) one.1),
+    fills_slot (eqb-false count 512 one.0) (after.stored
+        ∙ ap (λ (x : List Store). stores h begun ++ x) one.1),
   )
 
   -- the pointer of the area stays
@@ -400,7 +332,8 @@ module _ (s : Setting) (p : Slots) (at : ℕ) (area : Area) (h t : ℕ) (begun :
   points_done temps es (inl full) = points es (inl full.2)
   points_done temps es (inr free) =
       ap pointer free.2
-      ∙ beside_word (λ a. Some (byte_over filled a (sees s h begun a))) (count_store pool (count + 1)) (area.at + 8) 8
+      ∙ beside_word (λ a. Some (byte_over filled a (sees s h begun a))) (count_store pool (count + 1))
+      (area.at + 8) 8
       (beside_pointer pool area.at place.apart.is_pool.beside)
       ∙ filled_pointer free.0
 
@@ -423,5 +356,6 @@ free_course p = record {
   formed = free_formed p;
   course = λ s at area h t begun held slots place.
       course_of s (free_form p) at area h t begun (Inside s p at area h t begun held slots place)
-      (Done s p at area h t begun held slots place) (free_formed p) place (path s p at area h t begun held slots place);
+      (Done s p at area h t begun held slots place) (free_formed p) place
+      (path s p at area h t begun held slots place);
 }

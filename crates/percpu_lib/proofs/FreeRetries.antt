@@ -1,7 +1,8 @@
--- Each retry of a free block works on the value that came in: its 64 bits are copied into x28 at the retry label, and an
--- abort brings them back from there.
-use Rattle.std.proofs.Common.{◌≡◌, ◌≢◌, ℕ, ◌+◌, ◌*◌, ◌<◌, ◌≤◌, ◌^◌, ◌⊎◌, inl, inr, List, ◌++◌, refl, sym, ap, ◌∙◌, ◌%◌}
-use Rattle.std.proofs.Common.{arith, Bool, true, not, ◌||◌, eqb, slice_get, subst, Option, Some, pos}
+-- Each retry of a free block works on the value that came in: its 64 bits are copied into x28 at the retry
+-- label, and an abort brings them back from there.
+use Rattle.std.proofs.Common.{◌≡◌, ◌≢◌, ℕ, ◌+◌, ◌*◌, ◌<◌, ◌≤◌, ◌^◌, ◌⊎◌, inl, inr, List, ◌++◌, refl, sym, ap}
+use Rattle.std.proofs.Common.{◌∙◌, ◌%◌, arith, Bool, true, not, ◌||◌, eqb, slice_get, subst, Option, Some}
+use Rattle.std.proofs.Common.{pos, rules}
 use Rattle.std.proofs.lemmas.Bool.{cases_eq, cases_lt, false≢true, ne_eqb}
 use Rattle.mach_types.proofs.Laws.{eqb_same}
 use Rattle.mach_types.specs.Kernel.Areas.{is_inside}
@@ -17,6 +18,7 @@ use Rattle.rv_inst.specs.declared.effects.Effect.{Effect}
 use Rattle.rv_inst.specs.declared.instruction.Inst.{Inst}
 use Rattle.rv_inst.specs.declared.instruction.Inst.TheVariants as inst
 use Rattle.alone.specs.Alone.{effect_at}
+use Rattle.alone.specs.Temps.{is_scratch}
 use Rattle.alone.proofs.Laws.{written_same}
 use Rattle.alone.proofs.Means.{means_addi}
 use Rattle.block_model.specs.Deciding.{history}
@@ -38,7 +40,7 @@ use Rattle.percpu_lib.proofs.Changes.{scratch_not, some_value, value_changed}
 use Rattle.percpu_lib.proofs.FormedWords.{AreFitBut, tame_at}
 use Rattle.percpu_lib.proofs.FreeLaw.{free_course, free_formed}
 use Rattle.percpu_lib.proofs.UsesLaw.{is_code}
-use Rattle.percpu_lib.proofs.WordLaws.{Leads, begins_anew, goes_on, leads_out, leaves_block, straight_addi, straight_sd}
+use Rattle.percpu_lib.proofs.WordLaws.{Leads, begins_anew, goes_on, leads_out, leaves_block, straight_of}
 
 -- WHICH WORDS CHANGE X28, AND WHICH THE VALUE
 
@@ -57,136 +59,13 @@ module _ (p : Slots) (slots : AreSlots p) where
   not_28 = ap not (ne_eqb p.value 28 (λ same. scratch_not 28 p.value refl slots.value (sym same)))
 
   copy_kept : AreFitBut but_copy (keeping p 28) 0 (free_block p)
-  copy_kept = (
-    tt,
-    (
-      (refl, refl),
-      (
-        (refl, refl),
-        (
-          (refl, refl),
-          (
-            refl,
-            (
-              (refl, refl),
-              (
-                (refl, refl),
-                (
-                  (refl, refl),
-                  (
-                    (refl, refl),
-                    (
-                      (refl, refl),
-                      (
-                        (refl, refl),
-                        (
-                          (refl, refl),
-                          (
-                            (refl, refl),
-                            (
-                              (refl, refl),
-                              (
-                                refl,
-                                (
-                                  (refl, refl),
-                                  (
-                                    (refl, not_28),
-                                    (
-                                      refl,
-                                      (
-                                        (refl, refl),
-                                        ((refl, not_28), ((refl, refl), tt)),
-                                      ),
-                                    ),
-                                  ),
-                                ),
-                              ),
-                            ),
-                          ),
-                        ),
-                      ),
-                    ),
-                  ),
-                ),
-              ),
-            ),
-          ),
-        ),
-      ),
-    ),
-  )
+  copy_kept = search (rules, not_28)
 
-  five : not (eqb 5 p.value) ≡ true
-  five = ap not (ne_eqb 5 p.value (scratch_not 5 p.value refl slots.value))
-
-  six : not (eqb 6 p.value) ≡ true
-  six = ap not (ne_eqb 6 p.value (scratch_not 6 p.value refl slots.value))
-
-  seven : not (eqb 7 p.value) ≡ true
-  seven = ap not (ne_eqb 7 p.value (scratch_not 7 p.value refl slots.value))
-
-  copied : not (eqb 28 p.value) ≡ true
-  copied = ap not (ne_eqb 28 p.value (scratch_not 28 p.value refl slots.value))
+  other : (r : ℕ) → is_scratch r ≡ true → not (eqb r p.value) ≡ true
+  other r scratch = ap not (ne_eqb r p.value (scratch_not r p.value scratch slots.value))
 
   value_kept : AreFitBut but_value (keeping p p.value) 0 (free_block p)
-  value_kept = (
-    (refl, copied),
-    (
-      (refl, five),
-      (
-        (refl, six),
-        (
-          (refl, six),
-          (
-            refl,
-            (
-              (refl, six),
-              (
-                (refl, refl),
-                (
-                  (refl, five),
-                  (
-                    (refl, five),
-                    (
-                      (refl, six),
-                      (
-                        (refl, seven),
-                        (
-                          (refl, refl),
-                          (
-                            (refl, seven),
-                            (
-                              (refl, seven),
-                              (
-                                refl,
-                                (
-                                  (refl, six),
-                                  (
-                                    tt,
-                                    (
-                                      refl,
-                                      (
-                                        (refl, refl),
-                                        (tt, ((refl, refl), tt)),
-                                      ),
-                                    ),
-                                  ),
-                                ),
-                              ),
-                            ),
-                          ),
-                        ),
-                      ),
-                    ),
-                  ),
-                ),
-              ),
-            ),
-          ),
-        ),
-      ),
-    ),
-  )
+  value_kept = search (rules, other)
 
 -- WHAT IS KNOWN
 
@@ -194,8 +73,8 @@ module _ (p : Slots) (slots : AreSlots p) where
 abbrev IsOf : ℕ → ℕ → Type 0
 IsOf v n = (n ≡ v) ⊎ (n ≡ v % 2 ^ 64)
 
--- what is known of x6; that the 64 bits of the value v are in x28 behind the first word; and that the value is v or its 64
--- bits up to the word that sets the value to 0, and behind the abort handler
+-- what is known of x6; that the 64 bits of the value v are in x28 behind the first word; and that the value
+-- is v or its 64 bits up to the word that sets the value to 0, and behind the abort handler
 record KnowsCopy (p : Slots) (v k : ℕ) (regs : Regs) : Type 0 where
   table : KnowsTable (free_form p) k regs
   copy : 1 ≤ k → register regs 28 ≡ v % 2 ^ 64
@@ -227,18 +106,21 @@ module _ (s : Setting) (past : History) (p : Slots) (at : ℕ) (area : Area) (t 
     o = outcome seen f.file f.pc r e
 
     found : IsInstruction form (free_block p) 0 k
-    found = it s form at area (free_formed p) held.stands held.low_table held.low held.low_area f e seen r is k pc below
+    found = it s form at area (free_formed p) held.stands held.low_table held.low held.low_area f e seen r is
+        k pc below
         know.table
 
     does : o ≡ outcome seen f.file f.pc r (meaning found.i f.file f.pc)
-    does = outcome_is s form at area (free_formed p) held.stands held.low_table held.low held.low_area f e seen r is k
+    does = outcome_is s form at area (free_formed p) held.stands held.low_table held.low held.low_area f e
+        seen r is k
         found.i pc found.there
 
     -- a word of which the instruction is known
     does_word : (n : ℕ) (i : Inst) → k ≡ n → slice_get (free_block p) n ≡ Some (Some i)
         → o ≡ outcome seen f.file f.pc r (meaning i f.file f.pc)
     does_word n i same there =
-        outcome_is s form at area (free_formed p) held.stands held.low_table held.low held.low_area f e seen r is k i pc
+        outcome_is s form at area (free_formed p) held.stands held.low_table held.low held.low_area f e seen r
+        is k i pc
         (ap (λ m. slice_get (free_block p) m) same ∙ there)
 
     copy_stays : k ≢ 0 → register o.regs 28 ≡ register f.file 28
@@ -250,9 +132,11 @@ module _ (s : Setting) (past : History) (p : Slots) (at : ℕ) (area : Area) (t 
     value_stays : k ≢ 16 → k ≢ 20 → register o.regs p.value ≡ register f.file p.value
     value_stays no_clear no_abort =
         ap (λ (x : Outcome). register x.regs p.value) does
-        ∙ (tame_at (keeping p p.value) (omega arith) (omega arith) but_value (free_block p) k found.i (omega arith)
+        ∙ (tame_at (keeping p p.value) (omega arith) (omega arith) but_value (free_block p) k found.i
+        (omega arith)
         (value_kept p held.slots) found.there
-        (ap (λ c. c || eqb k 20) (ne_eqb k 16 no_clear) ∙ ne_eqb k 20 no_abort)).keeps seen f.file f.pc r p.value
+        (ap (λ c. c || eqb k 20) (ne_eqb k 16 no_clear) ∙ ne_eqb k 20 no_abort)).keeps seen f.file f.pc r
+        p.value
         (ap not (eqb_same p.value))
 
     -- the copy, and the way back
@@ -286,7 +170,8 @@ module _ (s : Setting) (past : History) (p : Slots) (at : ℕ) (area : Area) (t 
         let i : Inst = inst.Addi p.value 28 (pos 0) in
         ap (λ (x : Outcome). register x.regs p.value) (does_word 20 i handler refl)
         ∙ ap (λ d. register (outcome seen f.file f.pc r d).regs p.value)
-        (means_addi f.file f.pc (sum_64 f.pc 4) refl p.value 28 (pos 0) bits bits (know.copy (omega arith)) sum_again)
+        (means_addi f.file f.pc (sum_64 f.pc 4) refl p.value 28 (pos 0) bits bits (know.copy (omega arith))
+        sum_again)
         ∙ written_same f.file p.value bits (some_value p held.slots)
         (subst (λ n. p.value < n) (sym many) held.slots.low_value)
 
@@ -296,7 +181,8 @@ module _ (s : Setting) (past : History) (p : Slots) (at : ℕ) (area : Area) (t 
       led = by_way go.0 go.1 (omega (arith, go.2, goes))
         where
           go : (n : ℕ) × Leads form k n × (o.pc ≡ at + 4 * n)
-          go = leads_at s form at area (free_formed p) held.stands held.low_table held.low held.low_area f e seen r is k
+          go = leads_at s form at area (free_formed p) held.stands held.low_table held.low held.low_area f e
+              seen r is k
               pc below know.table
 
           by_way : (n : ℕ) → Leads form k n → n ≡ to → (to ≡ k + 1) ⊎ (to ≡ 0)
@@ -327,25 +213,29 @@ module _ (s : Setting) (past : History) (p : Slots) (at : ℕ) (area : Area) (t 
       after_clear : k ≡ 16 → to ≡ 17
       after_clear same =
           let on = straight 16 (inst.Addi p.value 0 (pos 0)) same refl
-          ((straight_addi (is_changed p) p.value 0 (pos 0) (value_changed p)).on seen f.file f.pc r) in
+          ((straight_of (is_changed p) (inst.Addi p.value 0 (pos 0)) (value_changed p)).on seen f.file f.pc r)
+          in
           omega arith
 
       after_commit : k ≡ 17 → to ≡ 18
       after_commit same =
           let on = straight 17 (inst.Sd 5 6 (pos 0)) same refl
-          ((straight_sd (is_changed p) 5 6 (pos 0)).on seen f.file f.pc r) in
+          ((straight_of (is_changed p) (inst.Sd 5 6 (pos 0)) tt).on seen f.file f.pc r) in
           omega arith
 
       known_value : k ≢ 16 → k ≢ 20 → (k ≤ 16) ⊎ (k ≡ 21) → IsOf v (register o.regs p.value)
-      known_value no_clear no_abort at_it = subst (IsOf v) (sym (value_stays no_clear no_abort)) (know.value at_it)
+      known_value no_clear no_abort at_it =
+          subst (IsOf v) (sym (value_stays no_clear no_abort)) (know.value at_it)
 
       value_there : (to ≤ 16) ⊎ (to ≡ 21) → IsOf v (register o.regs p.value)
       value_there here = by_word (cases_lt k 16)
         where
-          behind : 16 ≤ k → (k ≡ 20) ⊎ (k ≢ 20) → (k ≡ 21) ⊎ (k ≢ 21) → (k ≡ 16) ⊎ (k ≢ 16) → (k ≡ 17) ⊎ (k ≢ 17)
+          behind : 16 ≤ k → (k ≡ 20) ⊎ (k ≢ 20) → (k ≡ 21) ⊎ (k ≢ 21) → (k ≡ 16) ⊎ (k ≢ 16) → (k ≡ 17)
+              ⊎ (k ≢ 17)
               → (to ≤ 16) ⊎ (to ≡ 21) → IsOf v (register o.regs p.value)
           behind from (inl handler) last clear commit at_to = inr (brought_back handler)
-          behind from (inr no_abort) (inl last) clear commit at_to = known_value (omega arith) no_abort (inr last)
+          behind from (inr no_abort) (inl last) clear commit at_to =
+              known_value (omega arith) no_abort (inr last)
           behind from (inr no_abort) (inr no_last) (inl clear) commit (inl early) =
               let on = after_clear clear in
               absurd (omega arith)
@@ -361,7 +251,8 @@ module _ (s : Setting) (past : History) (p : Slots) (at : ℕ) (area : Area) (t 
 
           by_word : (k < 16) ⊎ (16 ≤ k) → IsOf v (register o.regs p.value)
           by_word (inl before) = known_value (omega arith) (omega arith) (inl (omega arith))
-          by_word (inr from) = behind from (cases_eq k 20) (cases_eq k 21) (cases_eq k 16) (cases_eq k 17) here
+          by_word (inr from) =
+              behind from (cases_eq k 20) (cases_eq k 21) (cases_eq k 16) (cases_eq k 17) here
 
   kept : IsKept s b AsksNothing Know
   kept = record {
@@ -376,8 +267,10 @@ module _ (s : Setting) (past : History) (p : Slots) (at : ℕ) (area : Area) (t 
           pc = now.pc;
           know = record {
             table = now.know;
-            copy = copy_there f e seen r many is at_it.word at_it.pc at_it.below at_it.know to now.pc now.below other;
-            value = value_there f e seen r many is at_it.word at_it.pc at_it.below at_it.know to now.pc now.below other;
+            copy = copy_there f e seen r many is at_it.word at_it.pc at_it.below at_it.know to now.pc
+                now.below other;
+            value = value_there f e seen r many is at_it.word at_it.pc at_it.below at_it.know to now.pc
+                now.below other;
             uncommitted = other;
           };
         };
@@ -413,12 +306,14 @@ module _ (s : Setting) (past : History) (p : Slots) (at : ℕ) (area : Area) (t 
           ∙ sym (ap (is_inside (range_of form at)) at_it.pc) ∙ inside))
       not_first f at_it inside (inr late) = omega arith
 
--- where the thread is at the retry label or at the start, the value is what it was where the retries began, or its 64 bits
+-- where the thread is at the retry label or at the start, the value is what it was where the retries began,
+-- or its 64 bits
 value_is : (s : Setting) (p : Slots) (at : ℕ) (area : Area) (t : ℕ) (first log later : List Entry)
     → IsBlockRun s (log ++ later) → HoldsBlock s (history s (log ++ later)) (free_form p) at area t
     → Retries s (placed_of (free_form p) at area) t first log
     → ((file s t (history s log)).pc ≡ at) ⊎ ((file s t (history s log)).pc ≡ at + 20)
-    → IsOf (register (file s t (history s first)).file p.value) (register (file s t (history s log)).file p.value)
+    → IsOf (register (file s t (history s first)).file p.value)
+    (register (file s t (history s log)).file p.value)
 value_is s p at area t first log later run held retries there =
     let b = placed_of (free_form p) at area in
     let v = register (file s t (history s first)).file p.value in
@@ -435,7 +330,8 @@ value_is s p at area t first log later run held retries there =
         uncommitted = λ same. absurd (omega arith);
       };
     } in
-    let known = known_throughout s b t AsksNothing (Know s past p at area t v held) (kept s past p at area t v held) first
+    let known =
+    known_throughout s b t AsksNothing (Know s past p at area t v held) (kept s past p at area t v held) first
     log retries later (asks_nothing s t (log ++ later) run) start in
     known.know.value (inl (early known.word known.pc there))
   where
@@ -446,7 +342,8 @@ value_is s p at area t first log later run held retries there =
 
 -- so its 64 bits are what they were; and so is the value, where it is a number of 64 bits
 module _ (s : Setting) (p : Slots) (at : ℕ) (area : Area) (t : ℕ) (first log later : List Entry)
-    (run : IsBlockRun s (log ++ later)) (held : HoldsBlock s (history s (log ++ later)) (free_form p) at area t)
+    (run : IsBlockRun s (log ++ later)) (held : HoldsBlock s (history s (log ++ later)) (free_form p) at area
+    t)
     (retries : Retries s (placed_of (free_form p) at area) t first log)
     (there : ((file s t (history s log)).pc ≡ at) ⊎ ((file s t (history s log)).pc ≡ at + 20)) where
   same_bits : (v n : ℕ) → IsOf v n → n % 2 ^ 64 ≡ v % 2 ^ 64
@@ -467,4 +364,5 @@ module _ (s : Setting) (p : Slots) (at : ℕ) (area : Area) (t : ℕ) (first log
   freed_bits_stay = same_bits was now (value_is s p at area t first log later run held retries there)
 
   pub freed_value_stays : was < 2 ^ 64 → now ≡ was
-  freed_value_stays small = same_number was now small (value_is s p at area t first log later run held retries there)
+  freed_value_stays small =
+      same_number was now small (value_is s p at area t first log later run held retries there)

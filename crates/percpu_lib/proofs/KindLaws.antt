@@ -1,5 +1,6 @@
 -- The courses of all blocks, when they are done, and on what their retries work.
-use Rattle.std.proofs.Common.{◌≡◌, ℕ, zero, suc, ◌+◌, ◌*◌, ◌<◌, ◌≤◌, ◌%◌, ◌^◌, ◌⊎◌, List, ◌++◌, refl, ap, arith, subst, true, Some, pos}
+use Rattle.std.proofs.Common.{◌≡◌, ℕ, zero, suc, ◌+◌, ◌*◌, ◌<◌, ◌≤◌, ◌%◌, ◌^◌, ◌⊎◌, List, ◌++◌, refl, ap}
+use Rattle.std.proofs.Common.{arith, subst, true, Some, pos}
 use Rattle.std.proofs.lemmas.Bool.{false≢true}
 use Rattle.mach_types.specs.Registers.{register}
 use Rattle.mach_types.specs.declared.events.Entry.{Entry}
@@ -15,7 +16,7 @@ use Rattle.alone_laws.specs.Spans.{code_of}
 use Rattle.alone_laws.specs.Undisturbed.{Brings, IsUndisturbed, executed_on}
 use Rattle.alone_laws.specs.Uses.{AlwaysOutside, CanAlwaysBegin, Placed}
 use Rattle.percpu_lib.specs.Beside.{IsOfLibrary}
-use Rattle.percpu_lib.specs.Forms.{HoldsBlock, IsCommitted, committed, placed_of}
+use Rattle.percpu_lib.specs.Forms.{HoldsBlock, IsCommitted, SharesAreaWith, committed, placed_of}
 use Rattle.percpu_lib.specs.Frees.{free_form}
 use Rattle.percpu_lib.specs.Kinds.{Kind, adds, allocs, form_of, frees, pops, pushes, takes_in}
 use Rattle.percpu_lib.specs.Pushes.{push_form}
@@ -32,6 +33,7 @@ use Rattle.percpu_lib.proofs.FreeLaw.{free_course}
 use Rattle.percpu_lib.proofs.FreeRetries.{freed_bits_stay, freed_value_stays}
 use Rattle.percpu_lib.proofs.PopLaw.{pop_course}
 use Rattle.percpu_lib.proofs.PushLaw.{push_course}
+use Rattle.percpu_lib.proofs.ShareLaw.{outside_before}
 
 pub course_of_kind : (k : Kind) (p : Slots) → HasCourse (form_of k p)
 course_of_kind adds p = add_course p
@@ -89,7 +91,8 @@ few_words pops p = omega arith
 few_words allocs p = omega arith
 few_words frees p = omega arith
 
-pub comes_to_end : (k : Kind) (s : Setting) (p : Slots) (at : ℕ) (area : Area) (h t : ℕ) (log rest : List Entry)
+pub comes_to_end : (k : Kind) (s : Setting) (p : Slots) (at : ℕ) (area : Area) (h t : ℕ)
+    (log rest : List Entry)
     → IsBlockRun s (log ++ rest) → HoldsBlock s (history s (log ++ rest)) (form_of k p) at area t
     → CanAlwaysBegin s (placed_of (form_of k p) at area) t (history s (log ++ rest))
     → AlwaysOutside s (placed_of (form_of k p) at area) t (history s (log ++ rest))
@@ -97,13 +100,32 @@ pub comes_to_end : (k : Kind) (s : Setting) (p : Slots) (at : ℕ) (area : Area)
     → committed (form_of k p) ≤ executed_on h rest
     → Brings s h (committed (form_of k p)) (IsCommitted s (form_of k p) at h t) log rest
 comes_to_end k s p at area h t log rest run held begins outside runs pc calm =
-    subst (λ n. n ≤ executed_on h rest → Brings s h n (IsCommitted s (form_of k p) at h t) log rest) (last_is k p)
+    subst (λ n. n ≤ executed_on h rest → Brings s h n (IsCommitted s (form_of k p) at h t) log rest)
+    (last_is k p)
     (λ many. comes_to_commit s (form_of k p) at area h t (course_of_kind k p) (lead_of k) (asks_first k p)
     (before_last k) (last_is k p) log rest run held begins outside runs pc calm many)
 
+-- and where only blocks and the kernel write the pointer of the area
+pub comes_where_shared : (k : Kind) (p : Slots) (s : Setting) (log rest : List Entry) (at : ℕ) (area : Area)
+    (h t : ℕ)
+    (others : List Placed) → IsBlockRun s (log ++ rest)
+    → HoldsBlock s (history s (log ++ rest)) (form_of k p) at area t
+    → CanAlwaysBegin s (placed_of (form_of k p) at area) t (history s (log ++ rest))
+    → SharesAreaWith s (history s (log ++ rest)) (placed_of (form_of k p) at area) t others
+    → running s h (history s log) ≡ Some t → (file s t (history s log)).pc ≡ at → IsUndisturbed h rest
+    → committed (form_of k p) ≤ executed_on h rest
+    → Brings s h (committed (form_of k p)) (IsCommitted s (form_of k p) at h t) log rest
+comes_where_shared k p s log rest at area h t others run held can shares =
+    comes_to_end k s p at area h t log rest run held can
+    (outside_before s (form_of k p) at area t (course_of_kind k p).formed (history s (log ++ rest)) held
+    others
+    run.allowed shares can)
+
 -- where the thread is at the retry label or at the start, the value is what it was where the retries began
-pub value_comes_in : (k : Kind) (s : Setting) (first log later : List Entry) (p : Slots) (at : ℕ) (area : Area) (t : ℕ)
-    → takes_in k ≡ true → IsBlockRun s (log ++ later) → HoldsBlock s (history s (log ++ later)) (form_of k p) at area t
+pub value_comes_in : (k : Kind) (s : Setting) (first log later : List Entry) (p : Slots) (at : ℕ)
+    (area : Area) (t : ℕ)
+    → takes_in k ≡ true → IsBlockRun s (log ++ later)
+    → HoldsBlock s (history s (log ++ later)) (form_of k p) at area t
     → Retries s (placed_of (form_of k p) at area) t first log
     → (k ≡ frees → register (file s t (history s first)).file p.value < 2 ^ 64)
     → ((file s t (history s log)).pc ≡ at) ⊎ ((file s t (history s log)).pc ≡ at + 4 * (form_of k p).first)
@@ -112,17 +134,22 @@ value_comes_in adds s first log later p at area t takes run held retries small t
     value_stays s (add_form p) at area t (add_course p) held.slots.value first log later run held retries
 value_comes_in pushes s first log later p at area t takes run held retries small there =
     value_stays s (push_form p) at area t (push_course p) held.slots.value first log later run held retries
-value_comes_in pops s first log later p at area t takes run held retries small there = absurd (false≢true takes)
-value_comes_in allocs s first log later p at area t takes run held retries small there = absurd (false≢true takes)
+value_comes_in pops s first log later p at area t takes run held retries small there =
+    absurd (false≢true takes)
+value_comes_in allocs s first log later p at area t takes run held retries small there =
+    absurd (false≢true takes)
 value_comes_in frees s first log later p at area t takes run held retries small there =
     freed_value_stays s p at area t first log later run held retries there (small refl)
 
 -- and so are its 64 bits
-pub bits_come_in : (k : Kind) (s : Setting) (first log later : List Entry) (p : Slots) (at : ℕ) (area : Area) (t : ℕ)
-    → takes_in k ≡ true → IsBlockRun s (log ++ later) → HoldsBlock s (history s (log ++ later)) (form_of k p) at area t
+pub bits_come_in : (k : Kind) (s : Setting) (first log later : List Entry) (p : Slots) (at : ℕ) (area : Area)
+    (t : ℕ)
+    → takes_in k ≡ true → IsBlockRun s (log ++ later)
+    → HoldsBlock s (history s (log ++ later)) (form_of k p) at area t
     → Retries s (placed_of (form_of k p) at area) t first log
     → ((file s t (history s log)).pc ≡ at) ⊎ ((file s t (history s log)).pc ≡ at + 4 * (form_of k p).first)
-    → register (file s t (history s log)).file p.value % 2 ^ 64 ≡ register (file s t (history s first)).file p.value % 2 ^ 64
+    → register (file s t (history s log)).file p.value % 2 ^ 64
+    ≡ register (file s t (history s first)).file p.value % 2 ^ 64
 bits_come_in adds s first log later p at area t takes run held retries there =
     ap (λ n. n % 2 ^ 64)
     (value_stays s (add_form p) at area t (add_course p) held.slots.value first log later run held retries)

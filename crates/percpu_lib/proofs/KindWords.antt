@@ -1,5 +1,6 @@
 -- The words of the lines of each kind of block, and where they are held.
-use Rattle.std.proofs.Common.{◌≡◌, ℕ, ◌+◌, ◌*◌, List, [], length, slice_get, refl, ap, ◌∙◌, arith, Option, Some, pos, negsuc, ℤ, ◌-ℤ◌}
+use Rattle.std.proofs.Common.{◌≡◌, ℕ, ◌+◌, ◌*◌, List, [], length, slice_get, refl, ap, ◌∙◌, arith, Option}
+use Rattle.std.proofs.Common.{Some, pos, negsuc, ℤ, ◌-ℤ◌, ◌∷◌, None}
 use Rattle.std.specs.Option.{option_map}
 use Rattle.std.proofs.lemmas.Int.{ints}
 use Rattle.elf_load.specs.Images.{IsImage}
@@ -11,6 +12,7 @@ use Rattle.rv_inst.specs.declared.instruction.Inst.TheVariants as inst
 use Rattle.alone_laws.specs.Spans.{code_of}
 use Rattle.percpu_lib.specs.Adds.{add_block, add_steps}
 use Rattle.percpu_lib.specs.Allocs.{alloc_block, alloc_steps}
+use Rattle.percpu_lib.specs.BlockLines.{HasNoLabel, block_lines}
 use Rattle.percpu_lib.specs.Files.{HoldsCode}
 use Rattle.percpu_lib.specs.Forms.{committed}
 use Rattle.percpu_lib.specs.Frees.{free_aborted, free_block, free_first, free_steps}
@@ -18,9 +20,11 @@ use Rattle.percpu_lib.specs.Kinds.{Kind, adds, allocs, form_of, frees, lines_of,
 use Rattle.percpu_lib.specs.Lines.{AreEmitted, HasRoom, IsContinued, instructions}
 use Rattle.percpu_lib.specs.Pops.{pop_block, pop_steps}
 use Rattle.percpu_lib.specs.Pushes.{push_block, push_steps}
-use Rattle.percpu_lib.specs.Words.{AreHeld}
+use Rattle.percpu_lib.specs.Words.{AreHeld, asking_words}
+use Rattle.percpu_lib.specs.declared.lines.Line.{Line}
+use Rattle.percpu_lib.specs.declared.lines.Line.TheVariants as line
 use Rattle.percpu_lib.specs.declared.slots.Slots.{Slots}
-use Rattle.percpu_lib.proofs.HeldBlocks.{end_at, file_holds, held, leave_at, retry_at}
+use Rattle.percpu_lib.proofs.HeldBlocks.{end_at, file_holds, held, leave_at, retry_at, words_of}
 
 -- BRANCHES
 
@@ -54,31 +58,36 @@ HasWords k = (p : Slots) (base n : ℕ) (labels : List (Option ℕ)) → index_o
     → index_of labels (base + 4) ≡ Some (n + length (form_of k p).words)
     → instructions labels n (lines_of k p base) ≡ (form_of k p).words
 
-add_words : HasWords adds
-add_words p base n labels retry leave end =
+-- three plain instructions inside
+plain_words : (p : Slots) (base n : ℕ) (labels : List (Option ℕ)) (i j k : Inst) → index_of labels base
+    ≡ Some n
+    → index_of labels (base + 4) ≡ Some (n + 14)
+    → instructions labels n
+    (block_lines p base 6 [] (line.Plain i ∷ line.Plain j ∷ line.Plain k ∷ []) [])
+    ≡ asking_words p 19 6 (Some i ∷ Some j ∷ Some k ∷ Some (inst.Jal 0 (pos 12)) ∷ None
+    ∷ Some (inst.Jal 0 (negsuc 51)) ∷ [])
+plain_words p base n labels i j k retry end =
     let five = n + 1 + 1 + 1 + 1 + 1 in
     let eleven = five + 1 + 1 + 1 + 1 + 1 + 1 in
     let thirteen = eleven + 1 + 1 in
     let one = branch_is labels (inst.Bne 6 5 (pos 0)) (inst.Bne 6 5 (negsuc 19)) five base n (negsuc 19) retry
     (back n five 5 19 (omega arith) refl) refl in
-    let two = branch_is labels (inst.Jal 0 (pos 0)) (inst.Jal 0 (pos 12)) eleven (base + 4) (n + 14) (pos 12) end
+    let two =
+    branch_is labels (inst.Jal 0 (pos 0)) (inst.Jal 0 (pos 12)) eleven (base + 4) (n + 14) (pos 12) end
     (forth (n + 14) eleven 3 12 (omega arith) refl) refl in
-    let three = branch_is labels (inst.Jal 0 (pos 0)) (inst.Jal 0 (negsuc 51)) thirteen base n (negsuc 51) retry
+    let three =
+    branch_is labels (inst.Jal 0 (pos 0)) (inst.Jal 0 (negsuc 51)) thirteen base n (negsuc 51) retry
     (back n thirteen 13 51 (omega arith) refl) refl in
     cc
 
+add_words : HasWords adds
+add_words p base n labels retry leave end =
+    plain_words p base n labels (inst.Ld 6 5 (pos 0)) (inst.Add 6 6 p.value) (inst.Sd 5 6 (pos 0)) retry end
+
 push_words : HasWords pushes
 push_words p base n labels retry leave end =
-    let five = n + 1 + 1 + 1 + 1 + 1 in
-    let eleven = five + 1 + 1 + 1 + 1 + 1 + 1 in
-    let thirteen = eleven + 1 + 1 in
-    let one = branch_is labels (inst.Bne 6 5 (pos 0)) (inst.Bne 6 5 (negsuc 19)) five base n (negsuc 19) retry
-    (back n five 5 19 (omega arith) refl) refl in
-    let two = branch_is labels (inst.Jal 0 (pos 0)) (inst.Jal 0 (pos 12)) eleven (base + 4) (n + 14) (pos 12) end
-    (forth (n + 14) eleven 3 12 (omega arith) refl) refl in
-    let three = branch_is labels (inst.Jal 0 (pos 0)) (inst.Jal 0 (negsuc 51)) thirteen base n (negsuc 51) retry
-    (back n thirteen 13 51 (omega arith) refl) refl in
-    cc
+    plain_words p base n labels (inst.Ld 6 5 (pos 0)) (inst.Sd p.value 6 (pos 0)) (inst.Sd 5 p.value (pos 0))
+    retry end
 
 pop_words : HasWords pops
 pop_words p base n labels retry leave end =
@@ -88,11 +97,14 @@ pop_words p base n labels retry leave end =
     let fourteen = twelve + 1 + 1 in
     let one = branch_is labels (inst.Bne 6 5 (pos 0)) (inst.Bne 6 5 (negsuc 19)) five base n (negsuc 19) retry
     (back n five 5 19 (omega arith) refl) refl in
-    let two = branch_is labels (inst.Beq p.value 0 (pos 0)) (inst.Beq p.value 0 (pos 12)) nine (base + 2) (n + 12)
+    let two =
+    branch_is labels (inst.Beq p.value 0 (pos 0)) (inst.Beq p.value 0 (pos 12)) nine (base + 2) (n + 12)
     (pos 12) leave (forth (n + 12) nine 3 12 (omega arith) refl) refl in
-    let three = branch_is labels (inst.Jal 0 (pos 0)) (inst.Jal 0 (pos 12)) twelve (base + 4) (n + 15) (pos 12) end
+    let three =
+    branch_is labels (inst.Jal 0 (pos 0)) (inst.Jal 0 (pos 12)) twelve (base + 4) (n + 15) (pos 12) end
     (forth (n + 15) twelve 3 12 (omega arith) refl) refl in
-    let four = branch_is labels (inst.Jal 0 (pos 0)) (inst.Jal 0 (negsuc 55)) fourteen base n (negsuc 55) retry
+    let four =
+    branch_is labels (inst.Jal 0 (pos 0)) (inst.Jal 0 (negsuc 55)) fourteen base n (negsuc 55) retry
     (back n fourteen 14 55 (omega arith) refl) refl in
     cc
 
@@ -106,9 +118,11 @@ alloc_words p base n labels retry leave end =
     (back n five 5 19 (omega arith) refl) refl in
     let two = branch_is labels (inst.Beq 6 0 (pos 0)) (inst.Beq 6 0 (pos 24)) ten (base + 2) (n + 16)
     (pos 24) leave (forth (n + 16) ten 6 24 (omega arith) refl) refl in
-    let three = branch_is labels (inst.Jal 0 (pos 0)) (inst.Jal 0 (pos 12)) sixteen (base + 4) (n + 19) (pos 12) end
+    let three =
+    branch_is labels (inst.Jal 0 (pos 0)) (inst.Jal 0 (pos 12)) sixteen (base + 4) (n + 19) (pos 12) end
     (forth (n + 19) sixteen 3 12 (omega arith) refl) refl in
-    let four = branch_is labels (inst.Jal 0 (pos 0)) (inst.Jal 0 (negsuc 71)) eighteen base n (negsuc 71) retry
+    let four =
+    branch_is labels (inst.Jal 0 (pos 0)) (inst.Jal 0 (negsuc 71)) eighteen base n (negsuc 71) retry
     (back n eighteen 18 71 (omega arith) refl) refl in
     cc
 
@@ -122,7 +136,8 @@ free_words p base n labels retry leave end =
     (back n six 6 23 (omega arith) refl) refl in
     let two = branch_is labels (inst.Beq 6 7 (pos 0)) (inst.Beq 6 7 (pos 28)) eleven (base + 2) (n + 18)
     (pos 28) leave (forth (n + 18) eleven 7 28 (omega arith) refl) refl in
-    let three = branch_is labels (inst.Jal 0 (pos 0)) (inst.Jal 0 (pos 16)) eighteen (base + 4) (n + 22) (pos 16) end
+    let three =
+    branch_is labels (inst.Jal 0 (pos 0)) (inst.Jal 0 (pos 16)) eighteen (base + 4) (n + 22) (pos 16) end
     (forth (n + 22) eighteen 4 16 (omega arith) refl) refl in
     let four = branch_is labels (inst.Jal 0 (pos 0)) (inst.Jal 0 (negsuc 83)) last base n (negsuc 83) retry
     (back n last 21 83 (omega arith) refl) refl in
@@ -133,69 +148,53 @@ free_words p base n labels retry leave end =
 -- finished code has them, and so does the program of a file in which it stands
 pub record IsHeld (block : List (Option Inst)) (a c : Assembly) : Type 0 where
   pub words : (bytes : List ℕ) (k : ℕ) (i : Inst) (w : ℕ) → (code : AreAssembled c.labels c.items bytes)
-      → slice_get block k ≡ Some (Some i) → slice_get code.words (length a.items + k) ≡ Some w → row_of w ≡ Some i
-  pub file : (bytes file : List ℕ) (image : Image) (at : ℕ) → AreAssembled c.labels c.items bytes → IsImage file image
+      → slice_get block k ≡ Some (Some i) → slice_get code.words (length a.items + k) ≡ Some w → row_of w
+      ≡ Some i
+  pub file : (bytes file : List ℕ) (image : Image) (at : ℕ) → AreAssembled c.labels c.items bytes
+      → IsImage file image
       → HoldsCode file at bytes → AreHeld (code_of image.pages.items) (at + 4 * length a.items) block
+
+-- so they are held where lines with these parts were appended, if with the labels bound they have these words
+pub lines_held : (p : Slots) (base shift : ℕ) (first inside aborted : List Line) (block : List (Option Inst))
+    (a b c : Assembly) → HasRoom a.labels base
+    → AreEmitted (block_lines p base shift first inside aborted) a b
+    → HasNoLabel first → HasNoLabel inside → HasNoLabel aborted → IsContinued b c
+    → (index_of c.labels base ≡ Some (length a.items)
+    → index_of c.labels (base + 2) ≡ Some (length a.items + (words_of first + 8 + words_of inside))
+    → index_of c.labels (base + 4) ≡ Some (length a.items
+    + words_of (block_lines p base shift first inside aborted))
+    → instructions c.labels (length a.items) (block_lines p base shift first inside aborted) ≡ block)
+    → IsHeld block a c
+lines_held p base shift first inside aborted block a b c room is one two three more words =
+    let same = words
+    (retry_at p base shift first inside aborted a b c room is one two three more)
+    (leave_at p base shift first inside aborted a b c room is one two three more)
+    (end_at p base shift first inside aborted a b c room is one two three more) in
+    record {
+      words = λ bytes k i w code at word.
+          held p base shift first inside aborted a b c room is one two three more block same bytes code k i at
+          w word;
+      file = λ bytes file image at code its holds.
+          file_holds p base shift first inside aborted a b c room is one two three more block same file image
+          at bytes
+          its code holds;
+    }
 
 pub kind_held : (k : Kind) (p : Slots) (base : ℕ) (a b c : Assembly) → HasRoom a.labels base
     → AreEmitted (lines_of k p base) a b → IsContinued b c → IsHeld (form_of k p).words a c
 kind_held adds p base a b c room is more =
-    let same = add_words p base (length a.items) c.labels
-    (retry_at p base 6 [] (add_steps p) [] a b c room is tt tt tt more)
-    (leave_at p base 6 [] (add_steps p) [] a b c room is tt tt tt more)
-    (end_at p base 6 [] (add_steps p) [] a b c room is tt tt tt more) in
-    record {
-      words = λ bytes k i w code at word.
-          held p base 6 [] (add_steps p) [] a b c room is tt tt tt more (add_block p) same bytes code k i at w word;
-      file = λ bytes file image at code its holds.
-          file_holds p base 6 [] (add_steps p) [] a b c room is tt tt tt more (add_block p) same file image at bytes its code
-          holds;
-    }
+    lines_held p base 6 [] (add_steps p) [] (add_block p) a b c room is tt tt tt more
+    (add_words p base (length a.items) c.labels)
 kind_held pushes p base a b c room is more =
-    let same = push_words p base (length a.items) c.labels
-    (retry_at p base 6 [] (push_steps p) [] a b c room is tt tt tt more)
-    (leave_at p base 6 [] (push_steps p) [] a b c room is tt tt tt more)
-    (end_at p base 6 [] (push_steps p) [] a b c room is tt tt tt more) in
-    record {
-      words = λ bytes k i w code at word.
-          held p base 6 [] (push_steps p) [] a b c room is tt tt tt more (push_block p) same bytes code k i at w word;
-      file = λ bytes file image at code its holds.
-          file_holds p base 6 [] (push_steps p) [] a b c room is tt tt tt more (push_block p) same file image at bytes its code
-          holds;
-    }
+    lines_held p base 6 [] (push_steps p) [] (push_block p) a b c room is tt tt tt more
+    (push_words p base (length a.items) c.labels)
 kind_held pops p base a b c room is more =
-    let same = pop_words p base (length a.items) c.labels
-    (retry_at p base 6 [] (pop_steps p base) [] a b c room is tt tt tt more)
-    (leave_at p base 6 [] (pop_steps p base) [] a b c room is tt tt tt more)
-    (end_at p base 6 [] (pop_steps p base) [] a b c room is tt tt tt more) in
-    record {
-      words = λ bytes k i w code at word.
-          held p base 6 [] (pop_steps p base) [] a b c room is tt tt tt more (pop_block p) same bytes code k i at w word;
-      file = λ bytes file image at code its holds.
-          file_holds p base 6 [] (pop_steps p base) [] a b c room is tt tt tt more (pop_block p) same file image at bytes its code
-          holds;
-    }
+    lines_held p base 6 [] (pop_steps p base) [] (pop_block p) a b c room is tt tt tt more
+    (pop_words p base (length a.items) c.labels)
 kind_held allocs p base a b c room is more =
-    let same = alloc_words p base (length a.items) c.labels
-    (retry_at p base 13 [] (alloc_steps p base) [] a b c room is tt tt tt more)
-    (leave_at p base 13 [] (alloc_steps p base) [] a b c room is tt tt tt more)
-    (end_at p base 13 [] (alloc_steps p base) [] a b c room is tt tt tt more) in
-    record {
-      words = λ bytes k i w code at word.
-          held p base 13 [] (alloc_steps p base) [] a b c room is tt tt tt more (alloc_block p) same bytes code k i at w word;
-      file = λ bytes file image at code its holds.
-          file_holds p base 13 [] (alloc_steps p base) [] a b c room is tt tt tt more (alloc_block p) same file image at bytes its code
-          holds;
-    }
+    lines_held p base 13 [] (alloc_steps p base) [] (alloc_block p) a b c room is tt tt tt more
+    (alloc_words p base (length a.items) c.labels)
 kind_held frees p base a b c room is more =
-    let same = free_words p base (length a.items) c.labels
-    (retry_at p base 13 (free_first p) (free_steps p base) (free_aborted p) a b c room is tt tt tt more)
-    (leave_at p base 13 (free_first p) (free_steps p base) (free_aborted p) a b c room is tt tt tt more)
-    (end_at p base 13 (free_first p) (free_steps p base) (free_aborted p) a b c room is tt tt tt more) in
-    record {
-      words = λ bytes k i w code at word.
-          held p base 13 (free_first p) (free_steps p base) (free_aborted p) a b c room is tt tt tt more (free_block p) same bytes code k i at w word;
-      file = λ bytes file image at code its holds.
-          file_holds p base 13 (free_first p) (free_steps p base) (free_aborted p) a b c room is tt tt tt more (free_block p) same file image at bytes its code
-          holds;
-    }
+    lines_held p base 13 (free_first p) (free_steps p base) (free_aborted p) (free_block p) a b c room is tt
+    tt tt more
+    (free_words p base (length a.items) c.labels)

@@ -24,6 +24,7 @@ pub mod FreeRetries
 pub mod HeldBlocks
 pub mod HeldWords
 pub mod KindLaws
+pub mod KindLines
 pub mod KindWords
 pub mod Labels
 pub mod ListExample
@@ -47,6 +48,7 @@ pub mod RingStores
 pub mod RingWords
 pub mod RetryParts
 pub mod RetryTests
+pub mod RunLaws
 pub mod ShareLaw
 pub mod ShareTests
 pub mod SignalExample

@@ -1,6 +1,6 @@
--- A worked log, by computation: a thread registers its area and pushes a node on the list of its processor by a push
--- block. It is preempted inside, once the node is linked, begins anew at the abort handler, and pushes once. Then it pops
--- the node off by a pop block, and finds the list empty by another sequence of that.
+-- A worked log, by computation: a thread registers its area and pushes a node on the list of its processor by
+-- a push block. It is preempted inside, once the node is linked, begins anew at the abort handler, and pushes
+-- once. Then it pops the node off by a pop block, and finds the list empty by another sequence of that.
 use Rattle.std.proofs.Common.{◌≡◌, ℕ, List, [], ◌∷◌, ◌++◌, replicate, take, drop, refl}
 use Rattle.std.proofs.Common.{Bool, true, eqb, Ok}
 use Rattle.mach_types.specs.Kernel.Areas.{are_readable, number_at}
@@ -10,8 +10,9 @@ use Rattle.mach_types.specs.declared.events.Entry.{Entry}
 use Rattle.mach_types.specs.declared.events.Kind.TheVariants as kind
 use Rattle.mach_types.specs.declared.sequences.Area.{Area}
 use Rattle.rv_inst.specs.Meaning.{meaning}
-use Rattle.rv_inst.specs.Table.{row_of, rows, lui_rows, auipc_rows, jal_rows, jalr_rows, branch_rows, load_rows, store_rows}
-use Rattle.rv_inst.specs.Table.{op_imm_rows, op_imm_32_rows, op_rows, op_32_rows, misc_mem_rows, amo_rows, system_rows}
+use Rattle.rv_inst.specs.Table.{row_of, rows, lui_rows, auipc_rows, jal_rows, jalr_rows, branch_rows}
+use Rattle.rv_inst.specs.Table.{load_rows, store_rows, op_imm_rows, op_imm_32_rows, op_rows, op_32_rows}
+use Rattle.rv_inst.specs.Table.{misc_mem_rows, amo_rows, system_rows}
 use Rattle.block_model.specs.Acts.{Sequence}
 use Rattle.block_model.specs.Deciding.{decide, done, history}
 use Rattle.block_model.specs.History.{file}
@@ -28,41 +29,34 @@ use Rattle.percpu_lib.specs.Pushes.{push_block, push_form}
 use Rattle.percpu_lib.specs.Uses.{cells_of}
 use Rattle.percpu_lib.specs.declared.slots.Slots.{Slots}
 use Rattle.percpu_lib.proofs.ExampleParts.{AreThere, IsGood, entry, found_good, is_good, line}
+use Rattle.percpu_lib.proofs.ExampleParts.{data_at, setting_of, walk}
 use Rattle.percpu_lib.proofs.FormTests.{pop_tested, push_tested}
 use Rattle.percpu_lib.proofs.UseTests.{is_just}
 
--- `lui x8, 0x20`, `addi x10, x8, 0`, `addi x11, x0, 32`, `lui x13, 0xF1401`, `addi x13, x13, 0x73`, `addi x17, x0, 293`,
--- `ecall`, `addi x9, x8, 64`, `addi x18, x8, 256`; from 0x100D4 on the push block, from 0x1010C on the pop block, and
--- `jal x0, -60`; at 0x10160 and 0x10180 their descriptors
+-- `lui x8, 0x20`, `addi x10, x8, 0`, `addi x11, x0, 32`, `lui x13, 0xF1401`, `addi x13, x13, 0x73`, `addi
+-- x17, x0, 293`, `ecall`, `addi x9, x8, 64`, `addi x18, x8, 256`; from 0x100D4 on the push block, from
+-- 0x1010C on the pop block, and `jal x0, -60`; at 0x10160 and 0x10180 their descriptors
 abbrev code : List ℕ
 code =
-    0x37 ∷ 0x04 ∷ 0x02 ∷ 0x00 ∷ 0x13 ∷ 0x05 ∷ 0x04 ∷ 0x00 ∷ 0x93 ∷ 0x05 ∷ 0x00 ∷ 0x02 ∷ 0xB7 ∷ 0x16 ∷ 0x40 ∷ 0xF1
-    ∷ 0x93 ∷ 0x86 ∷ 0x36 ∷ 0x07 ∷ 0x93 ∷ 0x08 ∷ 0x50 ∷ 0x12 ∷ 0x73 ∷ 0x00 ∷ 0x00 ∷ 0x00 ∷ 0x93 ∷ 0x04 ∷ 0x04 ∷ 0x04
-    ∷ 0x13 ∷ 0x09 ∷ 0x04 ∷ 0x10 ∷ 0x83 ∷ 0x22 ∷ 0x04 ∷ 0x00 ∷ 0x37 ∷ 0x03 ∷ 0x01 ∷ 0x00 ∷ 0x13 ∷ 0x03 ∷ 0x03 ∷ 0x16
-    ∷ 0x23 ∷ 0x34 ∷ 0x64 ∷ 0x00 ∷ 0x03 ∷ 0x23 ∷ 0x44 ∷ 0x00 ∷ 0xE3 ∷ 0x16 ∷ 0x53 ∷ 0xFE ∷ 0x93 ∷ 0x92 ∷ 0x62 ∷ 0x00
-    ∷ 0xB3 ∷ 0x82 ∷ 0x92 ∷ 0x00 ∷ 0x03 ∷ 0xB3 ∷ 0x02 ∷ 0x00 ∷ 0x23 ∷ 0x30 ∷ 0x69 ∷ 0x00 ∷ 0x23 ∷ 0xB0 ∷ 0x22 ∷ 0x01
-    ∷ 0x6F ∷ 0x00 ∷ 0xC0 ∷ 0x00 ∷ 0x73 ∷ 0x10 ∷ 0x40 ∷ 0xF1 ∷ 0x6F ∷ 0xF0 ∷ 0xDF ∷ 0xFC ∷ 0x83 ∷ 0x22 ∷ 0x04 ∷ 0x00
-    ∷ 0x37 ∷ 0x03 ∷ 0x01 ∷ 0x00 ∷ 0x13 ∷ 0x03 ∷ 0x03 ∷ 0x18 ∷ 0x23 ∷ 0x34 ∷ 0x64 ∷ 0x00 ∷ 0x03 ∷ 0x23 ∷ 0x44 ∷ 0x00
-    ∷ 0xE3 ∷ 0x16 ∷ 0x53 ∷ 0xFE ∷ 0x93 ∷ 0x92 ∷ 0x62 ∷ 0x00 ∷ 0xB3 ∷ 0x82 ∷ 0x92 ∷ 0x00 ∷ 0x83 ∷ 0xB9 ∷ 0x02 ∷ 0x00
-    ∷ 0x63 ∷ 0x86 ∷ 0x09 ∷ 0x00 ∷ 0x03 ∷ 0xB3 ∷ 0x09 ∷ 0x00 ∷ 0x23 ∷ 0xB0 ∷ 0x62 ∷ 0x00 ∷ 0x6F ∷ 0x00 ∷ 0xC0 ∷ 0x00
-    ∷ 0x73 ∷ 0x10 ∷ 0x40 ∷ 0xF1 ∷ 0x6F ∷ 0xF0 ∷ 0x9F ∷ 0xFC ∷ 0x6F ∷ 0xF0 ∷ 0x5F ∷ 0xFC ∷ 0x00 ∷ 0x00 ∷ 0x00 ∷ 0x00
-    ∷ 0x00 ∷ 0x00 ∷ 0x00 ∷ 0x00 ∷ 0x00 ∷ 0x00 ∷ 0x00 ∷ 0x00 ∷ 0x00 ∷ 0x00 ∷ 0x00 ∷ 0x00 ∷ 0x00 ∷ 0x00 ∷ 0x00 ∷ 0x00
-    ∷ 0x00 ∷ 0x00 ∷ 0x00 ∷ 0x00 ∷ 0x00 ∷ 0x00 ∷ 0x00 ∷ 0x00 ∷ 0xE4 ∷ 0x00 ∷ 0x01 ∷ 0x00 ∷ 0x00 ∷ 0x00 ∷ 0x00 ∷ 0x00
-    ∷ 0x1C ∷ 0x00 ∷ 0x00 ∷ 0x00 ∷ 0x00 ∷ 0x00 ∷ 0x00 ∷ 0x00 ∷ 0x08 ∷ 0x01 ∷ 0x01 ∷ 0x00 ∷ 0x00 ∷ 0x00 ∷ 0x00 ∷ 0x00
-    ∷ 0x00 ∷ 0x00 ∷ 0x00 ∷ 0x00 ∷ 0x00 ∷ 0x00 ∷ 0x00 ∷ 0x00 ∷ 0x1C ∷ 0x01 ∷ 0x01 ∷ 0x00 ∷ 0x00 ∷ 0x00 ∷ 0x00 ∷ 0x00
-    ∷ 0x20 ∷ 0x00 ∷ 0x00 ∷ 0x00 ∷ 0x00 ∷ 0x00 ∷ 0x00 ∷ 0x00 ∷ 0x44 ∷ 0x01 ∷ 0x01 ∷ 0x00 ∷ 0x00 ∷ 0x00 ∷ 0x00 ∷ 0x00 ∷ []
+    0x37 ∷ 0x04 ∷ 0x02 ∷ 0x00 ∷ 0x13 ∷ 0x05 ∷ 0x04 ∷ 0x00 ∷ 0x93 ∷ 0x05 ∷ 0x00 ∷ 0x02 ∷ 0xB7 ∷ 0x16 ∷ 0x40
+    ∷ 0xF1 ∷ 0x93 ∷ 0x86 ∷ 0x36 ∷ 0x07 ∷ 0x93 ∷ 0x08 ∷ 0x50 ∷ 0x12 ∷ 0x73 ∷ 0x00 ∷ 0x00 ∷ 0x00 ∷ 0x93 ∷ 0x04
+    ∷ 0x04 ∷ 0x04 ∷ 0x13 ∷ 0x09 ∷ 0x04 ∷ 0x10 ∷ 0x83 ∷ 0x22 ∷ 0x04 ∷ 0x00 ∷ 0x37 ∷ 0x03 ∷ 0x01 ∷ 0x00 ∷ 0x13
+    ∷ 0x03 ∷ 0x03 ∷ 0x16 ∷ 0x23 ∷ 0x34 ∷ 0x64 ∷ 0x00 ∷ 0x03 ∷ 0x23 ∷ 0x44 ∷ 0x00 ∷ 0xE3 ∷ 0x16 ∷ 0x53 ∷ 0xFE
+    ∷ 0x93 ∷ 0x92 ∷ 0x62 ∷ 0x00 ∷ 0xB3 ∷ 0x82 ∷ 0x92 ∷ 0x00 ∷ 0x03 ∷ 0xB3 ∷ 0x02 ∷ 0x00 ∷ 0x23 ∷ 0x30 ∷ 0x69
+    ∷ 0x00 ∷ 0x23 ∷ 0xB0 ∷ 0x22 ∷ 0x01 ∷ 0x6F ∷ 0x00 ∷ 0xC0 ∷ 0x00 ∷ 0x73 ∷ 0x10 ∷ 0x40 ∷ 0xF1 ∷ 0x6F ∷ 0xF0
+    ∷ 0xDF ∷ 0xFC ∷ 0x83 ∷ 0x22 ∷ 0x04 ∷ 0x00 ∷ 0x37 ∷ 0x03 ∷ 0x01 ∷ 0x00 ∷ 0x13 ∷ 0x03 ∷ 0x03 ∷ 0x18 ∷ 0x23
+    ∷ 0x34 ∷ 0x64 ∷ 0x00 ∷ 0x03 ∷ 0x23 ∷ 0x44 ∷ 0x00 ∷ 0xE3 ∷ 0x16 ∷ 0x53 ∷ 0xFE ∷ 0x93 ∷ 0x92 ∷ 0x62 ∷ 0x00
+    ∷ 0xB3 ∷ 0x82 ∷ 0x92 ∷ 0x00 ∷ 0x83 ∷ 0xB9 ∷ 0x02 ∷ 0x00 ∷ 0x63 ∷ 0x86 ∷ 0x09 ∷ 0x00 ∷ 0x03 ∷ 0xB3 ∷ 0x09
+    ∷ 0x00 ∷ 0x23 ∷ 0xB0 ∷ 0x62 ∷ 0x00 ∷ 0x6F ∷ 0x00 ∷ 0xC0 ∷ 0x00 ∷ 0x73 ∷ 0x10 ∷ 0x40 ∷ 0xF1 ∷ 0x6F ∷ 0xF0
+    ∷ 0x9F ∷ 0xFC ∷ 0x6F ∷ 0xF0 ∷ 0x5F ∷ 0xFC ∷ 0x00 ∷ 0x00 ∷ 0x00 ∷ 0x00 ∷ 0x00 ∷ 0x00 ∷ 0x00 ∷ 0x00 ∷ 0x00
+    ∷ 0x00 ∷ 0x00 ∷ 0x00 ∷ 0x00 ∷ 0x00 ∷ 0x00 ∷ 0x00 ∷ 0x00 ∷ 0x00 ∷ 0x00 ∷ 0x00 ∷ 0x00 ∷ 0x00 ∷ 0x00 ∷ 0x00
+    ∷ 0x00 ∷ 0x00 ∷ 0x00 ∷ 0x00 ∷ 0xE4 ∷ 0x00 ∷ 0x01 ∷ 0x00 ∷ 0x00 ∷ 0x00 ∷ 0x00 ∷ 0x00 ∷ 0x1C ∷ 0x00 ∷ 0x00
+    ∷ 0x00 ∷ 0x00 ∷ 0x00 ∷ 0x00 ∷ 0x00 ∷ 0x08 ∷ 0x01 ∷ 0x01 ∷ 0x00 ∷ 0x00 ∷ 0x00 ∷ 0x00 ∷ 0x00 ∷ 0x00 ∷ 0x00
+    ∷ 0x00 ∷ 0x00 ∷ 0x00 ∷ 0x00 ∷ 0x00 ∷ 0x00 ∷ 0x1C ∷ 0x01 ∷ 0x01 ∷ 0x00 ∷ 0x00 ∷ 0x00 ∷ 0x00 ∷ 0x00 ∷ 0x20
+    ∷ 0x00 ∷ 0x00 ∷ 0x00 ∷ 0x00 ∷ 0x00 ∷ 0x00 ∷ 0x00 ∷ 0x44 ∷ 0x01 ∷ 0x01 ∷ 0x00 ∷ 0x00 ∷ 0x00 ∷ 0x00 ∷ 0x00 ∷ []
 
 abbrev pub setting : Setting
-setting = record {
-  program = record {
-    pages = record { number = 0x10; perm = 5; bytes = replicate 0xB0 0 ++ code } ∷ record { number = 0x20; perm = 6; bytes = [] } ∷ [];
-    entry = 0x100B0;
-    phdr = 0x10040;
-    phnum = 2;
-    break_at = 0x21000;
-  };
-  limits = record { harts = 1; frames = 128; steps = 200 };
-}
+setting = setting_of 0xB0 code (data_at 0x20 [] ∷ []) 0x21000
 
 abbrev pub area : Area
 area = record { at = 0x20000; sig = 0xF1401073 }
@@ -85,9 +79,10 @@ the_push = placed_of (push_form push_slots) push_at area
 abbrev pub the_pop : Placed
 the_pop = placed_of (pop_form pop_slots) pop_at area
 
--- the thread runs, and executes the first nine instructions and ten words of the push block, whose two stores then enter
--- memory. It is preempted and runs again; it executes the jump at the abort handler, eleven words of the block, and the jump
--- behind it; twelve words of the pop block and the jump behind it; and the jump back, and ten of its words
+-- the thread runs, and executes the first nine instructions and ten words of the push block, whose two stores
+-- then enter memory. It is preempted and runs again; it executes the jump at the abort handler, eleven words
+-- of the block, and the jump behind it; twelve words of the pop block and the jump behind it; and the jump
+-- back, and ten of its words
 abbrev lines : List Ask
 lines =
     line (asked.Run (record { 0 = 1 }))
@@ -100,67 +95,9 @@ lines =
 
 abbrev pub log : List Entry
 log =
-    entry kind.Run 1 0x100B0
-    ∷ entry kind.Exec 1 0x100B0
-    ∷ entry kind.Exec 1 0x100B4
-    ∷ entry kind.Exec 1 0x100B8
-    ∷ entry kind.Exec 1 0x100BC
-    ∷ entry kind.Exec 1 0x100C0
-    ∷ entry kind.Exec 1 0x100C4
-    ∷ entry kind.Exec 1 0x100C8
-    ∷ entry kind.Exec 1 0x100CC
-    ∷ entry kind.Exec 1 0x100D0
-    ∷ entry kind.Exec 1 0x100D4
-    ∷ entry kind.Exec 1 0x100D8
-    ∷ entry kind.Exec 1 0x100DC
-    ∷ entry kind.Exec 1 0x100E0
-    ∷ entry kind.Exec 1 0x100E4
-    ∷ entry kind.Exec 1 0x100E8
-    ∷ entry kind.Exec 1 0x100EC
-    ∷ entry kind.Exec 1 0x100F0
-    ∷ entry kind.Exec 1 0x100F4
-    ∷ entry kind.Exec 1 0x100F8
-    ∷ entry kind.Drain 1 0x100FC
-    ∷ entry kind.Drain 1 0x100FC
-    ∷ entry kind.Preempt 1 0x100FC
-    ∷ entry kind.Run 1 0x100FC
-    ∷ entry kind.Exec 1 0x10108
-    ∷ entry kind.Exec 1 0x100D4
-    ∷ entry kind.Exec 1 0x100D8
-    ∷ entry kind.Exec 1 0x100DC
-    ∷ entry kind.Exec 1 0x100E0
-    ∷ entry kind.Exec 1 0x100E4
-    ∷ entry kind.Exec 1 0x100E8
-    ∷ entry kind.Exec 1 0x100EC
-    ∷ entry kind.Exec 1 0x100F0
-    ∷ entry kind.Exec 1 0x100F4
-    ∷ entry kind.Exec 1 0x100F8
-    ∷ entry kind.Exec 1 0x100FC
-    ∷ entry kind.Exec 1 0x10100
-    ∷ entry kind.Exec 1 0x1010C
-    ∷ entry kind.Exec 1 0x10110
-    ∷ entry kind.Exec 1 0x10114
-    ∷ entry kind.Exec 1 0x10118
-    ∷ entry kind.Exec 1 0x1011C
-    ∷ entry kind.Exec 1 0x10120
-    ∷ entry kind.Exec 1 0x10124
-    ∷ entry kind.Exec 1 0x10128
-    ∷ entry kind.Exec 1 0x1012C
-    ∷ entry kind.Exec 1 0x10130
-    ∷ entry kind.Exec 1 0x10134
-    ∷ entry kind.Exec 1 0x10138
-    ∷ entry kind.Exec 1 0x1013C
-    ∷ entry kind.Exec 1 0x10148
-    ∷ entry kind.Exec 1 0x1010C
-    ∷ entry kind.Exec 1 0x10110
-    ∷ entry kind.Exec 1 0x10114
-    ∷ entry kind.Exec 1 0x10118
-    ∷ entry kind.Exec 1 0x1011C
-    ∷ entry kind.Exec 1 0x10120
-    ∷ entry kind.Exec 1 0x10124
-    ∷ entry kind.Exec 1 0x10128
-    ∷ entry kind.Exec 1 0x1012C
-    ∷ entry kind.Exec 1 0x10130 ∷ []
+    entry kind.Run 1 0x100B0 ∷ walk 0x100B0 19 ++ entry kind.Drain 1 0x100FC ∷ entry kind.Drain 1 0x100FC
+    ∷ entry kind.Preempt 1 0x100FC ∷ entry kind.Run 1 0x100FC ∷ entry kind.Exec 1 0x10108
+    ∷ walk 0x100D4 12 ++ walk 0x1010C 13 ++ entry kind.Exec 1 0x10148 ∷ walk 0x1010C 10
 
 is_played : played setting lines ≡ Ok log
 unfolding played decide history done meaning row_of rows lui_rows auipc_rows jal_rows jalr_rows branch_rows load_rows store_rows op_imm_rows op_imm_32_rows op_rows op_32_rows misc_mem_rows amo_rows system_rows are_readable number_at
@@ -184,7 +121,8 @@ push_log = take 36 log
 abbrev pub push_fits : Sequence → Bool
 push_fits q = is_just (cell_seen setting 0 (cells_of setting push_slots q.thread q.begun) q.reached) 0x20100
 
-push_good : is_good setting (push_form push_slots) (push_tested push_slots) push_at area 1 (the_pop ∷ []) push_fits
+push_good : is_good setting (push_form push_slots) (push_tested push_slots) push_at area 1 (the_pop ∷ [])
+    push_fits
     (history setting push_log) ≡ true
 unfolding decide history done meaning row_of rows lui_rows auipc_rows jal_rows jalr_rows branch_rows load_rows store_rows op_imm_rows op_imm_32_rows op_rows op_32_rows misc_mem_rows amo_rows system_rows are_readable number_at
 push_good = refl
@@ -218,7 +156,8 @@ empty_log = log
 abbrev pub empty_fits : Sequence → Bool
 empty_fits q = eqb (register (file setting q.thread q.reached).file 19) 0
 
-empty_good : is_good setting (pop_form pop_slots) (pop_tested pop_slots) pop_at area 1 (the_push ∷ []) empty_fits
+empty_good : is_good setting (pop_form pop_slots) (pop_tested pop_slots) pop_at area 1 (the_push ∷ [])
+    empty_fits
     (history setting empty_log) ≡ true
 unfolding decide history done meaning row_of rows lui_rows auipc_rows jal_rows jalr_rows branch_rows load_rows store_rows op_imm_rows op_imm_32_rows op_rows op_32_rows misc_mem_rows amo_rows system_rows are_readable number_at
 empty_good = refl

@@ -1,7 +1,7 @@
--- A worked log, by computation: a thread registers its area and puts 42 into the pool of its processor by a free block. It
--- is preempted inside, once its value is 0, begins anew at the abort handler, which brings the value back, and puts it in
--- once. Then it takes it out by an alloc block, and finds the pool empty by another sequence of that. And a log of a pool that
--- is full.
+-- A worked log, by computation: a thread registers its area and puts 42 into the pool of its processor by a
+-- free block. It is preempted inside, once its value is 0, begins anew at the abort handler, which brings the
+-- value back, and puts it in once. Then it takes it out by an alloc block, and finds the pool empty by
+-- another sequence of that. And a log of a pool that is full.
 use Rattle.std.proofs.Common.{◌≡◌, ℕ, ◌<◌, ◌^◌, List, [], ◌∷◌, ◌++◌, replicate, take, drop, refl, ltb}
 use Rattle.std.proofs.lemmas.Bool.{ltb-true}
 use Rattle.std.proofs.Common.{Bool, true, ◌&&◌, eqb, Ok}
@@ -12,8 +12,9 @@ use Rattle.mach_types.specs.declared.events.Entry.{Entry}
 use Rattle.mach_types.specs.declared.events.Kind.TheVariants as kind
 use Rattle.mach_types.specs.declared.sequences.Area.{Area}
 use Rattle.rv_inst.specs.Meaning.{meaning}
-use Rattle.rv_inst.specs.Table.{row_of, rows, lui_rows, auipc_rows, jal_rows, jalr_rows, branch_rows, load_rows, store_rows}
-use Rattle.rv_inst.specs.Table.{op_imm_rows, op_imm_32_rows, op_rows, op_32_rows, misc_mem_rows, amo_rows, system_rows}
+use Rattle.rv_inst.specs.Table.{row_of, rows, lui_rows, auipc_rows, jal_rows, jalr_rows, branch_rows}
+use Rattle.rv_inst.specs.Table.{load_rows, store_rows, op_imm_rows, op_imm_32_rows, op_rows, op_32_rows}
+use Rattle.rv_inst.specs.Table.{misc_mem_rows, amo_rows, system_rows}
 use Rattle.block_model.specs.Acts.{Sequence}
 use Rattle.block_model.specs.Deciding.{decide, done, history}
 use Rattle.block_model.specs.History.{file}
@@ -31,47 +32,40 @@ use Rattle.percpu_lib.specs.Pools.{count_seen, pool_at, slot_at}
 use Rattle.percpu_lib.specs.Pushes.{word_seen}
 use Rattle.percpu_lib.specs.Uses.{cells_of}
 use Rattle.percpu_lib.specs.declared.slots.Slots.{Slots}
-use Rattle.percpu_lib.proofs.ExampleParts.{AreThere, IsGood, IsUsedSo, entry, found_good, is_good, line, used_so}
+use Rattle.percpu_lib.proofs.ExampleParts.{AreThere, IsGood, IsUsedSo, entry, found_good, is_good, line}
+use Rattle.percpu_lib.proofs.ExampleParts.{used_so, data_at, setting_of, walk}
 use Rattle.percpu_lib.proofs.FormTests.{alloc_tested, free_tested}
 use Rattle.percpu_lib.proofs.RetryParts.{is_retried, retried_so}
 use Rattle.percpu_lib.proofs.UseTests.{is_just}
 
--- `lui x8, 0x20`, `addi x10, x8, 0`, `addi x11, x0, 32`, `lui x13, 0xF1401`, `addi x13, x13, 0x73`, `addi x17, x0, 293`,
--- `ecall`, `addi x9, x8, 64`, `addi x18, x0, 42`; from 0x100D4 on the free block, from 0x1012C on the alloc block, and
--- `jal x0, -76`; at 0x10180 and 0x101A0 their descriptors
+-- `lui x8, 0x20`, `addi x10, x8, 0`, `addi x11, x0, 32`, `lui x13, 0xF1401`, `addi x13, x13, 0x73`, `addi
+-- x17, x0, 293`, `ecall`, `addi x9, x8, 64`, `addi x18, x0, 42`; from 0x100D4 on the free block, from 0x1012C
+-- on the alloc block, and `jal x0, -76`; at 0x10180 and 0x101A0 their descriptors
 abbrev code : List ℕ
 code =
-    0x37 ∷ 0x04 ∷ 0x02 ∷ 0x00 ∷ 0x13 ∷ 0x05 ∷ 0x04 ∷ 0x00 ∷ 0x93 ∷ 0x05 ∷ 0x00 ∷ 0x02 ∷ 0xB7 ∷ 0x16 ∷ 0x40 ∷ 0xF1
-    ∷ 0x93 ∷ 0x86 ∷ 0x36 ∷ 0x07 ∷ 0x93 ∷ 0x08 ∷ 0x50 ∷ 0x12 ∷ 0x73 ∷ 0x00 ∷ 0x00 ∷ 0x00 ∷ 0x93 ∷ 0x04 ∷ 0x04 ∷ 0x04
-    ∷ 0x13 ∷ 0x09 ∷ 0xA0 ∷ 0x02 ∷ 0x13 ∷ 0x0E ∷ 0x09 ∷ 0x00 ∷ 0x83 ∷ 0x22 ∷ 0x04 ∷ 0x00 ∷ 0x37 ∷ 0x03 ∷ 0x01 ∷ 0x00
-    ∷ 0x13 ∷ 0x03 ∷ 0x03 ∷ 0x18 ∷ 0x23 ∷ 0x34 ∷ 0x64 ∷ 0x00 ∷ 0x03 ∷ 0x23 ∷ 0x44 ∷ 0x00 ∷ 0xE3 ∷ 0x14 ∷ 0x53 ∷ 0xFE
-    ∷ 0x93 ∷ 0x92 ∷ 0xD2 ∷ 0x00 ∷ 0xB3 ∷ 0x82 ∷ 0x92 ∷ 0x00 ∷ 0x03 ∷ 0xB3 ∷ 0x02 ∷ 0x00 ∷ 0x93 ∷ 0x03 ∷ 0x00 ∷ 0x20
-    ∷ 0x63 ∷ 0x0E ∷ 0x73 ∷ 0x00 ∷ 0x93 ∷ 0x13 ∷ 0x33 ∷ 0x00 ∷ 0xB3 ∷ 0x83 ∷ 0x53 ∷ 0x00 ∷ 0x23 ∷ 0xB0 ∷ 0x23 ∷ 0x05
-    ∷ 0x13 ∷ 0x03 ∷ 0x13 ∷ 0x00 ∷ 0x13 ∷ 0x09 ∷ 0x00 ∷ 0x00 ∷ 0x23 ∷ 0xB0 ∷ 0x62 ∷ 0x00 ∷ 0x6F ∷ 0x00 ∷ 0x00 ∷ 0x01
-    ∷ 0x73 ∷ 0x10 ∷ 0x40 ∷ 0xF1 ∷ 0x13 ∷ 0x09 ∷ 0x0E ∷ 0x00 ∷ 0x6F ∷ 0xF0 ∷ 0xDF ∷ 0xFA ∷ 0x83 ∷ 0x22 ∷ 0x04 ∷ 0x00
-    ∷ 0x37 ∷ 0x03 ∷ 0x01 ∷ 0x00 ∷ 0x13 ∷ 0x03 ∷ 0x03 ∷ 0x1A ∷ 0x23 ∷ 0x34 ∷ 0x64 ∷ 0x00 ∷ 0x03 ∷ 0x23 ∷ 0x44 ∷ 0x00
-    ∷ 0xE3 ∷ 0x16 ∷ 0x53 ∷ 0xFE ∷ 0x93 ∷ 0x92 ∷ 0xD2 ∷ 0x00 ∷ 0xB3 ∷ 0x82 ∷ 0x92 ∷ 0x00 ∷ 0x03 ∷ 0xB3 ∷ 0x02 ∷ 0x00
-    ∷ 0x93 ∷ 0x09 ∷ 0x00 ∷ 0x00 ∷ 0x63 ∷ 0x0C ∷ 0x03 ∷ 0x00 ∷ 0x13 ∷ 0x03 ∷ 0xF3 ∷ 0xFF ∷ 0x93 ∷ 0x13 ∷ 0x33 ∷ 0x00
-    ∷ 0xB3 ∷ 0x83 ∷ 0x53 ∷ 0x00 ∷ 0x83 ∷ 0xB9 ∷ 0x03 ∷ 0x04 ∷ 0x23 ∷ 0xB0 ∷ 0x62 ∷ 0x00 ∷ 0x6F ∷ 0x00 ∷ 0xC0 ∷ 0x00
-    ∷ 0x73 ∷ 0x10 ∷ 0x40 ∷ 0xF1 ∷ 0x6F ∷ 0xF0 ∷ 0x9F ∷ 0xFB ∷ 0x6F ∷ 0xF0 ∷ 0x5F ∷ 0xFB ∷ 0x00 ∷ 0x00 ∷ 0x00 ∷ 0x00
-    ∷ 0x00 ∷ 0x00 ∷ 0x00 ∷ 0x00 ∷ 0x00 ∷ 0x00 ∷ 0x00 ∷ 0x00 ∷ 0xE8 ∷ 0x00 ∷ 0x01 ∷ 0x00 ∷ 0x00 ∷ 0x00 ∷ 0x00 ∷ 0x00
-    ∷ 0x34 ∷ 0x00 ∷ 0x00 ∷ 0x00 ∷ 0x00 ∷ 0x00 ∷ 0x00 ∷ 0x00 ∷ 0x24 ∷ 0x01 ∷ 0x01 ∷ 0x00 ∷ 0x00 ∷ 0x00 ∷ 0x00 ∷ 0x00
-    ∷ 0x00 ∷ 0x00 ∷ 0x00 ∷ 0x00 ∷ 0x00 ∷ 0x00 ∷ 0x00 ∷ 0x00 ∷ 0x3C ∷ 0x01 ∷ 0x01 ∷ 0x00 ∷ 0x00 ∷ 0x00 ∷ 0x00 ∷ 0x00
-    ∷ 0x30 ∷ 0x00 ∷ 0x00 ∷ 0x00 ∷ 0x00 ∷ 0x00 ∷ 0x00 ∷ 0x00 ∷ 0x74 ∷ 0x01 ∷ 0x01 ∷ 0x00 ∷ 0x00 ∷ 0x00 ∷ 0x00 ∷ 0x00 ∷ []
+    0x37 ∷ 0x04 ∷ 0x02 ∷ 0x00 ∷ 0x13 ∷ 0x05 ∷ 0x04 ∷ 0x00 ∷ 0x93 ∷ 0x05 ∷ 0x00 ∷ 0x02 ∷ 0xB7 ∷ 0x16 ∷ 0x40
+    ∷ 0xF1 ∷ 0x93 ∷ 0x86 ∷ 0x36 ∷ 0x07 ∷ 0x93 ∷ 0x08 ∷ 0x50 ∷ 0x12 ∷ 0x73 ∷ 0x00 ∷ 0x00 ∷ 0x00 ∷ 0x93 ∷ 0x04
+    ∷ 0x04 ∷ 0x04 ∷ 0x13 ∷ 0x09 ∷ 0xA0 ∷ 0x02 ∷ 0x13 ∷ 0x0E ∷ 0x09 ∷ 0x00 ∷ 0x83 ∷ 0x22 ∷ 0x04 ∷ 0x00 ∷ 0x37
+    ∷ 0x03 ∷ 0x01 ∷ 0x00 ∷ 0x13 ∷ 0x03 ∷ 0x03 ∷ 0x18 ∷ 0x23 ∷ 0x34 ∷ 0x64 ∷ 0x00 ∷ 0x03 ∷ 0x23 ∷ 0x44 ∷ 0x00
+    ∷ 0xE3 ∷ 0x14 ∷ 0x53 ∷ 0xFE ∷ 0x93 ∷ 0x92 ∷ 0xD2 ∷ 0x00 ∷ 0xB3 ∷ 0x82 ∷ 0x92 ∷ 0x00 ∷ 0x03 ∷ 0xB3 ∷ 0x02
+    ∷ 0x00 ∷ 0x93 ∷ 0x03 ∷ 0x00 ∷ 0x20 ∷ 0x63 ∷ 0x0E ∷ 0x73 ∷ 0x00 ∷ 0x93 ∷ 0x13 ∷ 0x33 ∷ 0x00 ∷ 0xB3 ∷ 0x83
+    ∷ 0x53 ∷ 0x00 ∷ 0x23 ∷ 0xB0 ∷ 0x23 ∷ 0x05 ∷ 0x13 ∷ 0x03 ∷ 0x13 ∷ 0x00 ∷ 0x13 ∷ 0x09 ∷ 0x00 ∷ 0x00 ∷ 0x23
+    ∷ 0xB0 ∷ 0x62 ∷ 0x00 ∷ 0x6F ∷ 0x00 ∷ 0x00 ∷ 0x01 ∷ 0x73 ∷ 0x10 ∷ 0x40 ∷ 0xF1 ∷ 0x13 ∷ 0x09 ∷ 0x0E ∷ 0x00
+    ∷ 0x6F ∷ 0xF0 ∷ 0xDF ∷ 0xFA ∷ 0x83 ∷ 0x22 ∷ 0x04 ∷ 0x00 ∷ 0x37 ∷ 0x03 ∷ 0x01 ∷ 0x00 ∷ 0x13 ∷ 0x03 ∷ 0x03
+    ∷ 0x1A ∷ 0x23 ∷ 0x34 ∷ 0x64 ∷ 0x00 ∷ 0x03 ∷ 0x23 ∷ 0x44 ∷ 0x00 ∷ 0xE3 ∷ 0x16 ∷ 0x53 ∷ 0xFE ∷ 0x93 ∷ 0x92
+    ∷ 0xD2 ∷ 0x00 ∷ 0xB3 ∷ 0x82 ∷ 0x92 ∷ 0x00 ∷ 0x03 ∷ 0xB3 ∷ 0x02 ∷ 0x00 ∷ 0x93 ∷ 0x09 ∷ 0x00 ∷ 0x00 ∷ 0x63
+    ∷ 0x0C ∷ 0x03 ∷ 0x00 ∷ 0x13 ∷ 0x03 ∷ 0xF3 ∷ 0xFF ∷ 0x93 ∷ 0x13 ∷ 0x33 ∷ 0x00 ∷ 0xB3 ∷ 0x83 ∷ 0x53 ∷ 0x00
+    ∷ 0x83 ∷ 0xB9 ∷ 0x03 ∷ 0x04 ∷ 0x23 ∷ 0xB0 ∷ 0x62 ∷ 0x00 ∷ 0x6F ∷ 0x00 ∷ 0xC0 ∷ 0x00 ∷ 0x73 ∷ 0x10 ∷ 0x40
+    ∷ 0xF1 ∷ 0x6F ∷ 0xF0 ∷ 0x9F ∷ 0xFB ∷ 0x6F ∷ 0xF0 ∷ 0x5F ∷ 0xFB ∷ 0x00 ∷ 0x00 ∷ 0x00 ∷ 0x00 ∷ 0x00 ∷ 0x00
+    ∷ 0x00 ∷ 0x00 ∷ 0x00 ∷ 0x00 ∷ 0x00 ∷ 0x00 ∷ 0xE8 ∷ 0x00 ∷ 0x01 ∷ 0x00 ∷ 0x00 ∷ 0x00 ∷ 0x00 ∷ 0x00 ∷ 0x34
+    ∷ 0x00 ∷ 0x00 ∷ 0x00 ∷ 0x00 ∷ 0x00 ∷ 0x00 ∷ 0x00 ∷ 0x24 ∷ 0x01 ∷ 0x01 ∷ 0x00 ∷ 0x00 ∷ 0x00 ∷ 0x00 ∷ 0x00
+    ∷ 0x00 ∷ 0x00 ∷ 0x00 ∷ 0x00 ∷ 0x00 ∷ 0x00 ∷ 0x00 ∷ 0x00 ∷ 0x3C ∷ 0x01 ∷ 0x01 ∷ 0x00 ∷ 0x00 ∷ 0x00 ∷ 0x00
+    ∷ 0x00 ∷ 0x30 ∷ 0x00 ∷ 0x00 ∷ 0x00 ∷ 0x00 ∷ 0x00 ∷ 0x00 ∷ 0x00 ∷ 0x74 ∷ 0x01 ∷ 0x01 ∷ 0x00 ∷ 0x00 ∷ 0x00
+    ∷ 0x00 ∷ 0x00 ∷ []
 
 -- such a program, with these bytes of data
 abbrev pub setting_with : List ℕ → Setting
-setting_with bytes = record {
-  program = record {
-    pages = record { number = 0x10; perm = 5; bytes = replicate 0xB0 0 ++ code }
-        ∷ record { number = 0x20; perm = 6; bytes = bytes } ∷ [];
-    entry = 0x100B0;
-    phdr = 0x10040;
-    phnum = 2;
-    break_at = 0x21000;
-  };
-  limits = record { harts = 1; frames = 128; steps = 200 };
-}
+setting_with bytes = setting_of 0xB0 code (data_at 0x20 bytes ∷ []) 0x21000
 
 abbrev pub setting : Setting
 setting = setting_with []
@@ -97,9 +91,10 @@ the_free = placed_of (free_form free_slots) free_at area
 abbrev pub the_alloc : Placed
 the_alloc = placed_of (alloc_form alloc_slots) alloc_at area
 
--- the thread runs, and executes the first nine instructions and 17 words of the free block, whose two stores then enter
--- memory. It is preempted and runs again; it executes the two words of the abort handler, 18 words of the block, and the
--- jump behind it; 16 words of the alloc block and the jump behind it; and the jump back, and eleven of its words
+-- the thread runs, and executes the first nine instructions and 17 words of the free block, whose two stores
+-- then enter memory. It is preempted and runs again; it executes the two words of the abort handler, 18 words
+-- of the block, and the jump behind it; 16 words of the alloc block and the jump behind it; and the jump
+-- back, and eleven of its words
 abbrev lines : List Ask
 lines =
     line (asked.Run (record { 0 = 1 }))
@@ -112,87 +107,9 @@ lines =
 
 abbrev pub log : List Entry
 log =
-    entry kind.Run 1 0x100B0
-    ∷ entry kind.Exec 1 0x100B0
-    ∷ entry kind.Exec 1 0x100B4
-    ∷ entry kind.Exec 1 0x100B8
-    ∷ entry kind.Exec 1 0x100BC
-    ∷ entry kind.Exec 1 0x100C0
-    ∷ entry kind.Exec 1 0x100C4
-    ∷ entry kind.Exec 1 0x100C8
-    ∷ entry kind.Exec 1 0x100CC
-    ∷ entry kind.Exec 1 0x100D0
-    ∷ entry kind.Exec 1 0x100D4
-    ∷ entry kind.Exec 1 0x100D8
-    ∷ entry kind.Exec 1 0x100DC
-    ∷ entry kind.Exec 1 0x100E0
-    ∷ entry kind.Exec 1 0x100E4
-    ∷ entry kind.Exec 1 0x100E8
-    ∷ entry kind.Exec 1 0x100EC
-    ∷ entry kind.Exec 1 0x100F0
-    ∷ entry kind.Exec 1 0x100F4
-    ∷ entry kind.Exec 1 0x100F8
-    ∷ entry kind.Exec 1 0x100FC
-    ∷ entry kind.Exec 1 0x10100
-    ∷ entry kind.Exec 1 0x10104
-    ∷ entry kind.Exec 1 0x10108
-    ∷ entry kind.Exec 1 0x1010C
-    ∷ entry kind.Exec 1 0x10110
-    ∷ entry kind.Exec 1 0x10114
-    ∷ entry kind.Drain 1 0x10118
-    ∷ entry kind.Drain 1 0x10118
-    ∷ entry kind.Preempt 1 0x10118
-    ∷ entry kind.Run 1 0x10118
-    ∷ entry kind.Exec 1 0x10124
-    ∷ entry kind.Exec 1 0x10128
-    ∷ entry kind.Exec 1 0x100D4
-    ∷ entry kind.Exec 1 0x100D8
-    ∷ entry kind.Exec 1 0x100DC
-    ∷ entry kind.Exec 1 0x100E0
-    ∷ entry kind.Exec 1 0x100E4
-    ∷ entry kind.Exec 1 0x100E8
-    ∷ entry kind.Exec 1 0x100EC
-    ∷ entry kind.Exec 1 0x100F0
-    ∷ entry kind.Exec 1 0x100F4
-    ∷ entry kind.Exec 1 0x100F8
-    ∷ entry kind.Exec 1 0x100FC
-    ∷ entry kind.Exec 1 0x10100
-    ∷ entry kind.Exec 1 0x10104
-    ∷ entry kind.Exec 1 0x10108
-    ∷ entry kind.Exec 1 0x1010C
-    ∷ entry kind.Exec 1 0x10110
-    ∷ entry kind.Exec 1 0x10114
-    ∷ entry kind.Exec 1 0x10118
-    ∷ entry kind.Exec 1 0x1011C
-    ∷ entry kind.Exec 1 0x1012C
-    ∷ entry kind.Exec 1 0x10130
-    ∷ entry kind.Exec 1 0x10134
-    ∷ entry kind.Exec 1 0x10138
-    ∷ entry kind.Exec 1 0x1013C
-    ∷ entry kind.Exec 1 0x10140
-    ∷ entry kind.Exec 1 0x10144
-    ∷ entry kind.Exec 1 0x10148
-    ∷ entry kind.Exec 1 0x1014C
-    ∷ entry kind.Exec 1 0x10150
-    ∷ entry kind.Exec 1 0x10154
-    ∷ entry kind.Exec 1 0x10158
-    ∷ entry kind.Exec 1 0x1015C
-    ∷ entry kind.Exec 1 0x10160
-    ∷ entry kind.Exec 1 0x10164
-    ∷ entry kind.Exec 1 0x10168
-    ∷ entry kind.Exec 1 0x1016C
-    ∷ entry kind.Exec 1 0x10178
-    ∷ entry kind.Exec 1 0x1012C
-    ∷ entry kind.Exec 1 0x10130
-    ∷ entry kind.Exec 1 0x10134
-    ∷ entry kind.Exec 1 0x10138
-    ∷ entry kind.Exec 1 0x1013C
-    ∷ entry kind.Exec 1 0x10140
-    ∷ entry kind.Exec 1 0x10144
-    ∷ entry kind.Exec 1 0x10148
-    ∷ entry kind.Exec 1 0x1014C
-    ∷ entry kind.Exec 1 0x10150
-    ∷ entry kind.Exec 1 0x10154 ∷ []
+    entry kind.Run 1 0x100B0 ∷ walk 0x100B0 26 ++ entry kind.Drain 1 0x10118 ∷ entry kind.Drain 1 0x10118
+    ∷ entry kind.Preempt 1 0x10118 ∷ entry kind.Run 1 0x10118 ∷ walk 0x10124 2 ++ walk 0x100D4 19
+    ++ walk 0x1012C 17 ++ entry kind.Exec 1 0x10178 ∷ walk 0x1012C 11
 
 is_played : played setting lines ≡ Ok log
 unfolding played decide history done meaning row_of rows lui_rows auipc_rows jal_rows jalr_rows branch_rows load_rows store_rows op_imm_rows op_imm_32_rows op_rows op_32_rows misc_mem_rows amo_rows system_rows are_readable number_at
@@ -214,16 +131,19 @@ abbrev pub free_log : List Entry
 free_log = take 51 log
 
 abbrev pub free_fits : Sequence → Bool
-free_fits q = is_just (word_seen setting 0 (slot_at (pool_at (cells_of setting free_slots q.thread q.begun) 0) 0) q.reached) 42
+free_fits q = is_just (word_seen setting 0 (slot_at (pool_at (cells_of setting free_slots q.thread q.begun) 0)
+    0) q.reached) 42
 
-free_good : is_good setting (free_form free_slots) (free_tested free_slots) free_at area 1 (the_alloc ∷ []) free_fits
+free_good : is_good setting (free_form free_slots) (free_tested free_slots) free_at area 1 (the_alloc ∷ [])
+    free_fits
     (history setting free_log) ≡ true
 unfolding decide history done meaning row_of rows lui_rows auipc_rows jal_rows jalr_rows branch_rows load_rows store_rows op_imm_rows op_imm_32_rows op_rows op_32_rows misc_mem_rows amo_rows system_rows are_readable number_at
 free_good = refl
 
 pub free_used : IsGood setting free_log (free_form free_slots) free_at area (the_alloc ∷ []) free_fits
 free_used =
-    found_good setting free_log (free_form free_slots) (free_tested free_slots) free_at area 1 (the_alloc ∷ [])
+    found_good setting free_log (free_form free_slots) (free_tested free_slots) free_at area 1
+    (the_alloc ∷ [])
     free_fits (run_before setting (take 51 log) (drop 51 log) is_run) free_good refl free_there refl
 
 -- the alloc: the value is 42
@@ -233,14 +153,16 @@ alloc_log = take 68 log
 abbrev pub alloc_fits : Sequence → Bool
 alloc_fits q = eqb (register (file setting q.thread q.reached).file 19) 42
 
-alloc_good : is_good setting (alloc_form alloc_slots) (alloc_tested alloc_slots) alloc_at area 1 (the_free ∷ []) alloc_fits
+alloc_good : is_good setting (alloc_form alloc_slots) (alloc_tested alloc_slots) alloc_at area 1
+    (the_free ∷ []) alloc_fits
     (history setting alloc_log) ≡ true
 unfolding decide history done meaning row_of rows lui_rows auipc_rows jal_rows jalr_rows branch_rows load_rows store_rows op_imm_rows op_imm_32_rows op_rows op_32_rows misc_mem_rows amo_rows system_rows are_readable number_at
 alloc_good = refl
 
 pub alloc_used : IsGood setting alloc_log (alloc_form alloc_slots) alloc_at area (the_free ∷ []) alloc_fits
 alloc_used =
-    found_good setting alloc_log (alloc_form alloc_slots) (alloc_tested alloc_slots) alloc_at area 1 (the_free ∷ [])
+    found_good setting alloc_log (alloc_form alloc_slots) (alloc_tested alloc_slots) alloc_at area 1
+    (the_free ∷ [])
     alloc_fits (run_before setting (take 68 log) (drop 68 log) is_run) alloc_good refl alloc_there refl
 
 -- the alloc of an empty pool: the value is 0
@@ -250,20 +172,23 @@ none_log = log
 abbrev pub none_fits : Sequence → Bool
 none_fits q = eqb (register (file setting q.thread q.reached).file 19) 0
 
-none_good : is_good setting (alloc_form alloc_slots) (alloc_tested alloc_slots) alloc_at area 1 (the_free ∷ []) none_fits
+none_good : is_good setting (alloc_form alloc_slots) (alloc_tested alloc_slots) alloc_at area 1
+    (the_free ∷ []) none_fits
     (history setting none_log) ≡ true
 unfolding decide history done meaning row_of rows lui_rows auipc_rows jal_rows jalr_rows branch_rows load_rows store_rows op_imm_rows op_imm_32_rows op_rows op_32_rows misc_mem_rows amo_rows system_rows are_readable number_at
 none_good = refl
 
 pub none_used : IsGood setting none_log (alloc_form alloc_slots) alloc_at area (the_free ∷ []) none_fits
 none_used =
-    found_good setting none_log (alloc_form alloc_slots) (alloc_tested alloc_slots) alloc_at area 1 (the_free ∷ [])
+    found_good setting none_log (alloc_form alloc_slots) (alloc_tested alloc_slots) alloc_at area 1
+    (the_free ∷ [])
     none_fits is_run none_good refl alloc_there refl
 
 -- A RETRY
 
--- the thread was at the retry label of the free block a first time. From there it walked to the last word of the sequence,
--- and its value was 0; it was preempted there, and began to run again at the abort handler; and from there it walked back
+-- the thread was at the retry label of the free block a first time. From there it walked to the last word of
+-- the sequence, and its value was 0; it was preempted there, and began to run again at the abort handler; and
+-- from there it walked back
 abbrev pub first_time : List Entry
 first_time = take 10 log
 
@@ -280,12 +205,14 @@ comes_back = refl
 
 pub retried : Retries setting the_free 1 first_time anew
 retried =
-    retried_so setting the_free 1 first_time (take 19 (drop 10 log)) (take 2 (drop 29 log)) (take 2 (drop 31 log))
+    retried_so setting the_free 1 first_time (take 19 (drop 10 log)) (take 2 (drop 29 log))
+    (take 2 (drop 31 log))
     comes_back
 
 pub used_again : IsUsedSo setting free_log (free_form free_slots) free_at area 1 (the_alloc ∷ [])
 used_again =
-    used_so setting free_log (free_form free_slots) (free_tested free_slots) free_at area 1 (the_alloc ∷ []) free_fits
+    used_so setting free_log (free_form free_slots) (free_tested free_slots) free_at area 1 (the_alloc ∷ [])
+    free_fits
     (run_before setting (take 51 log) (drop 51 log) is_run) free_good refl free_there refl
 
 small_there : ltb (register (file setting 1 (history setting first_time)).file 18) (2 ^ 64) ≡ true
@@ -310,14 +237,7 @@ full_lines = line (asked.Run (record { 0 = 1 })) ∷ replicate 21 (line asked.Ex
 
 abbrev pub full_log : List Entry
 full_log =
-    entry kind.Run 1 0x100B0 ∷ entry kind.Exec 1 0x100B0 ∷ entry kind.Exec 1 0x100B4
-    ∷ entry kind.Exec 1 0x100B8 ∷ entry kind.Exec 1 0x100BC ∷ entry kind.Exec 1 0x100C0
-    ∷ entry kind.Exec 1 0x100C4 ∷ entry kind.Exec 1 0x100C8 ∷ entry kind.Exec 1 0x100CC
-    ∷ entry kind.Exec 1 0x100D0 ∷ entry kind.Exec 1 0x100D4 ∷ entry kind.Exec 1 0x100D8
-    ∷ entry kind.Exec 1 0x100DC ∷ entry kind.Exec 1 0x100E0 ∷ entry kind.Exec 1 0x100E4
-    ∷ entry kind.Exec 1 0x100E8 ∷ entry kind.Exec 1 0x100EC ∷ entry kind.Exec 1 0x100F0
-    ∷ entry kind.Exec 1 0x100F4 ∷ entry kind.Exec 1 0x100F8 ∷ entry kind.Exec 1 0x100FC
-    ∷ entry kind.Exec 1 0x10100 ∷ []
+    entry kind.Run 1 0x100B0 ∷ walk 0x100B0 21
 
 full_played : played full_setting full_lines ≡ Ok full_log
 unfolding played decide history done meaning row_of rows lui_rows auipc_rows jal_rows jalr_rows branch_rows load_rows store_rows op_imm_rows op_imm_32_rows op_rows op_32_rows misc_mem_rows amo_rows system_rows are_readable number_at
@@ -332,12 +252,14 @@ full_fits q =
     eqb (register (file full_setting q.thread q.reached).file 18) 42
     && is_just (count_seen full_setting 0 (cells_of full_setting free_slots q.thread q.begun) q.reached) 512
 
-full_good : is_good full_setting (free_form free_slots) (free_tested free_slots) free_at area 1 (the_alloc ∷ []) full_fits
+full_good : is_good full_setting (free_form free_slots) (free_tested free_slots) free_at area 1
+    (the_alloc ∷ []) full_fits
     (history full_setting full_log) ≡ true
 unfolding decide history done meaning row_of rows lui_rows auipc_rows jal_rows jalr_rows branch_rows load_rows store_rows op_imm_rows op_imm_32_rows op_rows op_32_rows misc_mem_rows amo_rows system_rows are_readable number_at
 full_good = refl
 
 pub full_used : IsGood full_setting full_log (free_form free_slots) free_at area (the_alloc ∷ []) full_fits
 full_used =
-    found_good full_setting full_log (free_form free_slots) (free_tested free_slots) free_at area 1 (the_alloc ∷ [])
+    found_good full_setting full_log (free_form free_slots) (free_tested free_slots) free_at area 1
+    (the_alloc ∷ [])
     full_fits (played_is_run full_setting full_lines full_log full_played).0 full_good refl full_there refl

@@ -1,7 +1,7 @@
 -- A sequence of a pop block is one run of its thread alone, and so pops once or not at all.
-use Rattle.std.proofs.Common.{◌≡◌, ◌≢◌, ℕ, ◌+◌, ◌*◌, ◌<◌, ◌≤◌, ◌%◌, ◌^◌, List, [], ◌∷◌, ◌++◌, refl, sym, ap, ◌∙◌, subst}
-use Rattle.std.proofs.Common.{arith, Bool, true, false, not, ◌&&◌, ◌||◌, eqb, Option, Some, inl, inr, ◌⊎◌, append-nil, pos}
-use Rattle.std.proofs.Common.{unwrap_or}
+use Rattle.std.proofs.Common.{◌≡◌, ◌≢◌, ℕ, ◌+◌, ◌*◌, ◌<◌, ◌≤◌, ◌%◌, ◌^◌, List, [], ◌∷◌, ◌++◌, refl, sym, ap}
+use Rattle.std.proofs.Common.{◌∙◌, subst, arith, Bool, true, false, not, ◌&&◌, ◌||◌, eqb, Option, Some, inl}
+use Rattle.std.proofs.Common.{inr, ◌⊎◌, append-nil, pos, unwrap_or, rules}
 use Rattle.std.proofs.lemmas.Bool.{eqb-false, eqb-true}
 use Rattle.mach_types.specs.Bytes.{each_byte, word_at}
 use Rattle.mach_types.specs.Kernel.Areas.{is_inside}
@@ -35,78 +35,24 @@ use Rattle.percpu_lib.specs.Words.{AreHeld, AreSlots, is_changed}
 use Rattle.percpu_lib.specs.declared.slots.Slots.{Slots}
 use Rattle.percpu_lib.proofs.BlockCode.{IsFormed, behind_range}
 use Rattle.percpu_lib.proofs.BlockWords.{beside_pointer, or_true}
-use Rattle.percpu_lib.proofs.CellPath.{BeginsSo, inside_at, to_cell}
-use Rattle.percpu_lib.proofs.Changes.{area_not_changed, cells_not_changed, means_beq_not, means_beq_taken, put_other}
-use Rattle.percpu_lib.proofs.Changes.{put_same, scratch_not, some_value, value_changed}
+use Rattle.percpu_lib.proofs.CellPath.{BeginsSo, begins_of, inside_at, to_cell}
+use Rattle.percpu_lib.proofs.Changes.{area_not_changed, cells_not_changed, means_beq_not, means_beq_taken}
+use Rattle.percpu_lib.proofs.Changes.{put_other, put_same, scratch_not, some_value, value_changed}
 use Rattle.percpu_lib.proofs.CourseLaw.{HasPath, IsAfter, course_of, way}
 use Rattle.percpu_lib.proofs.Courses.{HasCourse}
-use Rattle.percpu_lib.proofs.FormedWords.{AreFit, words_fit}
-
-fit : (p : Slots) → AreFit (pop_form p) 0 (pop_block p)
-fit p = (
-  (refl, refl),
-  (
-    (refl, refl),
-    (
-      (refl, refl),
-      (
-        refl,
-        (
-          (refl, refl),
-          (
-            (refl, refl),
-            (
-              (refl, refl),
-              (
-                (refl, refl),
-                (
-                  (refl, value_changed p),
-                  (
-                    (refl, refl),
-                    (
-                      (refl, refl),
-                      (
-                        refl,
-                        ((refl, refl), (refl, ((refl, refl), tt))),
-                      ),
-                    ),
-                  ),
-                ),
-              ),
-            ),
-          ),
-        ),
-      ),
-    ),
-  ),
-)
+use Rattle.percpu_lib.proofs.FormedWords.{formed_of, words_fit}
 
 pub pop_formed : (p : Slots) → IsFormed (pop_form p)
-pop_formed p = record {
-  some = omega arith;
-  within = omega arith;
-  short = omega arith;
-  inside = omega arith;
-  lui = refl;
-  addi = refl;
-  store = refl;
-  words = words_fit (pop_form p) (omega arith) (omega arith) 0 (pop_block p) (omega arith) (fit p);
-  entry = (inst.Lw 5 p.area (pos 0), refl);
-}
+pop_formed p =
+    formed_of (pop_form p) (omega arith) (omega arith) (omega arith) (omega arith) refl refl refl
+    (inst.Lw 5 p.area (pos 0)) refl
+    (words_fit (pop_form p) (omega arith) (omega arith) 0 (pop_block p) (omega arith)
+    (search (rules, value_changed p)))
 
 begins_so : (p : Slots) → AreSlots p → BeginsSo (pop_form p) 6 64
-begins_so p slots = record {
-  lw = refl;
-  bne = refl;
-  slli = refl;
-  add = refl;
-  long = omega arith;
-  five = refl;
-  six = refl;
-  area_kept = area_not_changed p slots;
-  cells_kept = cells_not_changed p slots;
-  shifts = λ cpu few. omega arith;
-}
+begins_so p slots =
+    begins_of (pop_form p) 6 64 refl refl refl refl (omega arith) refl refl (area_not_changed p slots)
+    (cells_not_changed p slots) (λ cpu few. omega arith)
 
 module _ (s : Setting) (p : Slots) (at : ℕ) (area : Area) (h t : ℕ) (begun : History)
     (held : AreHeld (code_of s.program.pages) at (pop_block p)) (slots : AreSlots p)
@@ -200,7 +146,8 @@ module _ (s : Setting) (p : Slots) (at : ℕ) (area : Area) (h t : ℕ) (begun :
       then_branch w (at + 36) _ [] y was (here 9 (omega arith) (omega arith)) refl
       (inst.Beq p.value 0 (pos 12)) (held.holds 9 (inst.Beq p.value 0 (pos 12)) refl) 0 (at + 48)
       (λ f like. means_beq_taken f (at + 36) p.value 0 (pos 12) head 0 (at + 48)
-      (like.temp p.value (value_changed p) ∙ put_same p.value head temps_0) refl none (omega arith) (omega arith))
+      (like.temp p.value (value_changed p) ∙ put_same p.value head temps_0) refl none (omega arith)
+      (omega arith))
       (inr out)
       (λ v last. leaves w (at + 48) _ _ v last out (inr (refl, (put_same p.value head temps_0, inl (none, refl)))))
 
@@ -236,7 +183,8 @@ module _ (s : Setting) (p : Slots) (at : ℕ) (area : Area) (h t : ℕ) (begun :
       value_there = put_other 6 (loaded next_word.0 8 true) temps_1 p.value
           (λ same. scratch_not 6 p.value refl slots.value (sym same)) ∙ put_same p.value head temps_0
 
-  by_head : (y : Stand) → IsAt (is_changed p) old (at + 36) temps_1 [] y → (b : Bool) → eqb head 0 ≡ b → KeepsOn w y
+  by_head : (y : Stand) → IsAt (is_changed p) old (at + 36) temps_1 [] y → (b : Bool) → eqb head 0 ≡ b
+      → KeepsOn w y
   by_head y was true is = ends y was is
   by_head y was false is = unlinks y was is
 
@@ -244,7 +192,8 @@ module _ (s : Setting) (p : Slots) (at : ℕ) (area : Area) (h t : ℕ) (begun :
   keeps =
       let low = place.low in
       let low_cells = place.apart.low_cells in
-      to_cell s (pop_form p) at area h t begun Inside Done (pop_formed p) held place 6 64 (begins_so p slots) refl
+      to_cell s (pop_form p) at area h t begun Inside Done (pop_formed p) held place 6 64 (begins_so p slots)
+      refl
       area_bytes cells refl (omega arith)
       (λ y now.
       then_load w (at + 32) _ [] y now (here 8 (omega arith) (omega arith)) refl
@@ -254,7 +203,8 @@ module _ (s : Setting) (p : Slots) (at : ℕ) (area : Area) (h t : ℕ) (begun :
       in_cell (word_unchanged seen cell 8 ∙ old_word.1) (value_changed p) (some_value p slots) slots.low_value
       (omega arith) (omega arith) (omega arith)
       (λ z next. by_head z
-      (subst (λ n. IsAt (is_changed p) old (at + 36) (put p.value n temps_0) [] z) head_is next) (eqb head 0) refl))
+      (subst (λ n. IsAt (is_changed p) old (at + 36) (put p.value n temps_0) [] z) head_is next) (eqb head 0)
+      refl))
 
   -- WHAT WAS DONE
 
@@ -275,14 +225,16 @@ module _ (s : Setting) (p : Slots) (at : ℕ) (area : Area) (h t : ℕ) (begun :
       → IsAfter s (pop_form p) at area h t begun Inside Done temps es last → Ended es
       → Pops s cells h head begun last
   pops temps es last after (inl none) =
-      pops_none (eqb-true head 0 none.0) (same_cell temps es last after none.1) (same_stores temps es last after none.1)
+      pops_none (eqb-true head 0 none.0) (same_cell temps es last after none.1)
+      (same_stores temps es last after none.1)
   pops temps es last after (inr some) =
       pops_first (eqb-false head 0 some.0) next_word.0 next_word.1
       (after.sees cell in_cell ∙ ap (λ (x : List Store). word_at (seen_byte x seen) cell 8) some.1
       ∙ stored_word (sees s h begun) (cell_store cells h next) (omega arith))
       (after.stored ∙ ap (λ (x : List Store). stores h begun ++ x) some.1)
 
-  points : (es : List Store) → es ≡ [] → word_at (seen_byte es seen) (area.at + 8) 8 ≡ word_at seen (area.at + 8) 8
+  points : (es : List Store) → es ≡ [] → word_at (seen_byte es seen) (area.at + 8) 8
+      ≡ word_at seen (area.at + 8) 8
   points es none = ap (λ (x : List Store). word_at (seen_byte x seen) (area.at + 8) 8) none
       ∙ word_unchanged seen (area.at + 8) 8
 
@@ -291,7 +243,8 @@ module _ (s : Setting) (p : Slots) (at : ℕ) (area : Area) (h t : ℕ) (begun :
   points_done es (inl none) = points es none.1
   points_done es (inr some) =
       ap (λ (x : List Store). word_at (seen_byte x seen) (area.at + 8) 8) some.1
-      ∙ beside_word seen (cell_store cells h next) (area.at + 8) 8 (beside_pointer cell area.at place.apart.beside)
+      ∙ beside_word seen (cell_store cells h next) (area.at + 8) 8
+      (beside_pointer cell area.at place.apart.beside)
 
   path : HasPath s (pop_form p) at area h t begun Inside Done
   path = record {
@@ -318,5 +271,6 @@ pop_course p = record {
   formed = pop_formed p;
   course = λ s at area h t begun held slots place.
       course_of s (pop_form p) at area h t begun (Inside s p at area h t begun held slots place)
-      (Done s p at area h t begun held slots place) (pop_formed p) place (path s p at area h t begun held slots place);
+      (Done s p at area h t begun held slots place) (pop_formed p) place
+      (path s p at area h t begun held slots place);
 }

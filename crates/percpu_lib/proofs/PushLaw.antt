@@ -20,31 +20,22 @@ use Rattle.block_model.specs.History.{History, stores}
 use Rattle.block_model.specs.Setting.{Setting}
 use Rattle.percpu_lib.specs.Adds.{add_range, cell_at, cell_seen, cell_store}
 use Rattle.percpu_lib.specs.Forms.{IsBlockPlace}
-use Rattle.percpu_lib.specs.Pushes.{IsNoPush, IsWholePush, LieBeside, node_of, node_store, push_block, push_bytes}
-use Rattle.percpu_lib.specs.Pushes.{push_form, stores_node, stores_none}
+use Rattle.percpu_lib.specs.Pushes.{IsNoPush, IsWholePush, LieBeside, node_of, node_store, push_block}
+use Rattle.percpu_lib.specs.Pushes.{push_bytes, push_form, stores_node, stores_none}
 use Rattle.percpu_lib.specs.Uses.{cells_of}
 use Rattle.percpu_lib.specs.Words.{AreHeld, AreSlots}
 use Rattle.percpu_lib.specs.declared.slots.Slots.{Slots}
 use Rattle.percpu_lib.proofs.BlockCode.{behind_range}
 use Rattle.percpu_lib.proofs.BlockWords.{beside_pointer, or_true}
-use Rattle.percpu_lib.proofs.CellPath.{BeginsSo, inside_at, to_cell}
+use Rattle.percpu_lib.proofs.CellPath.{BeginsSo, begins_of, inside_at, to_cell}
 use Rattle.percpu_lib.proofs.CourseLaw.{HasPath, IsAfter, course_of, way}
 use Rattle.percpu_lib.proofs.Courses.{HasCourse}
 use Rattle.percpu_lib.proofs.PushCode.{push_formed}
 
 begins_so : (p : Slots) → AreSlots p → BeginsSo (push_form p) 6 64
-begins_so p slots = record {
-  lw = refl;
-  bne = refl;
-  slli = refl;
-  add = refl;
-  long = omega arith;
-  five = refl;
-  six = refl;
-  area_kept = slots.area;
-  cells_kept = slots.cells;
-  shifts = λ cpu few. omega arith;
-}
+begins_so p slots =
+    begins_of (push_form p) 6 64 refl refl refl refl (omega arith) refl refl slots.area slots.cells
+    (λ cpu few. omega arith)
 
 module _ (s : Setting) (p : Slots) (at : ℕ) (area : Area) (h t : ℕ) (begun : History)
     (held : AreHeld (code_of s.program.pages) at (push_block p)) (slots : AreSlots p)
@@ -104,7 +95,8 @@ module _ (s : Setting) (p : Slots) (at : ℕ) (area : Area) (h t : ℕ) (begun :
       let low = place.low in
       let low_cells = place.apart.cell.low_cells in
       let low_node = place.apart.low_node in
-      to_cell s (push_form p) at area h t begun Inside Done (push_formed p) held place 6 64 (begins_so p slots)
+      to_cell s (push_form p) at area h t begun Inside Done (push_formed p) held place 6 64
+      (begins_so p slots)
       (inl refl) area_bytes cells refl (omega arith)
       (λ y now.
       then_load w (at + 32) _ [] y now (here 8 (omega arith) (omega arith)) (inl refl)
@@ -117,7 +109,8 @@ module _ (s : Setting) (p : Slots) (at : ℕ) (area : Area) (h t : ℕ) (begun :
       then_store w (at + 36) _ [] z next (here 9 (omega arith) (omega arith)) (inl refl)
       (inst.Sd p.value 6 (pos 0)) (held.holds 9 (inst.Sd p.value 6 (pos 0)) refl)
       node 8 old (at + 40)
-      (λ f like. means_sd f (at + 36) p.value 6 (pos 0) node node old old (like.rest p.value slots.value) (omega arith)
+      (λ f like. means_sd f (at + 36) p.value 6 (pos 0) node node old old (like.rest p.value slots.value)
+      (omega arith)
       (like.temp 6 refl ∙ loaded_word old_word.0) (omega arith))
       in_node (omega arith) (omega arith) (omega arith)
       (λ u then.
@@ -127,11 +120,13 @@ module _ (s : Setting) (p : Slots) (at : ℕ) (area : Area) (h t : ℕ) (begun :
       (λ f like. means_sd f (at + 40) 5 p.value (pos 0) cell cell node node (like.temp 5 refl) (omega arith)
       (like.rest p.value slots.value) (omega arith))
       in_cell (omega arith) (omega arith) (omega arith)
-      (λ v last. leaves w (at + 44) _ _ v last (behind_range (push_form p) at 11 low (omega arith) (omega arith))
+      (λ v last. leaves w (at + 44) _ _ v last (behind_range (push_form p) at 11 low (omega arith)
+      (omega arith))
       (inr (refl, refl))))))
     where
       here : (k : ℕ) → 4 ≤ k → k < 11 → is_inside (add_range at) (at + 4 * k) ≡ true
-      here k from lt = inside_at s (push_form p) at area h t begun Inside Done (push_formed p) held place k from lt
+      here k from lt =
+          inside_at s (push_form p) at area h t begun Inside Done (push_formed p) held place k from lt
 
   -- the pointer of the area stays
   node_points : word_at (seen_byte (linked ∷ []) seen) (area.at + 8) 8 ≡ word_at seen (area.at + 8) 8
@@ -180,7 +175,8 @@ module _ (s : Setting) (p : Slots) (at : ℕ) (area : Area) (h t : ℕ) (begun :
             ∙ stored_word (sees s h begun) linked (omega arith);
         pushed = after.sees cell in_cell
             ∙ ap (λ (x : List Store). word_at (seen_byte x seen) cell 8) both
-            ∙ stored_word (λ a. byte_over linked a (sees s h begun a)) (cell_store cells h node) (omega arith);
+            ∙ stored_word (λ a. byte_over linked a (sees s h begun a)) (cell_store cells h node)
+            (omega arith);
         stored = after.stored ∙ ap (λ (x : List Store). stores h begun ++ x) both;
         kept = after.kept;
       }
@@ -193,7 +189,8 @@ module _ (s : Setting) (p : Slots) (at : ℕ) (area : Area) (h t : ℕ) (begun :
     points = points;
     points_done = λ temps es both.
         ap (λ (x : List Store). word_at (seen_byte x seen) (area.at + 8) 8) both
-        ∙ beside_word (λ a. Some (byte_over linked a (sees s h begun a))) (cell_store cells h node) (area.at + 8) 8
+        ∙ beside_word (λ a. Some (byte_over linked a (sees s h begun a))) (cell_store cells h node)
+        (area.at + 8) 8
         (beside_pointer cell area.at place.apart.cell.beside)
         ∙ node_points;
     partial = not_yet;
@@ -206,5 +203,6 @@ push_course p = record {
   formed = push_formed p;
   course = λ s at area h t begun held slots place.
       course_of s (push_form p) at area h t begun (Inside s p at area h t begun held slots place)
-      (Done s p at area h t begun held slots place) (push_formed p) place (path s p at area h t begun held slots place);
+      (Done s p at area h t begun held slots place) (push_formed p) place
+      (path s p at area h t begun held slots place);
 }

@@ -12,8 +12,9 @@ use Rattle.mach_types.specs.declared.events.Entry.{Entry}
 use Rattle.mach_types.specs.declared.events.Kind.TheVariants as kind
 use Rattle.mach_types.specs.declared.sequences.Area.{Area}
 use Rattle.rv_inst.specs.Meaning.{meaning}
-use Rattle.rv_inst.specs.Table.{row_of, rows, lui_rows, auipc_rows, jal_rows, jalr_rows, branch_rows, load_rows, store_rows}
-use Rattle.rv_inst.specs.Table.{op_imm_rows, op_imm_32_rows, op_rows, op_32_rows, misc_mem_rows, amo_rows, system_rows}
+use Rattle.rv_inst.specs.Table.{row_of, rows, lui_rows, auipc_rows, jal_rows, jalr_rows, branch_rows}
+use Rattle.rv_inst.specs.Table.{load_rows, store_rows, op_imm_rows, op_imm_32_rows, op_rows, op_32_rows}
+use Rattle.rv_inst.specs.Table.{misc_mem_rows, amo_rows, system_rows}
 use Rattle.block_model.specs.Acts.{Sequence}
 use Rattle.block_model.specs.Deciding.{decide, done, history}
 use Rattle.block_model.specs.History.{file, running, stores}
@@ -32,6 +33,7 @@ use Rattle.percpu_lib.specs.RingForms.{get_block, put_block, ring_at, ring_get_f
 use Rattle.percpu_lib.specs.Uses.{cells_of}
 use Rattle.percpu_lib.specs.declared.slots.Slots.{Slots}
 use Rattle.percpu_lib.proofs.ExampleParts.{AreThere, IsFound, IsGood, IsUsedSo, entry, found_good, is_found}
+use Rattle.percpu_lib.proofs.ExampleParts.{data_at, setting_of, walk}
 use Rattle.percpu_lib.proofs.ExampleParts.{is_good, line, is_found, sequence_found, used_so}
 use Rattle.percpu_lib.proofs.FormTests.{ring_get_tested, ring_put_tested}
 use Rattle.percpu_lib.proofs.RetryParts.{calm_so, is_retried, retried_so}
@@ -47,19 +49,12 @@ stores_none q = eqb (length (stores 0 q.reached)) (length (stores 0 q.begun))
 
 -- a program with these bytes of code, from 0x100B0 on, and of a ring at 0x20040; the words 7 and 9 stand at
 -- 0x21100
-abbrev setting_of : List ℕ → List ℕ → Setting
-setting_of code ring = record {
-  program = record {
-    pages = record { number = 0x10; perm = 5; bytes = replicate 0xB0 0 ++ code }
-        ∷ record { number = 0x20; perm = 6; bytes = replicate 0x40 0 ++ ring }
-        ∷ record { number = 0x21; perm = 6; bytes = replicate 0x100 0 ++ 7 ∷ (replicate 7 0 ++ 9 ∷ []) } ∷ [];
-    entry = 0x100B0;
-    phdr = 0x10040;
-    phnum = 2;
-    break_at = 0x22000;
-  };
-  limits = record { harts = 1; frames = 128; steps = 200 };
-}
+abbrev setting_over : List ℕ → List ℕ → Setting
+setting_over code ring =
+    setting_of 0xB0 code
+    (data_at 0x20 (replicate 0x40 0 ++ ring) ∷ data_at 0x21 (replicate 0x100 0 ++ 7
+    ∷ (replicate 7 0 ++ 9 ∷ [])) ∷ [])
+    0x22000
 
 abbrev pub area : Area
 area = record { at = 0x20000; sig = 0xF1401073 }
@@ -101,7 +96,7 @@ code =
     ∷ 0x00 ∷ 0x00 ∷ 0xE4 ∷ 0x01 ∷ 0x01 ∷ 0x00 ∷ 0x00 ∷ 0x00 ∷ 0x00 ∷ 0x00 ∷ []
 
 abbrev pub setting : Setting
-setting = setting_of code (replicate 16 0xFF)
+setting = setting_over code (replicate 16 0xFF)
 
 abbrev pub put_slots : Slots
 put_slots = record { area = 8; cells = 9; value = 10; table = 0x10200 }
@@ -148,49 +143,12 @@ lines =
 
 abbrev log : List Entry
 log =
-    entry kind.Run 1 0x100B0 ∷ entry kind.Exec 1 0x100B0 ∷ entry kind.Exec 1 0x100B4
-    ∷ entry kind.Exec 1 0x100B8 ∷ entry kind.Exec 1 0x100BC ∷ entry kind.Exec 1 0x100C0
-    ∷ entry kind.Exec 1 0x100C4 ∷ entry kind.Exec 1 0x100C8 ∷ entry kind.Exec 1 0x100CC
-    ∷ entry kind.Exec 1 0x100D0 ∷ entry kind.Exec 1 0x100D4 ∷ entry kind.Exec 1 0x100D8
-    ∷ entry kind.Exec 1 0x100DC ∷ entry kind.Exec 1 0x100E0 ∷ entry kind.Exec 1 0x100E4
-    ∷ entry kind.Exec 1 0x100E8 ∷ entry kind.Exec 1 0x100EC ∷ entry kind.Exec 1 0x100F0
-    ∷ entry kind.Exec 1 0x100F4 ∷ entry kind.Exec 1 0x100F8 ∷ entry kind.Exec 1 0x100FC
-    ∷ entry kind.Exec 1 0x10100 ∷ entry kind.Exec 1 0x10104 ∷ entry kind.Exec 1 0x10108
-    ∷ entry kind.Exec 1 0x1010C ∷ entry kind.Exec 1 0x10110 ∷ entry kind.Exec 1 0x10114
-    ∷ entry kind.Exec 1 0x10118 ∷ entry kind.Exec 1 0x1011C ∷ entry kind.Exec 1 0x10120
-    ∷ entry kind.Exec 1 0x10124 ∷ entry kind.Exec 1 0x10128 ∷ entry kind.Exec 1 0x1012C
-    ∷ entry kind.Drain 1 0x10130 ∷ entry kind.Drain 1 0x10130 ∷ entry kind.Preempt 1 0x10130
-    ∷ entry kind.Run 1 0x10130 ∷ entry kind.Exec 1 0x10158 ∷ entry kind.Exec 1 0x1015C
-    ∷ entry kind.Exec 1 0x100D8 ∷ entry kind.Exec 1 0x100DC ∷ entry kind.Exec 1 0x100E0
-    ∷ entry kind.Exec 1 0x100E4 ∷ entry kind.Exec 1 0x100E8 ∷ entry kind.Exec 1 0x100EC
-    ∷ entry kind.Exec 1 0x100F0 ∷ entry kind.Exec 1 0x100F4 ∷ entry kind.Exec 1 0x100F8
-    ∷ entry kind.Exec 1 0x100FC ∷ entry kind.Exec 1 0x10100 ∷ entry kind.Exec 1 0x10104
-    ∷ entry kind.Exec 1 0x10108 ∷ entry kind.Exec 1 0x1010C ∷ entry kind.Exec 1 0x10110
-    ∷ entry kind.Exec 1 0x10114 ∷ entry kind.Exec 1 0x10118 ∷ entry kind.Exec 1 0x1011C
-    ∷ entry kind.Exec 1 0x10120 ∷ entry kind.Exec 1 0x10124 ∷ entry kind.Exec 1 0x10128
-    ∷ entry kind.Exec 1 0x1012C ∷ entry kind.Exec 1 0x10130 ∷ entry kind.Exec 1 0x10134
-    ∷ entry kind.Exec 1 0x10138 ∷ entry kind.Exec 1 0x1013C ∷ entry kind.Exec 1 0x10140
-    ∷ entry kind.Exec 1 0x10144 ∷ entry kind.Exec 1 0x10148 ∷ entry kind.Exec 1 0x1014C
-    ∷ entry kind.Drain 1 0x10150 ∷ entry kind.Drain 1 0x10150 ∷ entry kind.Drain 1 0x10150
-    ∷ entry kind.Drain 1 0x10150 ∷ entry kind.Exec 1 0x10150 ∷ entry kind.Exec 1 0x10160
-    ∷ entry kind.Exec 1 0x10164 ∷ entry kind.Exec 1 0x10168 ∷ entry kind.Exec 1 0x1016C
-    ∷ entry kind.Exec 1 0x10170 ∷ entry kind.Exec 1 0x10174 ∷ entry kind.Exec 1 0x10178
-    ∷ entry kind.Exec 1 0x1017C ∷ entry kind.Exec 1 0x10180 ∷ entry kind.Exec 1 0x10184
-    ∷ entry kind.Exec 1 0x10188 ∷ entry kind.Exec 1 0x1018C ∷ entry kind.Exec 1 0x10190
-    ∷ entry kind.Exec 1 0x10194 ∷ entry kind.Exec 1 0x10198 ∷ entry kind.Exec 1 0x1019C
-    ∷ entry kind.Exec 1 0x101A0 ∷ entry kind.Exec 1 0x101A4 ∷ entry kind.Exec 1 0x101A8
-    ∷ entry kind.Exec 1 0x101AC ∷ entry kind.Exec 1 0x101B0 ∷ entry kind.Exec 1 0x101B4
-    ∷ entry kind.Exec 1 0x101B8 ∷ entry kind.Exec 1 0x101BC ∷ entry kind.Exec 1 0x101C0
-    ∷ entry kind.Exec 1 0x101C4 ∷ entry kind.Exec 1 0x101C8 ∷ entry kind.Exec 1 0x101CC
-    ∷ entry kind.Exec 1 0x101D0 ∷ entry kind.Exec 1 0x101D4 ∷ entry kind.Exec 1 0x101D8
-    ∷ entry kind.Drain 1 0x101DC ∷ entry kind.Drain 1 0x101DC ∷ entry kind.Drain 1 0x101DC
-    ∷ entry kind.Drain 1 0x101DC ∷ entry kind.Exec 1 0x101DC ∷ entry kind.Exec 1 0x101EC
-    ∷ entry kind.Exec 1 0x10164 ∷ entry kind.Exec 1 0x10168 ∷ entry kind.Exec 1 0x1016C
-    ∷ entry kind.Exec 1 0x10170 ∷ entry kind.Exec 1 0x10174 ∷ entry kind.Exec 1 0x10178
-    ∷ entry kind.Exec 1 0x1017C ∷ entry kind.Exec 1 0x10180 ∷ entry kind.Exec 1 0x10184
-    ∷ entry kind.Exec 1 0x10188 ∷ entry kind.Exec 1 0x1018C ∷ entry kind.Exec 1 0x10190
-    ∷ entry kind.Exec 1 0x10194 ∷ entry kind.Exec 1 0x10198 ∷ entry kind.Exec 1 0x1019C
-    ∷ entry kind.Exec 1 0x101A0 ∷ []
+    entry kind.Run 1 0x100B0 ∷ walk 0x100B0 32 ++ entry kind.Drain 1 0x10130 ∷ entry kind.Drain 1 0x10130
+    ∷ entry kind.Preempt 1 0x10130 ∷ entry kind.Run 1 0x10130 ∷ walk 0x10158 2 ++ walk 0x100D8 30
+    ++ entry kind.Drain 1 0x10150 ∷ entry kind.Drain 1 0x10150 ∷ entry kind.Drain 1 0x10150
+    ∷ entry kind.Drain 1 0x10150 ∷ entry kind.Exec 1 0x10150 ∷ walk 0x10160 31
+    ++ entry kind.Drain 1 0x101DC ∷ entry kind.Drain 1 0x101DC ∷ entry kind.Drain 1 0x101DC
+    ∷ entry kind.Drain 1 0x101DC ∷ entry kind.Exec 1 0x101DC ∷ entry kind.Exec 1 0x101EC ∷ walk 0x10164 16
 
 is_played : played setting lines ≡ Ok log
 unfolding played decide history done meaning row_of rows lui_rows auipc_rows jal_rows jalr_rows branch_rows load_rows store_rows op_imm_rows op_imm_32_rows op_rows op_32_rows misc_mem_rows amo_rows system_rows are_readable number_at
@@ -322,7 +280,8 @@ retried =
 
 pub used_again : IsUsedSo setting put_log put put_at area 1 (the_get ∷ [])
 used_again =
-    used_so setting put_log put put_tested put_at area 1 (the_get ∷ []) put_fits put_run put_good refl put_there
+    used_so setting put_log put put_tested put_at area 1 (the_get ∷ []) put_fits put_run put_good refl
+    put_there
     refl
 
 pub runs_anew : running setting 0 (history setting anew) ≡ Some 1
@@ -362,7 +321,7 @@ full_code =
 
 -- the head is 2^64 - 1, and the tail 511
 abbrev pub full_setting : Setting
-full_setting = setting_of full_code (replicate 8 0xFF ++ 0xFF ∷ 0x01 ∷ [])
+full_setting = setting_over full_code (replicate 8 0xFF ++ 0xFF ∷ 0x01 ∷ [])
 
 abbrev pub full_slots : Slots
 full_slots = record { area = 8; cells = 9; value = 18; table = 0x10160 }
@@ -381,15 +340,7 @@ full_lines = line (asked.Run (record { 0 = 1 })) ∷ replicate 26 (line asked.Ex
 
 abbrev pub full_log : List Entry
 full_log =
-    entry kind.Run 1 0x100B0 ∷ entry kind.Exec 1 0x100B0 ∷ entry kind.Exec 1 0x100B4
-    ∷ entry kind.Exec 1 0x100B8 ∷ entry kind.Exec 1 0x100BC ∷ entry kind.Exec 1 0x100C0
-    ∷ entry kind.Exec 1 0x100C4 ∷ entry kind.Exec 1 0x100C8 ∷ entry kind.Exec 1 0x100CC
-    ∷ entry kind.Exec 1 0x100D0 ∷ entry kind.Exec 1 0x100D4 ∷ entry kind.Exec 1 0x100D8
-    ∷ entry kind.Exec 1 0x100DC ∷ entry kind.Exec 1 0x100E0 ∷ entry kind.Exec 1 0x100E4
-    ∷ entry kind.Exec 1 0x100E8 ∷ entry kind.Exec 1 0x100EC ∷ entry kind.Exec 1 0x100F0
-    ∷ entry kind.Exec 1 0x100F4 ∷ entry kind.Exec 1 0x100F8 ∷ entry kind.Exec 1 0x100FC
-    ∷ entry kind.Exec 1 0x10100 ∷ entry kind.Exec 1 0x10104 ∷ entry kind.Exec 1 0x10108
-    ∷ entry kind.Exec 1 0x1010C ∷ entry kind.Exec 1 0x10110 ∷ entry kind.Exec 1 0x10114 ∷ []
+    entry kind.Run 1 0x100B0 ∷ walk 0x100B0 26
 
 full_played : played full_setting full_lines ≡ Ok full_log
 unfolding played decide history done meaning row_of rows lui_rows auipc_rows jal_rows jalr_rows branch_rows load_rows store_rows op_imm_rows op_imm_32_rows op_rows op_32_rows misc_mem_rows amo_rows system_rows are_readable number_at

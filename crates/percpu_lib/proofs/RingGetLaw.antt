@@ -1,8 +1,8 @@
 -- A sequence of a ring get block is one run of its thread alone, and so gets its words out of the ring once
 -- or not at all.
-use Rattle.std.proofs.Common.{◌≡◌, ◌≢◌, ℕ, zero, suc, ◌+◌, ◌*◌, ◌<◌, ◌≤◌, ◌%◌, ◌^◌, List, [], ◌∷◌, ◌++◌, refl, sym}
-use Rattle.std.proofs.Common.{ap, ◌∙◌, subst, arith, Bool, true, false, ltb, Option, Some, inl, inr, ◌⊎◌, append-nil}
-use Rattle.std.proofs.Common.{pos, slice_get, unwrap_or}
+use Rattle.std.proofs.Common.{◌≡◌, ◌≢◌, ℕ, zero, suc, ◌+◌, ◌*◌, ◌<◌, ◌≤◌, ◌%◌, ◌^◌, List, [], ◌∷◌, ◌++◌, refl}
+use Rattle.std.proofs.Common.{sym, ap, ◌∙◌, subst, arith, Bool, true, false, ltb, Option, Some, inl, inr, ◌⊎◌}
+use Rattle.std.proofs.Common.{append-nil, pos, slice_get, unwrap_or}
 use Rattle.std.proofs.lemmas.Bool.{cases_lt, ltb-false, ltb-true}
 use Rattle.std.proofs.lemmas.Int.{ints}
 use Rattle.mach_types.specs.Bytes.{word_at}
@@ -18,7 +18,8 @@ use Rattle.alone.specs.Alone.{Stand}
 use Rattle.alone.specs.Paths.{KeepsOn, Path}
 use Rattle.alone.specs.Temps.{IsAt, is_scratch, put}
 use Rattle.alone.proofs.Laws.{word_unchanged}
-use Rattle.alone.proofs.Means.{means_add, means_addi, means_bne_not, means_bne_taken, means_ld, means_sd, means_slli}
+use Rattle.alone.proofs.Means.{means_add, means_addi, means_bne_not, means_bne_taken, means_ld, means_sd}
+use Rattle.alone.proofs.Means.{means_slli}
 use Rattle.alone.proofs.Paths.{leaves, then_branch, then_load, then_next, then_store}
 use Rattle.alone_laws.specs.Spans.{alone_from, code_of, seen_at, sees}
 use Rattle.block_model.specs.History.{History, file, stores}
@@ -26,21 +27,22 @@ use Rattle.block_model.specs.Setting.{Setting}
 use Rattle.percpu_lib.specs.Forms.{Form, IsBlockPlace, committed, range_of}
 use Rattle.percpu_lib.specs.Frees.{value_of}
 use Rattle.percpu_lib.specs.Pushes.{LieBeside, word_seen}
-use Rattle.percpu_lib.specs.RingForms.{AreGot, IsNoGet, IsRingApart, IsRingKept, Gets, content}
-use Rattle.percpu_lib.specs.RingForms.{first_stores, head_seen, held, get_block, get_front, get_insts, get_store, gets_none}
-use Rattle.percpu_lib.specs.RingForms.{gets_words, ring_at, ring_end, ring_get_form, slot_of, tail_seen, word_of, word_store}
+use Rattle.percpu_lib.specs.RingForms.{AreGot, IsNoGet, IsRingApart, IsRingKept, Gets, content, first_stores}
+use Rattle.percpu_lib.specs.RingForms.{head_seen, held, get_block, get_front, get_insts, get_store, gets_none}
+use Rattle.percpu_lib.specs.RingForms.{gets_words, ring_at, ring_end, ring_get_form, slot_of, tail_seen}
+use Rattle.percpu_lib.specs.RingForms.{word_of, word_store}
 use Rattle.percpu_lib.specs.Uses.{cells_of}
 use Rattle.percpu_lib.specs.Words.{AreHeld, AreSlots, is_changed}
 use Rattle.percpu_lib.specs.declared.slots.Slots.{Slots}
 use Rattle.percpu_lib.proofs.BlockCode.{behind_range}
-use Rattle.percpu_lib.proofs.CellPath.{BeginsSo, inside_at, to_cell}
+use Rattle.percpu_lib.proofs.CellPath.{BeginsSo, begins_of, inside_at, to_cell}
 use Rattle.percpu_lib.proofs.Changes.{area_not_changed, cells_not_changed, put_other}
 use Rattle.percpu_lib.proofs.Changes.{put_same, scratch_not, some_value, value_changed}
 use Rattle.percpu_lib.proofs.CourseLaw.{HasPath, IsAfter, course_of, way}
 use Rattle.percpu_lib.proofs.Courses.{IsCourse}
-use Rattle.percpu_lib.proofs.RingData.{area_bytes, in_ring}
-use Rattle.percpu_lib.proofs.RingData.{in_slot, in_words, loaded_is, raw, ring_pointer, ring_there, ring_word, word_low}
-use Rattle.percpu_lib.proofs.RingData.{same_there, word_pointer, word_ring, word_whole}
+use Rattle.percpu_lib.proofs.RingData.{area_bytes, in_ring, in_slot, in_words, loaded_is, raw, ring_pointer}
+use Rattle.percpu_lib.proofs.RingData.{ring_there, ring_word, word_low, same_there, word_pointer, word_ring}
+use Rattle.percpu_lib.proofs.RingData.{word_whole}
 use Rattle.percpu_lib.proofs.RingFormed.{get_formed, get_six}
 use Rattle.percpu_lib.proofs.RingMeans.{means_andi, means_sltiu, means_sub, slot_number, word_small}
 use Rattle.percpu_lib.proofs.RingPlaces.{AreOfRing, head_in, slot_in, slot_low, slot_wraps, tail_in}
@@ -48,20 +50,13 @@ use Rattle.percpu_lib.proofs.RingStores.{IsBeside, beside_first, beside_last, st
 use Rattle.percpu_lib.proofs.RingWords.{at_end, in_middle}
 
 begins_so : (count : ℕ) (p : Slots) → AreSlots p → BeginsSo (ring_get_form count p) 13 8192
-begins_so count p slots = record {
-  lw = refl;
-  bne = refl;
-  slli = refl;
-  add = refl;
-  long = omega arith;
-  five = refl;
-  six = refl;
-  area_kept = area_not_changed p slots;
-  cells_kept = cells_not_changed p slots;
-  shifts = λ cpu few. omega arith;
-}
+begins_so count p slots =
+    begins_of (ring_get_form count p) 13 8192 refl refl refl refl (omega arith) refl refl
+    (area_not_changed p slots)
+    (cells_not_changed p slots) (λ cpu few. omega arith)
 
-module _ (s : Setting) (count : ℕ) (some : 1 ≤ count) (many : count ≤ 4) (p : Slots) (at : ℕ) (area : Area) (h t : ℕ)
+module _ (s : Setting) (count : ℕ) (some : 1 ≤ count) (many : count ≤ 4) (p : Slots) (at : ℕ) (area : Area)
+    (h t : ℕ)
     (begun : History)
     (standing : AreHeld (code_of s.program.pages) at (get_block p count)) (slots : AreSlots p)
     (place : IsBlockPlace s (ring_get_form count p) at area h t begun) where
@@ -121,14 +116,16 @@ module _ (s : Setting) (count : ℕ) (some : 1 ≤ count) (many : count ≤ 4) (
 
   here : (k : ℕ) → 5 ≤ k → k < 18 + 6 * count → is_inside (range_of form at) (at + 4 * k) ≡ true
   here k from lt =
-      inside_at s form at area h t begun Inside Done (get_formed count many p) standing place k from (omega arith)
+      inside_at s form at area h t begun Inside Done (get_formed count many p) standing place k from
+      (omega arith)
 
   out : is_inside (range_of form at) (at + 4 * committed form) ≡ false
   out = let low = place.low in behind_range form at (committed form) low (omega arith) (omega arith)
 
   -- a write to another register that the block changes leaves the value, and a write to the value leaves that
   value_beside : (r x : ℕ) (temps : ℕ → ℕ) → is_scratch r ≡ true → put r x temps p.value ≡ temps p.value
-  value_beside r x temps is = put_other r x temps p.value (λ same. scratch_not r p.value is slots.value (sym same))
+  value_beside r x temps is =
+      put_other r x temps p.value (λ same. scratch_not r p.value is slots.value (sym same))
 
   beside_value : (r x : ℕ) (temps : ℕ → ℕ) → is_scratch r ≡ true → put p.value x temps r ≡ temps r
   beside_value r x temps is = put_other p.value x temps r (scratch_not r p.value is slots.value)
@@ -144,10 +141,12 @@ module _ (s : Setting) (count : ℕ) (some : 1 ≤ count) (many : count ≤ 4) (
   module _ (room : count ≤ holds) where
     -- the slots are as they were, as the words at the value are stored
     slot_stays : (k n : ℕ) → k ≤ count
-        → word_at (seen_byte (first_stores store k) seen) (slot_of ring n) 8 ≡ word_seen s h (slot_of ring n) begun
+        → word_at (seen_byte (first_stores store k) seen) (slot_of ring n) 8
+        ≡ word_seen s h (slot_of ring n) begun
     slot_stays k n few =
         beside_first (sees s h begun) store k (slot_of ring n) 8
-        (λ j less. word_ring s h begun area.at ring value count apart j (slot_of ring n) 8 (omega arith) (slot_in ring n))
+        (λ j less. word_ring s h begun area.at ring value count apart j (slot_of ring n) 8 (omega arith)
+        (slot_in ring n))
 
     module _ (k : ℕ) (lt : k < count) (temps : ℕ → ℕ) (ready : IsReady k temps) where
       abbrev base : ℕ
@@ -193,16 +192,19 @@ module _ (s : Setting) (count : ℕ) (some : 1 ≤ count) (many : count ≤ 4) (
 
       -- to the slot of the word
       finds : (y : Stand) → IsAt (is_changed p) old (at + 4 * base) temps (first_stores store k) y
-          → ((z : Stand) → IsAt (is_changed p) old (at + 4 * (base + 3)) temps_3 (first_stores store k) z → KeepsOn w z)
+          → ((z : Stand) → IsAt (is_changed p) old (at + 4 * (base + 3)) temps_3 (first_stores store k) z
+          → KeepsOn w z)
           → KeepsOn w y
       finds y was rest =
           let low = place.low in
           let low_ring = apart.low_ring in
-          then_next w (at + 4 * base) temps (first_stores store k) y was (here base (omega arith) (omega arith)) so_far
+          then_next w (at + 4 * base) temps (first_stores store k) y was
+          (here base (omega arith) (omega arith)) so_far
           (inst.Andi 7 6 (pos 511))
           (standing.holds base (inst.Andi 7 6 (pos 511)) first_there)
           7 number (at + 4 * (base + 1))
-          (λ f like. means_andi f (at + 4 * base) (at + 4 * (base + 1)) (omega arith) 7 6 (pos 511) ((head + k) % 2 ^ 64)
+          (λ f like. means_andi f (at + 4 * base) (at + 4 * (base + 1)) (omega arith) 7 6 (pos 511)
+          ((head + k) % 2 ^ 64)
           number (like.temp 6 refl ∙ ready.six) (slot_number ((head + k) % 2 ^ 64) ∙ slot_wraps (head + k)))
           refl refl (omega arith) (omega arith) (omega arith)
           (λ z now.
@@ -210,21 +212,25 @@ module _ (s : Setting) (count : ℕ) (some : 1 ≤ count) (many : count ≤ 4) (
           (here (base + 1) (omega arith) (omega arith)) so_far (inst.Slli 7 7 3)
           (standing.holds (base + 1) (inst.Slli 7 7 3) (word_there 1 (omega arith)))
           7 (8 * number) (at + 4 * (base + 2))
-          (λ f like. means_slli f (at + 4 * (base + 1)) (at + 4 * (base + 2)) (omega arith) 7 7 3 number (8 * number)
+          (λ f like. means_slli f (at + 4 * (base + 1)) (at + 4 * (base + 2)) (omega arith) 7 7 3 number
+          (8 * number)
           (like.temp 7 refl) (omega arith))
           refl refl (omega arith) (omega arith) (omega arith)
           (λ u then.
-          then_next w (at + 4 * (base + 2)) (put 7 (8 * number) (put 7 number temps)) (first_stores store k) u then
+          then_next w (at + 4 * (base + 2)) (put 7 (8 * number) (put 7 number temps)) (first_stores store k) u
+          then
           (here (base + 2) (omega arith) (omega arith)) so_far (inst.Add 7 7 5)
           (standing.holds (base + 2) (inst.Add 7 7 5) (word_there 2 (omega arith)))
           7 (ring + 8 * number) (at + 4 * (base + 3))
-          (λ f like. means_add f (at + 4 * (base + 2)) (at + 4 * (base + 3)) (omega arith) 7 7 5 (8 * number) ring
+          (λ f like. means_add f (at + 4 * (base + 2)) (at + 4 * (base + 3)) (omega arith) 7 7 5 (8 * number)
+          ring
           (ring + 8 * number) (like.temp 7 refl) (like.temp 5 refl ∙ ready.five) (omega arith))
           refl refl (omega arith) (omega arith) (omega arith) rest))
 
       -- and out of it
       fills : (y : Stand) → IsAt (is_changed p) old (at + 4 * (base + 3)) temps_3 (first_stores store k) y
-          → ((z : Stand) → IsAt (is_changed p) old (at + 4 * (17 + 6 * suc k)) temps_6 (first_stores store (suc k)) z
+          → ((z : Stand) → IsAt (is_changed p) old (at + 4 * (17 + 6 * suc k)) temps_6
+          (first_stores store (suc k)) z
           → KeepsOn w z) → KeepsOn w y
       fills y was rest =
           let low = place.low in
@@ -239,24 +245,28 @@ module _ (s : Setting) (count : ℕ) (some : 1 ≤ count) (many : count ≤ 4) (
           (λ f like. means_ld f (at + 4 * (base + 3)) 29 7 (pos 64) (ring + 8 * number) from
           (like.temp 7 refl) (omega arith))
           (in_slot s h begun area.at ring value count apart (head + k))
-          (slot_stays k (head + k) (omega arith) ∙ (raw s h begun area.at ring value count apart from).1) refl refl
+          (slot_stays k (head + k) (omega arith) ∙ (raw s h begun area.at ring value count apart from).1) refl
+          refl
           (omega arith) (omega arith) (omega arith) (omega arith)
           (λ z now.
           then_store w (at + 4 * (base + 4)) (put 29 word temps_3) (first_stores store k) z
-          (subst (λ n. IsAt (is_changed p) old (at + 4 * (base + 4)) (put 29 n temps_3) (first_stores store k) z)
+          (subst (λ n. IsAt (is_changed p) old (at + 4 * (base + 4)) (put 29 n temps_3) (first_stores store k)
+          z)
           (loaded_is s h begun area.at ring value count apart from) now)
           (here (base + 4) (omega arith) (omega arith)) so_far (inst.Sd p.value 29 (pos (8 * k)))
           (standing.holds (base + 4) (inst.Sd p.value 29 (pos (8 * k))) (word_there 4 (omega arith)))
           (value + 8 * k) 8 word (at + 4 * (base + 5))
           (λ f like. means_sd f (at + 4 * (base + 4)) p.value 29 (pos (8 * k)) value (value + 8 * k) word word
-          (like.temp p.value (value_changed p) ∙ value_beside 29 word temps_3 refl ∙ value_3) (omega (arith, ints))
+          (like.temp p.value (value_changed p) ∙ value_beside 29 word temps_3 refl ∙ value_3)
+          (omega (arith, ints))
           (like.temp 29 refl) (word_whole s h begun area.at ring value count apart word small))
           (in_words s h begun area.at ring value count apart (value + 8 * k) (omega arith) (omega arith))
           (omega arith) (omega arith) (omega arith)
           (λ u then.
           then_next w (at + 4 * (base + 5)) (put 29 word temps_3) (first_stores store (suc k)) u then
           (here (base + 5) (omega arith) (omega arith)) (suc k, omega arith, λ more. room, refl)
-          (inst.Addi 6 6 (pos 1)) (standing.holds (base + 5) (inst.Addi 6 6 (pos 1)) (word_there 5 (omega arith)))
+          (inst.Addi 6 6 (pos 1)) (standing.holds (base + 5) (inst.Addi 6 6 (pos 1))
+          (word_there 5 (omega arith)))
           6 ((head + suc k) % 2 ^ 64) (at + 4 * (17 + 6 * suc k))
           (λ f like. means_addi f (at + 4 * (base + 5)) (at + 4 * (17 + 6 * suc k)) (omega arith) 6 6 (pos 1)
           ((head + k) % 2 ^ 64) ((head + suc k) % 2 ^ 64) (like.temp 6 refl ∙ ready.six) (omega arith))
@@ -277,7 +287,8 @@ module _ (s : Setting) (count : ℕ) (some : 1 ≤ count) (many : count ≤ 4) (
         ∙ at_end (get_insts p) (get_six p) (get_front p count) (ring_end p count 0) refl count 0))
         ring 8 ((head + count) % 2 ^ 64) (at + 4 * committed form)
         (λ f like. means_sd f (at + 4 * (17 + 6 * count)) 5 6 (pos 0) ring ring ((head + count) % 2 ^ 64)
-        ((head + count) % 2 ^ 64) (like.temp 5 refl ∙ ready.five) (omega arith) (like.temp 6 refl ∙ ready.six) (omega arith))
+        ((head + count) % 2 ^ 64) (like.temp 5 refl ∙ ready.five) (omega arith) (like.temp 6 refl ∙ ready.six)
+        (omega arith))
         (in_ring s h begun area.at ring value count apart ring (head_in ring))
         (omega arith) (omega arith) (omega arith)
         (λ v last. leaves w (at + 4 * committed form) _ _ v last out
@@ -361,7 +372,8 @@ module _ (s : Setting) (count : ℕ) (some : 1 ≤ count) (many : count ≤ 4) (
       (inl ((omega arith), (omega arith)))
       (λ z now.
       then_next w (at + 64) temps_5 [] z now (here 16 (omega arith) (omega arith)) none_yet
-      (inst.Addi p.value 28 (pos 0)) (standing.holds 16 (inst.Addi p.value 28 (pos 0)) refl) p.value value (at + 68)
+      (inst.Addi p.value 28 (pos 0)) (standing.holds 16 (inst.Addi p.value 28 (pos 0)) refl) p.value value
+      (at + 68)
       (λ f like. means_addi f (at + 64) (at + 68) (omega arith) p.value 28 (pos 0) value value
       (like.temp 28 refl ∙ copy_5) (omega arith))
       (value_changed p) (some_value p slots) slots.low_value (omega arith) (omega arith)
@@ -379,7 +391,8 @@ module _ (s : Setting) (count : ℕ) (some : 1 ≤ count) (many : count ≤ 4) (
           head_small : head < 2 ^ 64 → head ≡ (head + 0) % 2 ^ 64
           head_small small = omega arith
 
-  by_room : (y : Stand) → IsAt (is_changed p) old (at + 60) temps_5 [] y → (b : Bool) → short ≡ b → KeepsOn w y
+  by_room : (y : Stand) → IsAt (is_changed p) old (at + 60) temps_5 [] y → (b : Bool) → short ≡ b
+      → KeepsOn w y
   by_room y was true is = ends y was is
   by_room y was false is = begins y was is
 
@@ -388,7 +401,8 @@ module _ (s : Setting) (count : ℕ) (some : 1 ≤ count) (many : count ≤ 4) (
       let low = place.low in
       let low_ring = apart.low_ring in
       to_cell s form at area h t begun Inside Done (get_formed count many p) standing place 13 8192
-      (begins_so count p slots) none_yet (area_bytes s h begun area.at ring value count apart) rings refl (omega arith)
+      (begins_so count p slots) none_yet (area_bytes s h begun area.at ring value count apart) rings refl
+      (omega arith)
       (λ y now.
       then_next w (at + 36) temps_0 [] y now (here 9 (omega arith) (omega arith)) none_yet
       (inst.Addi 28 p.value (pos 0)) (standing.holds 9 (inst.Addi 28 p.value (pos 0)) refl) 28 value (at + 40)
@@ -412,7 +426,8 @@ module _ (s : Setting) (count : ℕ) (some : 1 ≤ count) (many : count ≤ 4) (
       (ring + 8) 8 7 (raw s h begun area.at ring value count apart (ring + 8)).0 (at + 48) true
       (λ f like. means_ld f (at + 44) 7 5 (pos 8) ring (ring + 8) (like.temp 5 refl) (omega arith))
       (in_ring s h begun area.at ring value count apart (ring + 8) (tail_in ring))
-      (word_unchanged seen (ring + 8) 8 ∙ (raw s h begun area.at ring value count apart (ring + 8)).1) refl refl
+      (word_unchanged seen (ring + 8) 8 ∙ (raw s h begun area.at ring value count apart (ring + 8)).1) refl
+      refl
       (omega arith) (omega arith) (omega arith) (omega arith)
       (λ u then.
       then_next w (at + 48) temps_2 [] u
@@ -457,7 +472,8 @@ module _ (s : Setting) (count : ℕ) (some : 1 ≤ count) (many : count ≤ 4) (
       ring_there s h begun area.at ring value count apart last es after.sees
       (stays_so ring (ring_stays k ring few (head_in ring)))
       (stays_so (ring + 8) (ring_stays k (ring + 8) few (tail_in ring)))
-      (λ j lt. stays_so (slot_of ring (head + j)) (ring_stays k (slot_of ring (head + j)) few (slot_in ring (head + j))))
+      (λ j lt. stays_so (slot_of ring (head + j)) (ring_stays k (slot_of ring (head + j)) few
+      (slot_in ring (head + j))))
     where
       stays_so : (from : ℕ) → Stays (first_stores store k) from → Stays es from
       stays_so from stays = ap (λ (x : List Store). word_at (seen_byte x seen) from 8) is ∙ stays
@@ -495,7 +511,8 @@ module _ (s : Setting) (count : ℕ) (some : 1 ≤ count) (many : count ≤ 4) (
       → es ≡ first_stores store count ++ last_store ∷ [] → AreGot s ring h value count begun last
   got_there temps es last after enough is = record {
     words = λ k lt.
-        after.sees (value + 8 * k) (in_words s h begun area.at ring value count apart (value + 8 * k) (omega arith) (omega arith))
+        after.sees (value + 8 * k) (in_words s h begun area.at ring value count apart (value + 8 * k)
+        (omega arith) (omega arith))
         ∙ so (value + 8 * k)
         ∙ beside_last (sees s h begun) (first_stores store count) last_store (value + 8 * k) 8
         (ring_word s h begun area.at ring value count apart k ring 8 lt (head_in ring))
@@ -539,7 +556,8 @@ module _ (s : Setting) (count : ℕ) (some : 1 ≤ count) (many : count ≤ 4) (
       (kept_so_far temps es last after 0 (omega arith) short_of.2)
       (after.stored ∙ ap (λ (x : List Store). stores h begun ++ x) short_of.2 ∙ append-nil (stores h begun))
   gets_it temps es last after (inr done) =
-      gets_words done.0 (after.temp p.value (value_changed p) ∙ done.1) (got_there temps es last after done.0 done.2)
+      gets_words done.0 (after.temp p.value (value_changed p) ∙ done.1)
+      (got_there temps es last after done.0 done.2)
 
   -- the pointer of the area stays
   words_pointer : (k : ℕ) → k ≤ count → Stays (first_stores store k) (area.at + 8)
@@ -549,11 +567,13 @@ module _ (s : Setting) (count : ℕ) (some : 1 ≤ count) (many : count ≤ 4) (
 
   points : (es : List Store) → Inside es → Stays es (area.at + 8)
   points es so_far =
-      ap (λ (x : List Store). word_at (seen_byte x seen) (area.at + 8) 8) so_far.3 ∙ words_pointer so_far.0 so_far.1
+      ap (λ (x : List Store). word_at (seen_byte x seen) (area.at + 8) 8) so_far.3
+      ∙ words_pointer so_far.0 so_far.1
 
   points_done : (temps : ℕ → ℕ) (es : List Store) → Done temps es → Stays es (area.at + 8)
   points_done temps es (inl short_of) =
-      ap (λ (x : List Store). word_at (seen_byte x seen) (area.at + 8) 8) short_of.2 ∙ words_pointer 0 (omega arith)
+      ap (λ (x : List Store). word_at (seen_byte x seen) (area.at + 8) 8) short_of.2
+      ∙ words_pointer 0 (omega arith)
   points_done temps es (inr done) =
       ap (λ (x : List Store). word_at (seen_byte x seen) (area.at + 8) 8) done.2
       ∙ beside_head (first_stores store count) (area.at + 8)

@@ -6,17 +6,17 @@ use Rattle.rv_inst.specs.declared.instruction.Inst.{Inst}
 use Rattle.rv_inst.specs.declared.instruction.Inst.TheVariants as inst
 use Rattle.percpu_lib.specs.BlockLines.{end_lines, leave_lines}
 use Rattle.percpu_lib.specs.Lines.{AreEmitted, HasRoom, IsContinued, instructions}
-use Rattle.percpu_lib.specs.RingForms.{get_block, get_insts, put_block, put_insts, repeated, ring_end, ring_get_form}
-use Rattle.percpu_lib.specs.RingForms.{ring_put_form}
+use Rattle.percpu_lib.specs.RingForms.{get_block, get_insts, put_block, put_insts, repeated, ring_end}
+use Rattle.percpu_lib.specs.RingForms.{ring_get_form, ring_put_form}
 use Rattle.percpu_lib.specs.RingKinds.{RingKind, gets, puts, ring_form_of, ring_lines_of}
-use Rattle.percpu_lib.specs.Rings.{get_steps, get_word, get_words, put_steps, put_word, put_words, ring_aborted, ring_first}
-use Rattle.percpu_lib.specs.Rings.{ring_get_lines, ring_put_lines}
+use Rattle.percpu_lib.specs.Rings.{get_steps, get_word, get_words, put_steps, put_word, put_words}
+use Rattle.percpu_lib.specs.Rings.{ring_aborted, ring_first, ring_get_lines, ring_put_lines}
 use Rattle.percpu_lib.specs.declared.lines.Line.{Line}
 use Rattle.percpu_lib.specs.declared.lines.Line.TheVariants as line
 use Rattle.percpu_lib.specs.declared.slots.Slots.{Slots}
 use Rattle.percpu_lib.proofs.BoundLabels.{HasPlaces, places}
-use Rattle.percpu_lib.proofs.HeldBlocks.{end_at, file_holds, held, leave_at, retry_at, words_of}
-use Rattle.percpu_lib.proofs.KindWords.{IsHeld, back, branch_is, forth}
+use Rattle.percpu_lib.proofs.HeldBlocks.{words_of}
+use Rattle.percpu_lib.proofs.KindWords.{IsHeld, back, branch_is, forth, lines_held}
 use Rattle.percpu_lib.proofs.RingFormed.{get_long, put_long}
 use Rattle.percpu_lib.proofs.RingLines.{get_none, put_none}
 
@@ -95,61 +95,61 @@ module _ (p : Slots) (base n count : ℕ) (labels : List (Option ℕ)) (retry : 
   Behind offset =
       line.Plain (inst.Sd 5 6 (pos offset)) ∷ (leave_lines base ++ (ring_aborted p ++ end_lines base))
 
-  behind_words : (m offset : ℕ) → m ≡ n + 17 + 6 * count → instructions labels m (Behind offset) ≡ ring_end p count offset
+  behind_words : (m offset : ℕ) → m ≡ n + 17 + 6 * count → instructions labels m (Behind offset)
+      ≡ ring_end p count offset
   behind_words m offset is =
       let last = m + 1 + 1 + 1 + 1 in
-      let three = branch_is labels (inst.Jal 0 (pos 0)) (inst.Jal 0 (pos 16)) (m + 1) (base + 4) (n + 22 + 6 * count)
+      let three =
+      branch_is labels (inst.Jal 0 (pos 0)) (inst.Jal 0 (pos 16)) (m + 1) (base + 4) (n + 22 + 6 * count)
       (pos 16) end (forth (n + 22 + 6 * count) (m + 1) 4 16 (omega (arith, is)) refl) refl in
       let four = branch_is labels (inst.Jal 0 (pos 0)) (inst.Jal 0 (negsuc (83 + 24 * count))) last base n
-      (negsuc (83 + 24 * count)) retry (back n last (21 + 6 * count) (83 + 24 * count) (omega (arith, is)) (omega arith))
+      (negsuc (83 + 24 * count)) retry (back n last (21 + 6 * count) (83 + 24 * count) (omega (arith, is))
+      (omega arith))
       refl in
       cc
 
-  put_rest : instructions labels seventeen ((put_words p count ++ line.Plain (inst.Sd 5 6 (pos 8)) ∷ [])
-      ++ (leave_lines base ++ (ring_aborted p ++ end_lines base)))
-      ≡ repeated (put_insts p) count ++ ring_end p count 8
-  put_rest =
-      ap (instructions labels seventeen) (append_assoc (put_words p count) (line.Plain (inst.Sd 5 6 (pos 8)) ∷ [])
+  rest_held : (ws : List Line) (is : List (Option Inst)) (offset : ℕ) → instructions labels seventeen ws ≡ is
+      → words_of ws ≡ 6 * count
+      → instructions labels seventeen ((ws ++ line.Plain (inst.Sd 5 6 (pos offset)) ∷ [])
+      ++ (leave_lines base ++ (ring_aborted p ++ end_lines base))) ≡ is ++ ring_end p count offset
+  rest_held ws is offset plain many =
+      ap (instructions labels seventeen) (append_assoc ws (line.Plain (inst.Sd 5 6 (pos offset)) ∷ [])
       (leave_lines base ++ (ring_aborted p ++ end_lines base)))
-      ∙ joined labels seventeen (put_words p count) (Behind 8)
-      ∙ ap (λ (xs : List (Option Inst)). xs ++ instructions labels (seventeen + words_of (put_words p count)) (Behind 8))
-      (put_plain labels p seventeen count)
-      ∙ ap (λ (xs : List (Option Inst)). repeated (put_insts p) count ++ xs)
-      (let many = put_count p count in
-      behind_words (seventeen + words_of (put_words p count)) 8 (omega (arith, many)))
-
-  get_rest : instructions labels seventeen ((get_words p count ++ line.Plain (inst.Sd 5 6 (pos 0)) ∷ [])
-      ++ (leave_lines base ++ (ring_aborted p ++ end_lines base)))
-      ≡ repeated (get_insts p) count ++ ring_end p count 0
-  get_rest =
-      ap (instructions labels seventeen) (append_assoc (get_words p count) (line.Plain (inst.Sd 5 6 (pos 0)) ∷ [])
-      (leave_lines base ++ (ring_aborted p ++ end_lines base)))
-      ∙ joined labels seventeen (get_words p count) (Behind 0)
-      ∙ ap (λ (xs : List (Option Inst)). xs ++ instructions labels (seventeen + words_of (get_words p count)) (Behind 0))
-      (get_plain labels p seventeen count)
-      ∙ ap (λ (xs : List (Option Inst)). repeated (get_insts p) count ++ xs)
-      (let many = get_count p count in
-      behind_words (seventeen + words_of (get_words p count)) 0 (omega (arith, many)))
+      ∙ joined labels seventeen ws (Behind offset)
+      ∙ ap (λ (xs : List (Option Inst)). xs ++ instructions labels (seventeen + words_of ws) (Behind offset))
+      plain
+      ∙ ap (λ (xs : List (Option Inst)). is ++ xs)
+      (behind_words (seventeen + words_of ws) offset (omega (arith, many)))
 
   -- and those before
   pub put_held : instructions labels n (ring_put_lines p base count) ≡ put_block p count
   put_held =
-      let one = branch_is labels (inst.Bne 6 5 (pos 0)) (inst.Bne 6 5 (negsuc 23)) six base n (negsuc 23) retry
+      let one =
+      branch_is labels (inst.Bne 6 5 (pos 0)) (inst.Bne 6 5 (negsuc 23)) six base n (negsuc 23) retry
       (back n six 6 23 (omega arith) refl) refl in
-      let two = branch_is labels (inst.Beq 7 0 (pos 0)) (inst.Beq 7 0 (pos (12 + 24 * count))) fifteen (base + 2)
+      let two =
+      branch_is labels (inst.Beq 7 0 (pos 0)) (inst.Beq 7 0 (pos (12 + 24 * count))) fifteen (base + 2)
       (n + 18 + 6 * count) (pos (12 + 24 * count)) leave
-      (forth (n + 18 + 6 * count) fifteen (3 + 6 * count) (12 + 24 * count) (omega arith) (omega arith)) refl in
-      let rest = put_rest in
+      (forth (n + 18 + 6 * count) fifteen (3 + 6 * count) (12 + 24 * count) (omega arith) (omega arith)) refl
+      in
+      let rest =
+      rest_held (put_words p count) (repeated (put_insts p) count) 8 (put_plain labels p seventeen count)
+      (put_count p count) in
       cc
 
   pub get_held : instructions labels n (ring_get_lines p base count) ≡ get_block p count
   get_held =
-      let one = branch_is labels (inst.Bne 6 5 (pos 0)) (inst.Bne 6 5 (negsuc 23)) six base n (negsuc 23) retry
+      let one =
+      branch_is labels (inst.Bne 6 5 (pos 0)) (inst.Bne 6 5 (negsuc 23)) six base n (negsuc 23) retry
       (back n six 6 23 (omega arith) refl) refl in
-      let two = branch_is labels (inst.Bne 7 0 (pos 0)) (inst.Bne 7 0 (pos (12 + 24 * count))) fifteen (base + 2)
+      let two =
+      branch_is labels (inst.Bne 7 0 (pos 0)) (inst.Bne 7 0 (pos (12 + 24 * count))) fifteen (base + 2)
       (n + 18 + 6 * count) (pos (12 + 24 * count)) leave
-      (forth (n + 18 + 6 * count) fifteen (3 + 6 * count) (12 + 24 * count) (omega arith) (omega arith)) refl in
-      let rest = get_rest in
+      (forth (n + 18 + 6 * count) fifteen (3 + 6 * count) (12 + 24 * count) (omega arith) (omega arith)) refl
+      in
+      let rest =
+      rest_held (get_words p count) (repeated (get_insts p) count) 0 (get_plain labels p seventeen count)
+      (get_count p count) in
       cc
 
 -- WHERE THEY ARE HELD
@@ -173,7 +173,8 @@ behind_steps p base inside = words_joined inside (leave_lines base ++ (ring_abor
 
 -- their labels are bound so, and their signature stands there
 pub ring_places : (k : RingKind) (count : ℕ) (p : Slots) (base : ℕ) (a b c : Assembly) → HasRoom a.labels base
-    → AreEmitted (ring_lines_of k count p base) a b → IsContinued b c → HasPlaces (ring_form_of k count p) base a c
+    → AreEmitted (ring_lines_of k count p base) a b → IsContinued b c
+    → HasPlaces (ring_form_of k count p) base a c
 ring_places puts count p base a b c room is more =
     let inside = put_steps p base count in
     let many = put_inside p base count in
@@ -190,40 +191,23 @@ ring_places gets count p base a b c room is more =
     (ring_get_form count p) refl (omega (arith, many)) (omega (arith, many, all, long))
 
 pub ring_held : (k : RingKind) (count : ℕ) (p : Slots) (base : ℕ) (a b c : Assembly) → HasRoom a.labels base
-    → AreEmitted (ring_lines_of k count p base) a b → IsContinued b c → IsHeld (ring_form_of k count p).words a c
+    → AreEmitted (ring_lines_of k count p base) a b → IsContinued b c
+    → IsHeld (ring_form_of k count p).words a c
 ring_held puts count p base a b c room is more =
     let inside = put_steps p base count in
     let many = put_inside p base count in
     let all = behind_steps p base inside in
-    let same = put_held p base (length a.items) count c.labels
-    (retry_at p base 13 (ring_first p) inside (ring_aborted p) a b c room is tt (put_none p base count) tt more)
-    (leave_at p base 13 (ring_first p) inside (ring_aborted p) a b c room is tt (put_none p base count) tt more
-    ∙ ap Some (omega (arith, many)))
-    (end_at p base 13 (ring_first p) inside (ring_aborted p) a b c room is tt (put_none p base count) tt more
-    ∙ ap Some (omega (arith, many, all))) in
-    record {
-      words = λ bytes j i w code at word.
-          held p base 13 (ring_first p) inside (ring_aborted p) a b c room is tt (put_none p base count) tt more
-          (put_block p count) same bytes code j i at w word;
-      file = λ bytes file image at code its holds.
-          file_holds p base 13 (ring_first p) inside (ring_aborted p) a b c room is tt (put_none p base count) tt more
-          (put_block p count) same file image at bytes its code holds;
-    }
+    lines_held p base 13 (ring_first p) inside (ring_aborted p) (put_block p count) a b c room is tt
+    (put_none p base count) tt more
+    (λ retry leave end. put_held p base (length a.items) count c.labels retry
+    (leave ∙ ap Some (omega (arith, many)))
+    (end ∙ ap Some (omega (arith, many, all))))
 ring_held gets count p base a b c room is more =
     let inside = get_steps p base count in
     let many = get_inside p base count in
     let all = behind_steps p base inside in
-    let same = get_held p base (length a.items) count c.labels
-    (retry_at p base 13 (ring_first p) inside (ring_aborted p) a b c room is tt (get_none p base count) tt more)
-    (leave_at p base 13 (ring_first p) inside (ring_aborted p) a b c room is tt (get_none p base count) tt more
-    ∙ ap Some (omega (arith, many)))
-    (end_at p base 13 (ring_first p) inside (ring_aborted p) a b c room is tt (get_none p base count) tt more
-    ∙ ap Some (omega (arith, many, all))) in
-    record {
-      words = λ bytes j i w code at word.
-          held p base 13 (ring_first p) inside (ring_aborted p) a b c room is tt (get_none p base count) tt more
-          (get_block p count) same bytes code j i at w word;
-      file = λ bytes file image at code its holds.
-          file_holds p base 13 (ring_first p) inside (ring_aborted p) a b c room is tt (get_none p base count) tt more
-          (get_block p count) same file image at bytes its code holds;
-    }
+    lines_held p base 13 (ring_first p) inside (ring_aborted p) (get_block p count) a b c room is tt
+    (get_none p base count) tt more
+    (λ retry leave end. get_held p base (length a.items) count c.labels retry
+    (leave ∙ ap Some (omega (arith, many)))
+    (end ∙ ap Some (omega (arith, many, all))))

@@ -1,8 +1,8 @@
 -- A sequence of a ring put block is one run of its thread alone, and so puts its words into the ring once
 -- or not at all.
-use Rattle.std.proofs.Common.{◌≡◌, ◌≢◌, ℕ, zero, suc, ◌+◌, ◌-◌, ◌*◌, ◌<◌, ◌≤◌, ◌%◌, ◌^◌, List, [], ◌∷◌, ◌++◌, refl, sym}
-use Rattle.std.proofs.Common.{ap, ◌∙◌, subst, arith, Bool, true, false, ltb, Option, inl, inr, ◌⊎◌, append-nil}
-use Rattle.std.proofs.Common.{pos, slice_get}
+use Rattle.std.proofs.Common.{◌≡◌, ◌≢◌, ℕ, zero, suc, ◌+◌, ◌-◌, ◌*◌, ◌<◌, ◌≤◌, ◌%◌, ◌^◌, List, [], ◌∷◌, ◌++◌}
+use Rattle.std.proofs.Common.{refl, sym, ap, ◌∙◌, subst, arith, Bool, true, false, ltb, Option, inl, inr, ◌⊎◌}
+use Rattle.std.proofs.Common.{append-nil, pos, slice_get}
 use Rattle.std.proofs.lemmas.Bool.{ltb-false, ltb-true}
 use Rattle.std.proofs.lemmas.Int.{ints}
 use Rattle.mach_types.specs.Bytes.{word_at}
@@ -26,21 +26,22 @@ use Rattle.block_model.specs.Setting.{Setting}
 use Rattle.percpu_lib.specs.Forms.{Form, IsBlockPlace, committed, range_of}
 use Rattle.percpu_lib.specs.Frees.{value_of}
 use Rattle.percpu_lib.specs.Pushes.{word_seen}
-use Rattle.percpu_lib.specs.RingForms.{ArePut, IsNoPut, IsRingApart, IsRingKept, Puts}
-use Rattle.percpu_lib.specs.RingForms.{first_stores, head_seen, held, put_block, put_front, put_insts, put_store, puts_none}
-use Rattle.percpu_lib.specs.RingForms.{puts_words, ring_at, ring_end, ring_put_form, slot_of, tail_seen, word_of, word_store}
+use Rattle.percpu_lib.specs.RingForms.{ArePut, IsNoPut, IsRingApart, IsRingKept, Puts, first_stores}
+use Rattle.percpu_lib.specs.RingForms.{head_seen, held, put_block, put_front, put_insts, put_store, puts_none}
+use Rattle.percpu_lib.specs.RingForms.{puts_words, ring_at, ring_end, ring_put_form, slot_of, tail_seen}
+use Rattle.percpu_lib.specs.RingForms.{word_of, word_store}
 use Rattle.percpu_lib.specs.Uses.{cells_of}
 use Rattle.percpu_lib.specs.Words.{AreHeld, AreSlots, is_changed}
 use Rattle.percpu_lib.specs.declared.slots.Slots.{Slots}
 use Rattle.percpu_lib.proofs.BlockCode.{behind_range}
-use Rattle.percpu_lib.proofs.CellPath.{BeginsSo, inside_at, to_cell}
-use Rattle.percpu_lib.proofs.Changes.{area_not_changed, cells_not_changed, means_beq_not, means_beq_taken, put_other}
-use Rattle.percpu_lib.proofs.Changes.{put_same, scratch_not, some_value, value_changed}
+use Rattle.percpu_lib.proofs.CellPath.{BeginsSo, begins_of, inside_at, to_cell}
+use Rattle.percpu_lib.proofs.Changes.{area_not_changed, cells_not_changed, means_beq_not, means_beq_taken}
+use Rattle.percpu_lib.proofs.Changes.{put_other, put_same, scratch_not, some_value, value_changed}
 use Rattle.percpu_lib.proofs.CourseLaw.{HasPath, IsAfter, course_of, way}
 use Rattle.percpu_lib.proofs.Courses.{IsCourse}
-use Rattle.percpu_lib.proofs.RingData.{apart_behind, area_bytes, behind_contents, content_there, head_there, in_ring}
-use Rattle.percpu_lib.proofs.RingData.{in_slot, in_words, loaded_is, raw, ring_pointer, ring_there, ring_word, word_low}
-use Rattle.percpu_lib.proofs.RingData.{word_whole}
+use Rattle.percpu_lib.proofs.RingData.{apart_behind, area_bytes, behind_contents, content_there, head_there}
+use Rattle.percpu_lib.proofs.RingData.{in_ring, in_slot, in_words, loaded_is, raw, ring_pointer, ring_there}
+use Rattle.percpu_lib.proofs.RingData.{ring_word, word_low, word_whole}
 use Rattle.percpu_lib.proofs.RingFormed.{put_formed, put_six}
 use Rattle.percpu_lib.proofs.RingMeans.{means_andi, means_sltiu, means_sub, slot_number, word_small}
 use Rattle.percpu_lib.proofs.RingPlaces.{head_in, slot_in, slot_low, slot_wraps, tail_in}
@@ -48,20 +49,13 @@ use Rattle.percpu_lib.proofs.RingStores.{IsBeside, beside_first, beside_last, st
 use Rattle.percpu_lib.proofs.RingWords.{at_end, in_middle}
 
 begins_so : (count : ℕ) (p : Slots) → AreSlots p → BeginsSo (ring_put_form count p) 13 8192
-begins_so count p slots = record {
-  lw = refl;
-  bne = refl;
-  slli = refl;
-  add = refl;
-  long = omega arith;
-  five = refl;
-  six = refl;
-  area_kept = area_not_changed p slots;
-  cells_kept = cells_not_changed p slots;
-  shifts = λ cpu few. omega arith;
-}
+begins_so count p slots =
+    begins_of (ring_put_form count p) 13 8192 refl refl refl refl (omega arith) refl refl
+    (area_not_changed p slots)
+    (cells_not_changed p slots) (λ cpu few. omega arith)
 
-module _ (s : Setting) (count : ℕ) (some : 1 ≤ count) (many : count ≤ 4) (p : Slots) (at : ℕ) (area : Area) (h t : ℕ)
+module _ (s : Setting) (count : ℕ) (some : 1 ≤ count) (many : count ≤ 4) (p : Slots) (at : ℕ) (area : Area)
+    (h t : ℕ)
     (begun : History)
     (standing : AreHeld (code_of s.program.pages) at (put_block p count)) (slots : AreSlots p)
     (place : IsBlockPlace s (ring_put_form count p) at area h t begun) where
@@ -121,14 +115,16 @@ module _ (s : Setting) (count : ℕ) (some : 1 ≤ count) (many : count ≤ 4) (
 
   here : (k : ℕ) → 5 ≤ k → k < 18 + 6 * count → is_inside (range_of form at) (at + 4 * k) ≡ true
   here k from lt =
-      inside_at s form at area h t begun Inside Done (put_formed count many p) standing place k from (omega arith)
+      inside_at s form at area h t begun Inside Done (put_formed count many p) standing place k from
+      (omega arith)
 
   out : is_inside (range_of form at) (at + 4 * committed form) ≡ false
   out = let low = place.low in behind_range form at (committed form) low (omega arith) (omega arith)
 
   -- a write to another register that the block changes leaves the value, and a write to the value leaves that
   value_beside : (r x : ℕ) (temps : ℕ → ℕ) → is_scratch r ≡ true → put r x temps p.value ≡ temps p.value
-  value_beside r x temps is = put_other r x temps p.value (λ same. scratch_not r p.value is slots.value (sym same))
+  value_beside r x temps is =
+      put_other r x temps p.value (λ same. scratch_not r p.value is slots.value (sym same))
 
   beside_value : (r x : ℕ) (temps : ℕ → ℕ) → is_scratch r ≡ true → put p.value x temps r ≡ temps r
   beside_value r x temps is = put_other p.value x temps r (scratch_not r p.value is slots.value)
@@ -144,11 +140,13 @@ module _ (s : Setting) (count : ℕ) (some : 1 ≤ count) (many : count ≤ 4) (
   module _ (room : holds + count ≤ 512) where
     -- the words at the value are as they were, as the slots are stored
     word_stays : (k : ℕ) → k < count
-        → word_at (seen_byte (first_stores store k) seen) (value + 8 * k) 8 ≡ word_seen s h (value + 8 * k) begun
+        → word_at (seen_byte (first_stores store k) seen) (value + 8 * k) 8
+        ≡ word_seen s h (value + 8 * k) begun
     word_stays k lt =
         beside_first (sees s h begun) store k (value + 8 * k) 8
         (λ j less.
-        ring_word s h begun area.at ring value count apart k (slot_of ring (tail + j)) 8 lt (slot_in ring (tail + j)))
+        ring_word s h begun area.at ring value count apart k (slot_of ring (tail + j)) 8 lt
+        (slot_in ring (tail + j)))
 
     module _ (k : ℕ) (lt : k < count) (temps : ℕ → ℕ) (ready : IsReady k temps) where
       abbrev base : ℕ
@@ -194,16 +192,19 @@ module _ (s : Setting) (count : ℕ) (some : 1 ≤ count) (many : count ≤ 4) (
 
       -- to the slot of the word
       finds : (y : Stand) → IsAt (is_changed p) old (at + 4 * base) temps (first_stores store k) y
-          → ((z : Stand) → IsAt (is_changed p) old (at + 4 * (base + 3)) temps_3 (first_stores store k) z → KeepsOn w z)
+          → ((z : Stand) → IsAt (is_changed p) old (at + 4 * (base + 3)) temps_3 (first_stores store k) z
+          → KeepsOn w z)
           → KeepsOn w y
       finds y was rest =
           let low = place.low in
           let low_ring = apart.low_ring in
-          then_next w (at + 4 * base) temps (first_stores store k) y was (here base (omega arith) (omega arith)) so_far
+          then_next w (at + 4 * base) temps (first_stores store k) y was
+          (here base (omega arith) (omega arith)) so_far
           (inst.Andi 7 6 (pos 511))
           (standing.holds base (inst.Andi 7 6 (pos 511)) first_there)
           7 number (at + 4 * (base + 1))
-          (λ f like. means_andi f (at + 4 * base) (at + 4 * (base + 1)) (omega arith) 7 6 (pos 511) ((tail + k) % 2 ^ 64)
+          (λ f like. means_andi f (at + 4 * base) (at + 4 * (base + 1)) (omega arith) 7 6 (pos 511)
+          ((tail + k) % 2 ^ 64)
           number (like.temp 6 refl ∙ ready.six) (slot_number ((tail + k) % 2 ^ 64) ∙ slot_wraps (tail + k)))
           refl refl (omega arith) (omega arith) (omega arith)
           (λ z now.
@@ -211,21 +212,25 @@ module _ (s : Setting) (count : ℕ) (some : 1 ≤ count) (many : count ≤ 4) (
           (here (base + 1) (omega arith) (omega arith)) so_far (inst.Slli 7 7 3)
           (standing.holds (base + 1) (inst.Slli 7 7 3) (word_there 1 (omega arith)))
           7 (8 * number) (at + 4 * (base + 2))
-          (λ f like. means_slli f (at + 4 * (base + 1)) (at + 4 * (base + 2)) (omega arith) 7 7 3 number (8 * number)
+          (λ f like. means_slli f (at + 4 * (base + 1)) (at + 4 * (base + 2)) (omega arith) 7 7 3 number
+          (8 * number)
           (like.temp 7 refl) (omega arith))
           refl refl (omega arith) (omega arith) (omega arith)
           (λ u then.
-          then_next w (at + 4 * (base + 2)) (put 7 (8 * number) (put 7 number temps)) (first_stores store k) u then
+          then_next w (at + 4 * (base + 2)) (put 7 (8 * number) (put 7 number temps)) (first_stores store k) u
+          then
           (here (base + 2) (omega arith) (omega arith)) so_far (inst.Add 7 7 5)
           (standing.holds (base + 2) (inst.Add 7 7 5) (word_there 2 (omega arith)))
           7 (ring + 8 * number) (at + 4 * (base + 3))
-          (λ f like. means_add f (at + 4 * (base + 2)) (at + 4 * (base + 3)) (omega arith) 7 7 5 (8 * number) ring
+          (λ f like. means_add f (at + 4 * (base + 2)) (at + 4 * (base + 3)) (omega arith) 7 7 5 (8 * number)
+          ring
           (ring + 8 * number) (like.temp 7 refl) (like.temp 5 refl ∙ ready.five) (omega arith))
           refl refl (omega arith) (omega arith) (omega arith) rest))
 
       -- and into it
       fills : (y : Stand) → IsAt (is_changed p) old (at + 4 * (base + 3)) temps_3 (first_stores store k) y
-          → ((z : Stand) → IsAt (is_changed p) old (at + 4 * (17 + 6 * suc k)) temps_6 (first_stores store (suc k)) z
+          → ((z : Stand) → IsAt (is_changed p) old (at + 4 * (17 + 6 * suc k)) temps_6
+          (first_stores store (suc k)) z
           → KeepsOn w z) → KeepsOn w y
       fills y was rest =
           let low = place.low in
@@ -240,23 +245,28 @@ module _ (s : Setting) (count : ℕ) (some : 1 ≤ count) (many : count ≤ 4) (
           (λ f like. means_ld f (at + 4 * (base + 3)) 29 p.value (pos (8 * k)) value from
           (like.temp p.value (value_changed p) ∙ value_3) (omega (arith, ints)))
           (in_words s h begun area.at ring value count apart from (omega arith) (omega arith))
-          (word_stays k lt ∙ (raw s h begun area.at ring value count apart from).1) refl refl (omega arith) (omega arith)
+          (word_stays k lt ∙ (raw s h begun area.at ring value count apart from).1) refl refl (omega arith)
+          (omega arith)
           (omega arith) (omega arith)
           (λ z now.
           then_store w (at + 4 * (base + 4)) (put 29 word temps_3) (first_stores store k) z
-          (subst (λ n. IsAt (is_changed p) old (at + 4 * (base + 4)) (put 29 n temps_3) (first_stores store k) z)
+          (subst (λ n. IsAt (is_changed p) old (at + 4 * (base + 4)) (put 29 n temps_3) (first_stores store k)
+          z)
           (loaded_is s h begun area.at ring value count apart from) now)
           (here (base + 4) (omega arith) (omega arith)) so_far (inst.Sd 7 29 (pos 64))
           (standing.holds (base + 4) (inst.Sd 7 29 (pos 64)) (word_there 4 (omega arith)))
           (slot_of ring (tail + k)) 8 word (at + 4 * (base + 5))
-          (λ f like. means_sd f (at + 4 * (base + 4)) 7 29 (pos 64) (ring + 8 * number) (slot_of ring (tail + k)) word word
+          (λ f like. means_sd f (at + 4 * (base + 4)) 7 29 (pos 64) (ring + 8 * number)
+          (slot_of ring (tail + k)) word word
           (like.temp 7 refl) (omega arith) (like.temp 29 refl)
           (word_whole s h begun area.at ring value count apart word small))
-          (in_slot s h begun area.at ring value count apart (tail + k)) (omega arith) (omega arith) (omega arith)
+          (in_slot s h begun area.at ring value count apart (tail + k)) (omega arith) (omega arith)
+          (omega arith)
           (λ u then.
           then_next w (at + 4 * (base + 5)) (put 29 word temps_3) (first_stores store (suc k)) u then
           (here (base + 5) (omega arith) (omega arith)) (suc k, omega arith, λ more. room, refl)
-          (inst.Addi 6 6 (pos 1)) (standing.holds (base + 5) (inst.Addi 6 6 (pos 1)) (word_there 5 (omega arith)))
+          (inst.Addi 6 6 (pos 1)) (standing.holds (base + 5) (inst.Addi 6 6 (pos 1))
+          (word_there 5 (omega arith)))
           6 ((tail + suc k) % 2 ^ 64) (at + 4 * (17 + 6 * suc k))
           (λ f like. means_addi f (at + 4 * (base + 5)) (at + 4 * (17 + 6 * suc k)) (omega arith) 6 6 (pos 1)
           ((tail + k) % 2 ^ 64) ((tail + suc k) % 2 ^ 64) (like.temp 6 refl ∙ ready.six) (omega arith))
@@ -276,8 +286,10 @@ module _ (s : Setting) (count : ℕ) (some : 1 ≤ count) (many : count ≤ 4) (
         (ap (slice_get (put_block p count)) none_behind
         ∙ at_end (put_insts p) (put_six p) (put_front p count) (ring_end p count 8) refl count 0))
         (ring + 8) 8 ((tail + count) % 2 ^ 64) (at + 4 * committed form)
-        (λ f like. means_sd f (at + 4 * (17 + 6 * count)) 5 6 (pos 8) ring (ring + 8) ((tail + count) % 2 ^ 64)
-        ((tail + count) % 2 ^ 64) (like.temp 5 refl ∙ ready.five) (omega arith) (like.temp 6 refl ∙ ready.six) (omega arith))
+        (λ f like. means_sd f (at + 4 * (17 + 6 * count)) 5 6 (pos 8) ring (ring + 8)
+        ((tail + count) % 2 ^ 64)
+        ((tail + count) % 2 ^ 64) (like.temp 5 refl ∙ ready.five) (omega arith) (like.temp 6 refl ∙ ready.six)
+        (omega arith))
         (in_ring s h begun area.at ring value count apart (ring + 8) (tail_in ring))
         (omega arith) (omega arith) (omega arith)
         (λ v last. leaves w (at + 4 * committed form) _ _ v last out
@@ -363,7 +375,8 @@ module _ (s : Setting) (count : ℕ) (some : 1 ≤ count) (many : count ≤ 4) (
       (inl ((omega arith), (omega arith)))
       (λ z now.
       then_next w (at + 64) temps_5 [] z now (here 16 (omega arith) (omega arith)) none_yet
-      (inst.Addi p.value 28 (pos 0)) (standing.holds 16 (inst.Addi p.value 28 (pos 0)) refl) p.value value (at + 68)
+      (inst.Addi p.value 28 (pos 0)) (standing.holds 16 (inst.Addi p.value 28 (pos 0)) refl) p.value value
+      (at + 68)
       (λ f like. means_addi f (at + 64) (at + 68) (omega arith) p.value 28 (pos 0) value value
       (like.temp 28 refl ∙ copy_5) (omega arith))
       (value_changed p) (some_value p slots) slots.low_value (omega arith) (omega arith)
@@ -381,7 +394,8 @@ module _ (s : Setting) (count : ℕ) (some : 1 ≤ count) (many : count ≤ 4) (
           tail_small : tail < 2 ^ 64 → tail ≡ (tail + 0) % 2 ^ 64
           tail_small small = omega arith
 
-  by_room : (y : Stand) → IsAt (is_changed p) old (at + 60) temps_5 [] y → (b : Bool) → fitting ≡ b → KeepsOn w y
+  by_room : (y : Stand) → IsAt (is_changed p) old (at + 60) temps_5 [] y → (b : Bool) → fitting ≡ b
+      → KeepsOn w y
   by_room y was true is = begins y was is
   by_room y was false is = ends y was is
 
@@ -390,7 +404,8 @@ module _ (s : Setting) (count : ℕ) (some : 1 ≤ count) (many : count ≤ 4) (
       let low = place.low in
       let low_ring = apart.low_ring in
       to_cell s form at area h t begun Inside Done (put_formed count many p) standing place 13 8192
-      (begins_so count p slots) none_yet (area_bytes s h begun area.at ring value count apart) rings refl (omega arith)
+      (begins_so count p slots) none_yet (area_bytes s h begun area.at ring value count apart) rings refl
+      (omega arith)
       (λ y now.
       then_next w (at + 36) temps_0 [] y now (here 9 (omega arith) (omega arith)) none_yet
       (inst.Addi 28 p.value (pos 0)) (standing.holds 9 (inst.Addi 28 p.value (pos 0)) refl) 28 value (at + 40)
@@ -403,7 +418,8 @@ module _ (s : Setting) (count : ℕ) (some : 1 ≤ count) (many : count ≤ 4) (
       (ring + 8) 8 6 (raw s h begun area.at ring value count apart (ring + 8)).0 (at + 44) true
       (λ f like. means_ld f (at + 40) 6 5 (pos 8) ring (ring + 8) (like.temp 5 refl) (omega arith))
       (in_ring s h begun area.at ring value count apart (ring + 8) (tail_in ring))
-      (word_unchanged seen (ring + 8) 8 ∙ (raw s h begun area.at ring value count apart (ring + 8)).1) refl refl
+      (word_unchanged seen (ring + 8) 8 ∙ (raw s h begun area.at ring value count apart (ring + 8)).1) refl
+      refl
       (omega arith) (omega arith) (omega arith) (omega arith)
       (λ z next.
       then_load w (at + 44) (put 6 tail temps_1) [] z
@@ -429,7 +445,8 @@ module _ (s : Setting) (count : ℕ) (some : 1 ≤ count) (many : count ≤ 4) (
       then_next w (at + 52) (put 7 holds temps_2) [] v last (here 13 (omega arith) (omega arith)) none_yet
       (inst.Sltiu 7 7 (pos (513 - count))) (standing.holds 13 (inst.Sltiu 7 7 (pos (513 - count))) refl)
       7 (one_if fitting) (at + 56)
-      (λ f like. means_sltiu f (at + 52) (at + 56) (omega arith) 7 7 (pos (513 - count)) holds (one_if fitting)
+      (λ f like. means_sltiu f (at + 52) (at + 56) (omega arith) 7 7 (pos (513 - count)) holds
+      (one_if fitting)
       (like.temp 7 refl) (ap (λ n. one_if (ltb holds n)) (word_small (513 - count) (omega arith))))
       refl refl (omega arith) (omega arith) (omega arith)
       (λ x more.
@@ -462,7 +479,8 @@ module _ (s : Setting) (count : ℕ) (some : 1 ≤ count) (many : count ≤ 4) (
       → Stays (first_stores store k) (slot_of ring (head + j))
   contents_stay k few room j lt =
       beside_first (sees s h begun) store k (slot_of ring (head + j)) 8
-      (λ i less. behind_contents s h begun area.at ring value count apart i j (room (λ none. omega arith)) (omega arith) lt)
+      (λ i less. behind_contents s h begun area.at ring value count apart i j (room (λ none. omega arith))
+      (omega arith) lt)
 
   kept_so_far : (temps : ℕ → ℕ) (es : List Store) (last : History) → After temps es last → (k : ℕ) → k ≤ count
       → (k ≢ 0 → holds + count ≤ 512) → es ≡ first_stores store k → IsRingKept s ring h begun last
@@ -528,17 +546,20 @@ module _ (s : Setting) (count : ℕ) (some : 1 ≤ count) (many : count ≤ 4) (
       (kept_so_far temps es last after 0 (omega arith) (λ more. absurd (more refl)) full.2)
       (after.stored ∙ ap (λ (x : List Store). stores h begun ++ x) full.2 ∙ append-nil (stores h begun))
   puts_it temps es last after (inr done) =
-      puts_words done.0 (after.temp p.value (value_changed p) ∙ done.1) (put_there temps es last after done.0 done.2)
+      puts_words done.0 (after.temp p.value (value_changed p) ∙ done.1)
+      (put_there temps es last after done.0 done.2)
 
   -- the pointer of the area stays
   slots_pointer : (k : ℕ) → Stays (first_stores store k) (area.at + 8)
   slots_pointer k =
       beside_first (sees s h begun) store k (area.at + 8) 8
       (λ j lt.
-      ring_pointer s h begun area.at ring value count apart (slot_of ring (tail + j)) (slot_in ring (tail + j)))
+      ring_pointer s h begun area.at ring value count apart (slot_of ring (tail + j))
+      (slot_in ring (tail + j)))
 
   points : (es : List Store) → Inside es → Stays es (area.at + 8)
-  points es so_far = ap (λ (x : List Store). word_at (seen_byte x seen) (area.at + 8) 8) so_far.3 ∙ slots_pointer so_far.0
+  points es so_far =
+      ap (λ (x : List Store). word_at (seen_byte x seen) (area.at + 8) 8) so_far.3 ∙ slots_pointer so_far.0
 
   points_done : (temps : ℕ → ℕ) (es : List Store) → Done temps es → Stays es (area.at + 8)
   points_done temps es (inl full) =

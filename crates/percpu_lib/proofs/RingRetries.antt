@@ -1,8 +1,9 @@
--- Each retry of a ring block works on the value that came in: it is copied into x28 at the retry label, and once
--- more inside, and brought back from there inside, and where the block was aborted.
-use Rattle.std.proofs.Common.{◌≡◌, ◌≢◌, ℕ, zero, suc, ◌+◌, ◌*◌, ◌<◌, ◌≤◌, ◌^◌, ◌⊎◌, inl, inr, List, [], ◌∷◌, ◌++◌, refl, sym}
-use Rattle.std.proofs.Common.{◌%◌, ap, ◌∙◌, arith, Bool, true, false, not, ◌||◌, eqb, slice_get, subst, Option, Some, None, pos, length}
-use Rattle.std.proofs.Common.{append_assoc, append-nil}
+-- Each retry of a ring block works on the value that came in: it is copied into x28 at the retry label, and
+-- once more inside, and brought back from there inside, and where the block was aborted.
+use Rattle.std.proofs.Common.{◌≡◌, ◌≢◌, ℕ, zero, suc, ◌+◌, ◌*◌, ◌<◌, ◌≤◌, ◌^◌, ◌⊎◌, inl, inr, List, [], ◌∷◌}
+use Rattle.std.proofs.Common.{◌++◌, refl, sym, ◌%◌, ap, ◌∙◌, arith, Bool, true, false, not, ◌||◌, eqb}
+use Rattle.std.proofs.Common.{slice_get, subst, Option, Some, None, pos, length, append_assoc, append-nil}
+use Rattle.std.proofs.Common.{rules}
 use Rattle.std.proofs.lemmas.Bool.{cases_eq, cases_lt, false≢true, ne_eqb}
 use Rattle.mach_types.proofs.Laws.{eqb_same}
 use Rattle.mach_types.specs.Kernel.Areas.{is_inside}
@@ -18,6 +19,7 @@ use Rattle.rv_inst.specs.declared.effects.Effect.{Effect}
 use Rattle.rv_inst.specs.declared.instruction.Inst.{Inst}
 use Rattle.rv_inst.specs.declared.instruction.Inst.TheVariants as inst
 use Rattle.alone.specs.Alone.{effect_at}
+use Rattle.alone.specs.Temps.{is_scratch}
 use Rattle.alone.proofs.Laws.{written_same}
 use Rattle.alone.proofs.Means.{means_addi}
 use Rattle.block_model.specs.Deciding.{event, history}
@@ -30,18 +32,22 @@ use Rattle.alone_laws.specs.Spans.{code_of}
 use Rattle.alone_laws.specs.Uses.{Placed}
 use Rattle.alone_laws.proofs.Arrivals.{IsCode, KnowsAt}
 use Rattle.alone_laws.proofs.Retrying.{IsAskedRun, IsKept, first_place, known_throughout}
-use Rattle.percpu_lib.specs.Forms.{AreBlockUsed, Form, HoldsBlock, IsBlockUsed, committed, placed_of, range_of}
-use Rattle.percpu_lib.specs.RingForms.{get_front, get_insts, put_front, put_insts, repeated, ring_end, ring_get_form, ring_put_form}
+use Rattle.percpu_lib.specs.Forms.{AreBlockUsed, Form, HoldsBlock, IsBlockUsed, committed, placed_of}
+use Rattle.percpu_lib.specs.Forms.{range_of}
+use Rattle.percpu_lib.specs.RingForms.{get_front, get_insts, put_front, put_insts, repeated, ring_end}
+use Rattle.percpu_lib.specs.RingForms.{ring_get_form, ring_put_form}
 use Rattle.percpu_lib.specs.RingKinds.{RingKind, gets, puts, ring_form_of}
 use Rattle.percpu_lib.specs.Words.{AreSlots}
 use Rattle.percpu_lib.specs.declared.slots.Slots.{Slots}
-use Rattle.percpu_lib.proofs.BlockCode.{IsFormed, IsInstruction, KnowsTable, before_range, block_aligned, block_code}
-use Rattle.percpu_lib.proofs.BlockCode.{it, leads_at, outcome_is}
+use Rattle.percpu_lib.proofs.BlockCode.{IsFormed, IsInstruction, KnowsTable, before_range, block_aligned}
+use Rattle.percpu_lib.proofs.BlockCode.{block_code, it, leads_at, outcome_is}
 use Rattle.percpu_lib.proofs.Changes.{scratch_not, some_value}
 use Rattle.percpu_lib.proofs.FormedWords.{AreFitBut, Unless, tame_at}
-use Rattle.percpu_lib.proofs.RingFormed.{get_formed, get_long, get_six, put_formed, put_long, put_six}
+use Rattle.percpu_lib.proofs.RingFormed.{front_inner, get_formed, get_long, get_six, put_formed, put_long}
+use Rattle.percpu_lib.proofs.RingFormed.{put_six, to_end, word_inner}
 use Rattle.percpu_lib.proofs.RingWords.{at_end, repeated_length}
-use Rattle.percpu_lib.proofs.WordLaws.{Leads, begins_anew, beq_pc, bne_pc, goes_on, leads_out, leaves_block, straight_addi}
+use Rattle.percpu_lib.proofs.WordLaws.{Leads, begins_anew, beq_pc, bne_pc, goes_on, leads_out, leaves_block}
+use Rattle.percpu_lib.proofs.WordLaws.{straight_of}
 
 -- WHICH WORDS CHANGE X28, AND WHICH THE VALUE
 
@@ -64,7 +70,8 @@ none true P is = tt
 none false P is = absurd (false≢true is)
 
 module _ (but : ℕ → Bool) (form : Form) where
-  fit_append : (k : ℕ) (xs ys : List (Option Inst)) → AreFitBut but form k xs → AreFitBut but form (k + length xs) ys
+  fit_append : (k : ℕ) (xs ys : List (Option Inst)) → AreFitBut but form k xs
+      → AreFitBut but form (k + length xs) ys
       → AreFitBut but form k (xs ++ ys)
   fit_append k [] ys first rest = subst (λ n. AreFitBut but form n ys) (omega arith) rest
   fit_append k (None ∷ xs) ys first rest =
@@ -80,9 +87,11 @@ module _ (but : ℕ → Bool) (form : Form) where
       fit_append m (repeated words n) (words n) (fit_repeated words six m n (λ k lt. are k (omega arith)))
       (subst (λ j. AreFitBut but form j (words n)) (omega (arith, long)) (are n (omega arith)))
 
-  fit_all : (front : List (Option Inst)) (words : ℕ → List (Option Inst)) (rest : List (Option Inst)) (count : ℕ)
+  fit_all : (front : List (Option Inst)) (words : ℕ → List (Option Inst)) (rest : List (Option Inst))
+      (count : ℕ)
       → length front ≡ 17 → ((k : ℕ) → length (words k) ≡ 6) → AreFitBut but form 0 front
-      → ((k : ℕ) → k < count → AreFitBut but form (17 + 6 * k) (words k)) → AreFitBut but form (17 + 6 * count) rest
+      → ((k : ℕ) → k < count → AreFitBut but form (17 + 6 * k) (words k))
+      → AreFitBut but form (17 + 6 * count) rest
       → AreFitBut but form 0 (front ++ (repeated words count ++ rest))
   fit_all front words rest count seventeen six first each last =
       let long = repeated_length words six count in
@@ -98,113 +107,35 @@ module _ (count : ℕ) (few : count ≤ 4) (p : Slots) (slots : AreSlots p) wher
   abbrev get_form : Form
   get_form = ring_get_form count p
 
-  inner : (k : ℕ) → k < 18 + 6 * count → eqb k (committed put_form) ≡ false
-  inner k lt = ne_eqb k (committed put_form) (λ same. omega arith)
-
   not_28 : not (eqb p.value 28) ≡ true
   not_28 = ap not (ne_eqb p.value 28 (λ same. scratch_not 28 p.value refl slots.value (sym same)))
 
-  other : (r : ℕ) → r ≢ p.value → not (eqb r p.value) ≡ true
-  other r differs = ap not (ne_eqb r p.value differs)
-
-  five : not (eqb 5 p.value) ≡ true
-  five = other 5 (scratch_not 5 p.value refl slots.value)
-
-  six : not (eqb 6 p.value) ≡ true
-  six = other 6 (scratch_not 6 p.value refl slots.value)
-
-  seven : not (eqb 7 p.value) ≡ true
-  seven = other 7 (scratch_not 7 p.value refl slots.value)
-
-  copied : not (eqb 28 p.value) ≡ true
-  copied = other 28 (scratch_not 28 p.value refl slots.value)
-
-  word_29 : not (eqb 29 p.value) ≡ true
-  word_29 = other 29 (scratch_not 29 p.value refl slots.value)
-
-  put_front_copy : AreFitBut but_copy (keeping put_form 28) 0 (put_front p count)
-  put_front_copy = (
-    tt,
-    (
-      (inner 1 (omega arith), refl),
-      (
-        (inner 2 (omega arith), refl),
-        (
-          (inner 3 (omega arith), refl),
-          (
-            inner 4 (omega arith),
-            (
-              (inner 5 (omega arith), refl),
-              (
-                (inner 6 (omega arith), refl),
-                (
-                  (inner 7 (omega arith), refl),
-                  (
-                    (inner 8 (omega arith), refl),
-                    (
-                      tt,
-                      (
-                        (inner 10 (omega arith), refl),
-                        (
-                          (inner 11 (omega arith), refl),
-                          (
-                            (inner 12 (omega arith), refl),
-                            (
-                              (inner 13 (omega arith), refl),
-                              (
-                                (inner 14 (omega arith), not_28),
-                                (
-                                  (inner 15 (omega arith), omega arith),
-                                  (
-                                    (inner 16 (omega arith), not_28),
-                                    tt,
-                                  ),
-                                ),
-                              ),
-                            ),
-                          ),
-                        ),
-                      ),
-                    ),
-                  ),
-                ),
-              ),
-            ),
-          ),
-        ),
-      ),
-    ),
-  )
+  other : (r : ℕ) → is_scratch r ≡ true → not (eqb r p.value) ≡ true
+  other r scratch = ap not (ne_eqb r p.value (scratch_not r p.value scratch slots.value))
 
   -- word k stands at one of these places
   abbrev here : ℕ → ℕ
   here k = 17 + 6 * k
 
   put_word_copy : (k : ℕ) → k < count → AreFitBut but_copy (keeping put_form 28) (here k) (put_insts p k)
-  put_word_copy k lt = (
-    any (but_copy (here k)) _ (inner (here k) (omega arith), refl),
-    (
-      any (but_copy (here k + 1)) _ (inner (here k + 1) (omega arith), refl),
-      (
-        any (but_copy (here k + 1 + 1)) _ (inner (here k + 1 + 1) (omega arith), refl),
-        (
-          any (but_copy (here k + 1 + 1 + 1)) _ (inner (here k + 1 + 1 + 1) (omega arith), refl),
-          (
-            any (but_copy (here k + 1 + 1 + 1 + 1)) _ (inner (here k + 1 + 1 + 1 + 1) (omega arith)),
-            (
-              any (but_copy (here k + 1 + 1 + 1 + 1 + 1)) _ (inner (here k + 1 + 1 + 1 + 1 + 1) (omega arith), refl),
-              tt,
-            ),
-          ),
-        ),
-      ),
-    ),
-  )
+  put_word_copy k lt = search (rules, arith, any, word_inner count, lt)
 
-  end_copy : (form : Form) → committed form ≡ 18 + 6 * count → length form.words ≡ 22 + 6 * count → (offset : ℕ)
+  get_word_copy : (k : ℕ) → k < count → AreFitBut but_copy (keeping get_form 28) (here k) (get_insts p k)
+  get_word_copy k lt = search (rules, arith, any, word_inner count, lt)
+
+  put_word_value : (k : ℕ) → k < count → AreFitBut (but_value count) (keeping put_form p.value) (here k)
+      (put_insts p k)
+  put_word_value k lt = search (rules, arith, any, word_inner count, other, lt)
+
+  get_word_value : (k : ℕ) → k < count → AreFitBut (but_value count) (keeping get_form p.value) (here k)
+      (get_insts p k)
+  get_word_value k lt = search (rules, arith, any, word_inner count, other, lt)
+
+  end_copy : (form : Form) → committed form ≡ 18 + 6 * count → length form.words ≡ 22 + 6 * count
+      → (offset : ℕ)
       → AreFitBut but_copy (keeping form 28) (here count) (ring_end p count offset)
   end_copy form at_end long offset = (
-    any (but_copy (here count)) _ (ne_eqb (here count) (committed form) (λ same. omega (arith, at_end))),
+    any (but_copy (here count)) _ (ne_eqb (here count) (committed form) (λ same. omega (arith, at_end)), tt),
     (
       any (but_copy (here count + 1)) _ (refl, omega (arith, long)),
       (
@@ -213,81 +144,6 @@ module _ (count : ℕ) (few : count ≤ 4) (p : Slots) (slots : AreSlots p) wher
         (
           any (but_copy (here count + 1 + 1 + 1 + 1)) _ (refl, omega arith),
           tt,
-        ),
-      ),
-    ),
-  )
-
-  put_front_value : AreFitBut (but_value count) (keeping put_form p.value) 0 (put_front p count)
-  put_front_value = (
-    any (but_value count 0) _ (inner 0 (omega arith), copied),
-    (
-      any (but_value count 1) _ (inner 1 (omega arith), five),
-      (
-        any (but_value count 2) _ (inner 2 (omega arith), six),
-        (
-          any (but_value count 3) _ (inner 3 (omega arith), six),
-          (
-            any (but_value count 4) _ (inner 4 (omega arith)),
-            (
-              any (but_value count 5) _ (inner 5 (omega arith), six),
-              (
-                any (but_value count 6) _ (inner 6 (omega arith), refl),
-                (
-                  any (but_value count 7) _ (inner 7 (omega arith), five),
-                  (
-                    any (but_value count 8) _ (inner 8 (omega arith), five),
-                    (
-                      any (but_value count 9) _ (inner 9 (omega arith), copied),
-                      (
-                        any (but_value count 10) _ (inner 10 (omega arith), six),
-                        (
-                          any (but_value count 11) _ (inner 11 (omega arith), seven),
-                          (
-                            any (but_value count 12) _ (inner 12 (omega arith), seven),
-                            (
-                              any (but_value count 13) _ (inner 13 (omega arith), seven),
-                              (
-                                tt,
-                                (
-                                  any (but_value count 15) _ (inner 15 (omega arith), omega arith),
-                                  (
-                                    tt,
-                                    tt,
-                                  ),
-                                ),
-                              ),
-                            ),
-                          ),
-                        ),
-                      ),
-                    ),
-                  ),
-                ),
-              ),
-            ),
-          ),
-        ),
-      ),
-    ),
-  )
-
-  put_word_value : (k : ℕ) → k < count → AreFitBut (but_value count) (keeping put_form p.value) (here k) (put_insts p k)
-  put_word_value k lt = (
-    any (but_value count (here k)) _ (inner (here k) (omega arith), seven),
-    (
-      any (but_value count (here k + 1)) _ (inner (here k + 1) (omega arith), seven),
-      (
-        any (but_value count (here k + 1 + 1)) _ (inner (here k + 1 + 1) (omega arith), seven),
-        (
-          any (but_value count (here k + 1 + 1 + 1)) _ (inner (here k + 1 + 1 + 1) (omega arith), word_29),
-          (
-            any (but_value count (here k + 1 + 1 + 1 + 1)) _ (inner (here k + 1 + 1 + 1 + 1) (omega arith)),
-            (
-              any (but_value count (here k + 1 + 1 + 1 + 1 + 1)) _ (inner (here k + 1 + 1 + 1 + 1 + 1) (omega arith), six),
-              tt,
-            ),
-          ),
         ),
       ),
     ),
@@ -303,10 +159,11 @@ module _ (count : ℕ) (few : count ≤ 4) (p : Slots) (slots : AreSlots p) wher
       last false true = refl
       last false false = eqb_same (20 + 6 * count)
 
-  end_value : (form : Form) → committed form ≡ 18 + 6 * count → length form.words ≡ 22 + 6 * count → (offset : ℕ)
+  end_value : (form : Form) → committed form ≡ 18 + 6 * count → length form.words ≡ 22 + 6 * count
+      → (offset : ℕ)
       → AreFitBut (but_value count) (keeping form p.value) (here count) (ring_end p count offset)
   end_value form at_end long offset = (
-    any (but_value count (here count)) _ (ne_eqb (here count) (committed form) (λ same. omega (arith, at_end))),
+    any (but_value count (here count)) _ (ne_eqb (here count) (committed form) (λ same. omega (arith, at_end)), tt),
     (
       any (but_value count (here count + 1)) _ (refl, omega (arith, long)),
       (
@@ -321,178 +178,31 @@ module _ (count : ℕ) (few : count ≤ 4) (p : Slots) (slots : AreSlots p) wher
 
   pub put_copy_kept : AreFitBut but_copy (keeping put_form 28) 0 put_form.words
   put_copy_kept =
-      fit_all but_copy (keeping put_form 28) (put_front p count) (put_insts p) (ring_end p count 8) count refl (put_six p)
-      put_front_copy put_word_copy (end_copy put_form (omega arith) (put_long p count) 8)
+      fit_all but_copy (keeping put_form 28) (put_front p count) (put_insts p) (ring_end p count 8) count refl
+      (put_six p)
+      (search (rules, front_inner count, to_end count, not_28)) put_word_copy
+      (end_copy put_form (omega arith) (put_long p count) 8)
 
   pub put_value_kept : AreFitBut (but_value count) (keeping put_form p.value) 0 put_form.words
   put_value_kept =
-      fit_all (but_value count) (keeping put_form p.value) (put_front p count) (put_insts p) (ring_end p count 8) count refl
-      (put_six p) put_front_value put_word_value (end_value put_form (omega arith) (put_long p count) 8)
-
-  -- the same of a get
-
-  inner_get : (k : ℕ) → k < 18 + 6 * count → eqb k (committed get_form) ≡ false
-  inner_get k lt = ne_eqb k (committed get_form) (λ same. omega arith)
-
-  get_front_copy : AreFitBut but_copy (keeping get_form 28) 0 (get_front p count)
-  get_front_copy = (
-    tt,
-    (
-      (inner_get 1 (omega arith), refl),
-      (
-        (inner_get 2 (omega arith), refl),
-        (
-          (inner_get 3 (omega arith), refl),
-          (
-            inner_get 4 (omega arith),
-            (
-              (inner_get 5 (omega arith), refl),
-              (
-                (inner_get 6 (omega arith), refl),
-                (
-                  (inner_get 7 (omega arith), refl),
-                  (
-                    (inner_get 8 (omega arith), refl),
-                    (
-                      tt,
-                      (
-                        (inner_get 10 (omega arith), refl),
-                        (
-                          (inner_get 11 (omega arith), refl),
-                          (
-                            (inner_get 12 (omega arith), refl),
-                            (
-                              (inner_get 13 (omega arith), refl),
-                              (
-                                (inner_get 14 (omega arith), not_28),
-                                (
-                                  (inner_get 15 (omega arith), omega arith),
-                                  (
-                                    (inner_get 16 (omega arith), not_28),
-                                    tt,
-                                  ),
-                                ),
-                              ),
-                            ),
-                          ),
-                        ),
-                      ),
-                    ),
-                  ),
-                ),
-              ),
-            ),
-          ),
-        ),
-      ),
-    ),
-  )
-
-  get_word_copy : (k : ℕ) → k < count → AreFitBut but_copy (keeping get_form 28) (here k) (get_insts p k)
-  get_word_copy k lt = (
-    any (but_copy (here k)) _ (inner_get (here k) (omega arith), refl),
-    (
-      any (but_copy (here k + 1)) _ (inner_get (here k + 1) (omega arith), refl),
-      (
-        any (but_copy (here k + 1 + 1)) _ (inner_get (here k + 1 + 1) (omega arith), refl),
-        (
-          any (but_copy (here k + 1 + 1 + 1)) _ (inner_get (here k + 1 + 1 + 1) (omega arith), refl),
-          (
-            any (but_copy (here k + 1 + 1 + 1 + 1)) _ (inner_get (here k + 1 + 1 + 1 + 1) (omega arith)),
-            (
-              any (but_copy (here k + 1 + 1 + 1 + 1 + 1)) _ (inner_get (here k + 1 + 1 + 1 + 1 + 1) (omega arith), refl),
-              tt,
-            ),
-          ),
-        ),
-      ),
-    ),
-  )
-
-  get_front_value : AreFitBut (but_value count) (keeping get_form p.value) 0 (get_front p count)
-  get_front_value = (
-    any (but_value count 0) _ (inner_get 0 (omega arith), copied),
-    (
-      any (but_value count 1) _ (inner_get 1 (omega arith), five),
-      (
-        any (but_value count 2) _ (inner_get 2 (omega arith), six),
-        (
-          any (but_value count 3) _ (inner_get 3 (omega arith), six),
-          (
-            any (but_value count 4) _ (inner_get 4 (omega arith)),
-            (
-              any (but_value count 5) _ (inner_get 5 (omega arith), six),
-              (
-                any (but_value count 6) _ (inner_get 6 (omega arith), refl),
-                (
-                  any (but_value count 7) _ (inner_get 7 (omega arith), five),
-                  (
-                    any (but_value count 8) _ (inner_get 8 (omega arith), five),
-                    (
-                      any (but_value count 9) _ (inner_get 9 (omega arith), copied),
-                      (
-                        any (but_value count 10) _ (inner_get 10 (omega arith), six),
-                        (
-                          any (but_value count 11) _ (inner_get 11 (omega arith), seven),
-                          (
-                            any (but_value count 12) _ (inner_get 12 (omega arith), seven),
-                            (
-                              any (but_value count 13) _ (inner_get 13 (omega arith), seven),
-                              (
-                                tt,
-                                (
-                                  any (but_value count 15) _ (inner_get 15 (omega arith), omega arith),
-                                  (
-                                    tt,
-                                    tt,
-                                  ),
-                                ),
-                              ),
-                            ),
-                          ),
-                        ),
-                      ),
-                    ),
-                  ),
-                ),
-              ),
-            ),
-          ),
-        ),
-      ),
-    ),
-  )
-
-  get_word_value : (k : ℕ) → k < count → AreFitBut (but_value count) (keeping get_form p.value) (here k) (get_insts p k)
-  get_word_value k lt = (
-    any (but_value count (here k)) _ (inner_get (here k) (omega arith), seven),
-    (
-      any (but_value count (here k + 1)) _ (inner_get (here k + 1) (omega arith), seven),
-      (
-        any (but_value count (here k + 1 + 1)) _ (inner_get (here k + 1 + 1) (omega arith), seven),
-        (
-          any (but_value count (here k + 1 + 1 + 1)) _ (inner_get (here k + 1 + 1 + 1) (omega arith), word_29),
-          (
-            any (but_value count (here k + 1 + 1 + 1 + 1)) _ (inner_get (here k + 1 + 1 + 1 + 1) (omega arith)),
-            (
-              any (but_value count (here k + 1 + 1 + 1 + 1 + 1)) _ (inner_get (here k + 1 + 1 + 1 + 1 + 1) (omega arith), six),
-              tt,
-            ),
-          ),
-        ),
-      ),
-    ),
-  )
+      fit_all (but_value count) (keeping put_form p.value) (put_front p count) (put_insts p)
+      (ring_end p count 8) count refl
+      (put_six p) (search (rules, any, front_inner count, to_end count, other)) put_word_value
+      (end_value put_form (omega arith) (put_long p count) 8)
 
   pub get_copy_kept : AreFitBut but_copy (keeping get_form 28) 0 get_form.words
   get_copy_kept =
-      fit_all but_copy (keeping get_form 28) (get_front p count) (get_insts p) (ring_end p count 0) count refl (get_six p)
-      get_front_copy get_word_copy (end_copy get_form (omega arith) (get_long p count) 0)
+      fit_all but_copy (keeping get_form 28) (get_front p count) (get_insts p) (ring_end p count 0) count refl
+      (get_six p)
+      (search (rules, front_inner count, to_end count, not_28)) get_word_copy
+      (end_copy get_form (omega arith) (get_long p count) 0)
 
   pub get_value_kept : AreFitBut (but_value count) (keeping get_form p.value) 0 get_form.words
   get_value_kept =
-      fit_all (but_value count) (keeping get_form p.value) (get_front p count) (get_insts p) (ring_end p count 0) count refl
-      (get_six p) get_front_value get_word_value (end_value get_form (omega arith) (get_long p count) 0)
+      fit_all (but_value count) (keeping get_form p.value) (get_front p count) (get_insts p)
+      (ring_end p count 0) count refl
+      (get_six p) (search (rules, any, front_inner count, to_end count, other)) get_word_value
+      (end_value get_form (omega arith) (get_long p count) 0)
 
 -- WHAT RING BLOCKS HAVE IN COMMON
 
@@ -593,8 +303,8 @@ module _ (s : Setting) (form : Form) (at : ℕ) (area : Area) (t : ℕ) where
 abbrev HasValue : ℕ → ℕ → Type 0
 HasValue count k = (k ≤ 14) ⊎ (((17 ≤ k) × (k < 18 + 6 * count)) ⊎ (k ≡ 21 + 6 * count))
 
--- what is known of x6; that the 64 bits of the value v are in x28 behind the first word; that v is the value there;
--- and that it has no more bits behind the first word of the sequence
+-- what is known of x6; that the 64 bits of the value v are in x28 behind the first word; that v is the value
+-- there; and that it has no more bits behind the first word of the sequence
 record KnowsValue (form : Form) (count v k : ℕ) (regs : Regs) : Type 0 where
   table : KnowsTable form k regs
   copy : 1 ≤ k → register regs 28 ≡ v % 2 ^ 64
@@ -602,7 +312,8 @@ record KnowsValue (form : Form) (count v k : ℕ) (regs : Regs) : Type 0 where
   small : 6 ≤ k → v < 2 ^ 64
   uncommitted : k ≢ 18 + 6 * count
 
-module _ (s : Setting) (past : History) (form : Form) (count : ℕ) (some_words : 1 ≤ count) (many_words : count ≤ 4)
+module _ (s : Setting) (past : History) (form : Form) (count : ℕ) (some_words : 1 ≤ count)
+    (many_words : count ≤ 4)
     (at : ℕ) (area : Area) (t v : ℕ) (formed : IsFormed form) (ring : IsRing form count)
     (held : HoldsBlock s past form at area t) where
   abbrev b : Placed
@@ -651,16 +362,19 @@ module _ (s : Setting) (past : History) (form : Form) (count : ℕ) (some_words 
     o = outcome seen f.file f.pc r e
 
     found : IsInstruction form form.words 0 k
-    found = it s form at area formed held.stands held.low_table held.low held.low_area f e seen r is k pc below know.table
+    found = it s form at area formed held.stands held.low_table held.low held.low_area f e seen r is k pc
+        below know.table
 
     does : o ≡ outcome seen f.file f.pc r (meaning found.i f.file f.pc)
-    does = outcome_is s form at area formed held.stands held.low_table held.low held.low_area f e seen r is k found.i pc
+    does = outcome_is s form at area formed held.stands held.low_table held.low held.low_area f e seen r is k
+        found.i pc
         found.there
 
     does_word : (n : ℕ) (i : Inst) → k ≡ n → slice_get form.words n ≡ Some (Some i)
         → o ≡ outcome seen f.file f.pc r (meaning i f.file f.pc)
     does_word n i same there =
-        outcome_is s form at area formed held.stands held.low_table held.low held.low_area f e seen r is k i pc
+        outcome_is s form at area formed held.stands held.low_table held.low held.low_area f e seen r is k i
+        pc
         (ap (slice_get form.words) same ∙ there)
 
     near : length form.words < 2 ^ 8
@@ -673,17 +387,21 @@ module _ (s : Setting) (past : History) (form : Form) (count : ℕ) (some_words 
     copy_stays not_first not_again =
         let all = near in
         ap (λ (x : Outcome). register x.regs 28) does
-        ∙ (tame_at (keeping form 28) near inner_near but_copy form.words k found.i (omega arith) ring.copy_kept found.there
-        (ap (λ c. c || eqb k 9) (ne_eqb k 0 not_first) ∙ ne_eqb k 9 not_again)).keeps seen f.file f.pc r 28 refl
+        ∙ (tame_at (keeping form 28) near inner_near but_copy form.words k found.i (omega arith)
+        ring.copy_kept found.there
+        (ap (λ c. c || eqb k 9) (ne_eqb k 0 not_first) ∙ ne_eqb k 9 not_again)).keeps seen f.file f.pc r 28
+        refl
 
     value_stays : k ≢ 14 → k ≢ 16 → k ≢ 20 + 6 * count → register o.regs value ≡ register f.file value
     value_stays no_clear no_restore no_abort =
         let all = near in
         ap (λ (x : Outcome). register x.regs value) does
-        ∙ (tame_at (keeping form value) near inner_near (but_value count) form.words k found.i (omega arith) ring.value_kept
+        ∙ (tame_at (keeping form value) near inner_near (but_value count) form.words k found.i (omega arith)
+        ring.value_kept
         found.there
         (ap (λ c. c || (eqb k 16 || eqb k (20 + 6 * count))) (ne_eqb k 14 no_clear)
-        ∙ ap (λ c. c || eqb k (20 + 6 * count)) (ne_eqb k 16 no_restore) ∙ ne_eqb k (20 + 6 * count) no_abort)).keeps seen
+        ∙ ap (λ c. c || eqb k (20 + 6 * count)) (ne_eqb k 16 no_restore)
+        ∙ ne_eqb k (20 + 6 * count) no_abort)).keeps seen
         f.file f.pc r value (ap not (eqb_same value))
 
     -- the copy, and the way back
@@ -699,7 +417,8 @@ module _ (s : Setting) (past : History) (form : Form) (count : ℕ) (some_words 
         let i : Inst = inst.Addi 28 value (pos 0) in
         ap (λ (x : Outcome). register x.regs 28) (does_word n i same there)
         ∙ ap (λ d. register (outcome seen f.file f.pc r d).regs 28)
-        (means_addi f.file f.pc (sum_64 f.pc 4) refl 28 value (pos 0) v (v % 2 ^ 64) (know.value (inl (omega arith)))
+        (means_addi f.file f.pc (sum_64 f.pc 4) refl 28 value (pos 0) v (v % 2 ^ 64)
+        (know.value (inl (omega arith)))
         sum_is)
         ∙ written_same f.file 28 (v % 2 ^ 64) refl (subst (λ n. 28 < n) (sym many) (omega arith))
 
@@ -715,12 +434,14 @@ module _ (s : Setting) (past : History) (form : Form) (count : ℕ) (some_words 
         (subst (λ n. value < n) (sym many) held.slots.low_value)
 
     -- where it comes to
-    module _ (to : ℕ) (goes : o.pc ≡ at + 4 * to) (within : to < length form.words) (uncommitted : to ≢ 18 + 6 * count) where
+    module _ (to : ℕ) (goes : o.pc ≡ at + 4 * to) (within : to < length form.words)
+        (uncommitted : to ≢ 18 + 6 * count) where
       led : (to ≡ k + 1) ⊎ (to ≡ 0)
       led = by_way go.0 go.1 (omega (arith, go.2, goes))
         where
           go : (n : ℕ) × Leads form k n × (o.pc ≡ at + 4 * n)
-          go = leads_at s form at area formed held.stands held.low_table held.low held.low_area f e seen r is k pc below
+          go = leads_at s form at area formed held.stands held.low_table held.low held.low_area f e seen r is
+              k pc below
               know.table
 
           by_way : (n : ℕ) → Leads form k n → n ≡ to → (to ≡ k + 1) ⊎ (to ≡ 0)
@@ -751,7 +472,8 @@ module _ (s : Setting) (past : History) (form : Form) (count : ℕ) (some_words 
           let i : Inst = inst.Addi value 0 (pos 0) in
           let next : o.pc ≡ sum_64 f.pc 4 =
           ap (λ (x : Outcome). x.pc) (does_word 14 i same ring.clears)
-          ∙ (straight_addi (λ x. eqb x value) value 0 (pos 0) (eqb_same value)).on seen f.file f.pc r in
+          ∙ (straight_of (λ x. eqb x value) (inst.Addi value 0 (pos 0)) (eqb_same value)).on seen f.file f.pc
+          r in
           let far : sum_64 f.pc 4 ≡ at + 4 * k + 4 = ap (λ n. sum_64 n 4) pc ∙ omega arith in
           omega (arith, next, far, goes)
 
@@ -801,12 +523,14 @@ module _ (s : Setting) (past : History) (form : Form) (count : ℕ) (some_words 
               → (k ≡ 20 + 6 * count) ⊎ (k ≢ 20 + 6 * count) → HasValue count to → register o.regs value ≡ v
           by_word (inl clear) test restore abort there = absurd (not_between (after_clear clear) there)
           by_word (inr no_clear) (inl test) restore abort there = absurd (not_behind (after_test test) there)
-          by_word (inr no_clear) (inr no_test) (inl restore) abort there = brought_back 16 ring.restores restore (omega arith)
+          by_word (inr no_clear) (inr no_test) (inl restore) abort there =
+              brought_back 16 ring.restores restore (omega arith)
           by_word (inr no_clear) (inr no_test) (inr no_restore) (inl abort) there =
               brought_back (20 + 6 * count) ring.handles abort (omega arith)
           by_word (inr no_clear) (inr no_test) (inr no_restore) (inr no_abort) there =
               value_stays no_clear no_restore no_abort
-              ∙ know.value (had (cases_lt k 14) (cases_lt k (18 + 6 * count)) no_clear no_test no_restore no_abort)
+              ∙ know.value (had (cases_lt k 14) (cases_lt k (18 + 6 * count)) no_clear no_test no_restore
+              no_abort)
 
   kept : IsKept s b Asked Know
   kept = record {
@@ -821,11 +545,14 @@ module _ (s : Setting) (past : History) (form : Form) (count : ℕ) (some_words 
           pc = now.pc;
           know = record {
             table = now.know;
-            copy = copy_there f e seen r many is at_it.word at_it.pc at_it.below asked at_it.know to now.pc now.below
+            copy = copy_there f e seen r many is at_it.word at_it.pc at_it.below asked at_it.know to now.pc
+                now.below
                 other;
-            value = value_there f e seen r many is at_it.word at_it.pc at_it.below asked at_it.know to now.pc now.below
+            value = value_there f e seen r many is at_it.word at_it.pc at_it.below asked at_it.know to now.pc
+                now.below
                 other;
-            small = small_there f e seen r many is at_it.word at_it.pc at_it.below asked at_it.know to now.pc now.below
+            small = small_there f e seen r many is at_it.word at_it.pc at_it.below asked at_it.know to now.pc
+                now.below
                 other;
             uncommitted = other;
           };
@@ -841,7 +568,8 @@ module _ (s : Setting) (past : History) (form : Form) (count : ℕ) (some_words 
             at_it.know.copy (omega arith);
         value = λ here_it. absurd (not_there here_it);
         small = λ from.
-            small_at f at_it.word asked at_it.pc at_it.know (in_sequence f at_it inside (cases_lt at_it.word 5));
+            small_at f at_it.word asked at_it.pc at_it.know (in_sequence f at_it inside
+            (cases_lt at_it.word 5));
         uncommitted = λ same. absurd (omega arith);
       };
     };
@@ -878,7 +606,8 @@ module _ (s : Setting) (past : History) (form : Form) (count : ℕ) (some_words 
       in_sequence f at_it inside (inr late) = late
 
   -- where the thread is at the retry label or at the start, the value is what it was where the retries began
-  pub value_came_in : (first log later : List Entry) → IsBlockRun s (log ++ later) → history s (log ++ later) ≡ past
+  pub value_came_in : (first log later : List Entry) → IsBlockRun s (log ++ later) → history s (log ++ later)
+      ≡ past
       → Retries s b t first log → v ≡ register (file s t (history s first)).file value
       → ((file s t (history s log)).pc ≡ at) ⊎ ((file s t (history s log)).pc ≡ at + 4 * form.first)
       → register (file s t (history s log)).file value ≡ v
@@ -909,21 +638,26 @@ module _ (s : Setting) (past : History) (form : Form) (count : ℕ) (some_words 
       known.know.value (inl (early known.word known.pc there))
     where
       early : (k : ℕ) → (file s t (history s log)).pc ≡ at + 4 * k
-          → ((file s t (history s log)).pc ≡ at) ⊎ ((file s t (history s log)).pc ≡ at + 4 * form.first) → k ≤ 14
+          → ((file s t (history s log)).pc ≡ at) ⊎ ((file s t (history s log)).pc ≡ at + 4 * form.first) → k
+          ≤ 14
       early k pc (inl retry) = omega arith
       early k pc (inr start) = let first = ring.first in omega arith
 
-pub ring_value_comes_in : (k : RingKind) (count : ℕ) (s : Setting) (first log later : List Entry) (p : Slots) (at : ℕ)
+pub ring_value_comes_in : (k : RingKind) (count : ℕ) (s : Setting) (first log later : List Entry) (p : Slots)
+    (at : ℕ)
     (area : Area) (t : ℕ) → 1 ≤ count → count ≤ 4 → IsBlockRun s (log ++ later)
     → HoldsBlock s (history s (log ++ later)) (ring_form_of k count p) at area t
     → Retries s (placed_of (ring_form_of k count p) at area) t first log
-    → ((file s t (history s log)).pc ≡ at) ⊎ ((file s t (history s log)).pc ≡ at + 4 * (ring_form_of k count p).first)
+    → ((file s t (history s log)).pc ≡ at) ⊎ ((file s t (history s log)).pc ≡ at
+    + 4 * (ring_form_of k count p).first)
     → register (file s t (history s log)).file p.value ≡ register (file s t (history s first)).file p.value
 ring_value_comes_in puts count s first log later p at area t some few run held retries there =
     value_came_in s (history s (log ++ later)) (ring_put_form count p) count some few at area t
-    (register (file s t (history s first)).file p.value) (put_formed count few p) (put_is_ring count few p held.slots)
+    (register (file s t (history s first)).file p.value) (put_formed count few p)
+    (put_is_ring count few p held.slots)
     held first log later run refl retries refl there
 ring_value_comes_in gets count s first log later p at area t some few run held retries there =
     value_came_in s (history s (log ++ later)) (ring_get_form count p) count some few at area t
-    (register (file s t (history s first)).file p.value) (get_formed count few p) (get_is_ring count few p held.slots)
+    (register (file s t (history s first)).file p.value) (get_formed count few p)
+    (get_is_ring count few p held.slots)
     held first log later run refl retries refl there

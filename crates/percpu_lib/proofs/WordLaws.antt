@@ -33,103 +33,61 @@ pub record IsStraight (may : ℕ → Bool) (i : Inst) : Type 0 where
 another : (may : ℕ → Bool) (x rd : ℕ) → may x ≡ false → may rd ≡ true → x ≢ rd
 another may x rd other allowed same = false≢true (sym other ∙ ap may same ∙ allowed)
 
+-- a plain instruction changes a register that may change, or stores
+abbrev pub IsPlain : (ℕ → Bool) → Inst → Type 0
+IsPlain may (inst.Lw rd rs imm) = may rd ≡ true
+IsPlain may (inst.Ld rd rs imm) = may rd ≡ true
+IsPlain may (inst.Lui rd imm) = may rd ≡ true
+IsPlain may (inst.Addi rd rs imm) = may rd ≡ true
+IsPlain may (inst.Slli rd rs shamt) = may rd ≡ true
+IsPlain may (inst.Add rd rs1 rs2) = may rd ≡ true
+IsPlain may (inst.Sub rd rs1 rs2) = may rd ≡ true
+IsPlain may (inst.Sltiu rd rs imm) = may rd ≡ true
+IsPlain may (inst.Andi rd rs imm) = may rd ≡ true
+IsPlain may (inst.Sd rs1 rs2 imm) = Unit {0}
+IsPlain may other = ⊥
+
 module _ (may : ℕ → Bool) where
-  pub straight_lw : (rd rs : ℕ) (imm : ℤ) → may rd ≡ true → IsStraight may (inst.Lw rd rs imm)
-  unfolding meaning
-  straight_lw rd rs imm allowed = record {
+  -- an instruction that writes one register
+  writes : {i : Inst} (rd : ℕ) → may rd ≡ true → ((f : Regs) (pc : ℕ) → is_call (meaning i f pc) ≡ false)
+      → ((seen : ℕ → Option ℕ) (f : Regs) (pc : ℕ) (r : Option ℕ) (x : ℕ) → x ≢ rd
+      → register (outcome seen f pc r (meaning i f pc)).regs x ≡ register f x)
+      → ((seen : ℕ → Option ℕ) (f : Regs) (pc : ℕ) (r : Option ℕ)
+      → (outcome seen f pc r (meaning i f pc)).pc ≡ sum_64 pc 4) → IsStraight may i
+  writes rd allowed plain keeps on = record {
     tame = record {
-      plain = λ f pc. refl;
-      keeps = λ seen f pc r x other. written_other f rd _ x (another may x rd other allowed);
+      plain = plain;
+      keeps = λ seen f pc r x other. keeps seen f pc r x (another may x rd other allowed);
     };
-    on = λ seen f pc r. refl;
+    on = on;
   }
 
-  pub straight_ld : (rd rs : ℕ) (imm : ℤ) → may rd ≡ true → IsStraight may (inst.Ld rd rs imm)
+  -- each plain one
+  pub straight_of : (i : Inst) → IsPlain may i → IsStraight may i
   unfolding meaning
-  straight_ld rd rs imm allowed = record {
-    tame = record {
-      plain = λ f pc. refl;
-      keeps = λ seen f pc r x other. written_other f rd _ x (another may x rd other allowed);
-    };
-    on = λ seen f pc r. refl;
-  }
-
-  pub straight_sd : (rs1 rs2 : ℕ) (imm : ℤ) → IsStraight may (inst.Sd rs1 rs2 imm)
-  unfolding meaning
-  straight_sd rs1 rs2 imm = record {
+  straight_of (inst.Lw rd rs imm) is =
+      writes rd is (λ f pc. refl) (λ seen f pc r x. written_other f rd _ x) (λ seen f pc r. refl)
+  straight_of (inst.Ld rd rs imm) is =
+      writes rd is (λ f pc. refl) (λ seen f pc r x. written_other f rd _ x) (λ seen f pc r. refl)
+  straight_of (inst.Lui rd imm) is =
+      writes rd is (λ f pc. refl) (λ seen f pc r x. written_other f rd _ x) (λ seen f pc r. refl)
+  straight_of (inst.Addi rd rs imm) is =
+      writes rd is (λ f pc. refl) (λ seen f pc r x. written_other f rd _ x) (λ seen f pc r. refl)
+  straight_of (inst.Slli rd rs shamt) is =
+      writes rd is (λ f pc. refl) (λ seen f pc r x. written_other f rd _ x) (λ seen f pc r. refl)
+  straight_of (inst.Add rd rs1 rs2) is =
+      writes rd is (λ f pc. refl) (λ seen f pc r x. written_other f rd _ x) (λ seen f pc r. refl)
+  straight_of (inst.Sub rd rs1 rs2) is =
+      writes rd is (λ f pc. refl) (λ seen f pc r x. written_other f rd _ x) (λ seen f pc r. refl)
+  straight_of (inst.Sltiu rd rs imm) is =
+      writes rd is (λ f pc. refl) (λ seen f pc r x. written_other f rd _ x) (λ seen f pc r. refl)
+  straight_of (inst.Andi rd rs imm) is =
+      writes rd is (λ f pc. refl) (λ seen f pc r x. written_other f rd _ x) (λ seen f pc r. refl)
+  straight_of (inst.Sd rs1 rs2 imm) is = record {
     tame = record { plain = λ f pc. refl; keeps = λ seen f pc r x other. refl };
     on = λ seen f pc r. refl;
   }
-
-  pub straight_lui : (rd : ℕ) (imm : ℤ) → may rd ≡ true → IsStraight may (inst.Lui rd imm)
-  unfolding meaning
-  straight_lui rd imm allowed = record {
-    tame = record {
-      plain = λ f pc. refl;
-      keeps = λ seen f pc r x other. written_other f rd _ x (another may x rd other allowed);
-    };
-    on = λ seen f pc r. refl;
-  }
-
-  pub straight_addi : (rd rs : ℕ) (imm : ℤ) → may rd ≡ true → IsStraight may (inst.Addi rd rs imm)
-  unfolding meaning
-  straight_addi rd rs imm allowed = record {
-    tame = record {
-      plain = λ f pc. refl;
-      keeps = λ seen f pc r x other. written_other f rd _ x (another may x rd other allowed);
-    };
-    on = λ seen f pc r. refl;
-  }
-
-  pub straight_slli : (rd rs shamt : ℕ) → may rd ≡ true → IsStraight may (inst.Slli rd rs shamt)
-  unfolding meaning
-  straight_slli rd rs shamt allowed = record {
-    tame = record {
-      plain = λ f pc. refl;
-      keeps = λ seen f pc r x other. written_other f rd _ x (another may x rd other allowed);
-    };
-    on = λ seen f pc r. refl;
-  }
-
-  pub straight_sub : (rd rs1 rs2 : ℕ) → may rd ≡ true → IsStraight may (inst.Sub rd rs1 rs2)
-  unfolding meaning
-  straight_sub rd rs1 rs2 allowed = record {
-    tame = record {
-      plain = λ f pc. refl;
-      keeps = λ seen f pc r x other. written_other f rd _ x (another may x rd other allowed);
-    };
-    on = λ seen f pc r. refl;
-  }
-
-  pub straight_sltiu : (rd rs : ℕ) (imm : ℤ) → may rd ≡ true → IsStraight may (inst.Sltiu rd rs imm)
-  unfolding meaning
-  straight_sltiu rd rs imm allowed = record {
-    tame = record {
-      plain = λ f pc. refl;
-      keeps = λ seen f pc r x other. written_other f rd _ x (another may x rd other allowed);
-    };
-    on = λ seen f pc r. refl;
-  }
-
-  pub straight_andi : (rd rs : ℕ) (imm : ℤ) → may rd ≡ true → IsStraight may (inst.Andi rd rs imm)
-  unfolding meaning
-  straight_andi rd rs imm allowed = record {
-    tame = record {
-      plain = λ f pc. refl;
-      keeps = λ seen f pc r x other. written_other f rd _ x (another may x rd other allowed);
-    };
-    on = λ seen f pc r. refl;
-  }
-
-  pub straight_add : (rd rs1 rs2 : ℕ) → may rd ≡ true → IsStraight may (inst.Add rd rs1 rs2)
-  unfolding meaning
-  straight_add rd rs1 rs2 allowed = record {
-    tame = record {
-      plain = λ f pc. refl;
-      keeps = λ seen f pc r x other. written_other f rd _ x (another may x rd other allowed);
-    };
-    on = λ seen f pc r. refl;
-  }
+  straight_of other is = absurd is
 
 -- a branch goes on, or to its target where that is a multiple of 4; a jump to its target
 either_pc : (seen : ℕ → Option ℕ) (f : Regs) (pc to : ℕ) (r : Option ℕ) (c : Bool) → to % 4 ≡ 0
@@ -254,33 +212,40 @@ module _ (form : Form) (k : ℕ) (short : k < 2 ^ 8) where
   bne_anew rs1 rs2 n far inner = record {
     tame = tame_bne form.may rs1 rs2 (negsuc n);
     leads = λ seen f pc at r is aligned low.
-        either_word seen at pc (outcome seen f pc r (meaning (inst.Bne rs1 rs2 (negsuc n)) f pc)).pc 0 is low inner
+        either_word seen at pc (outcome seen f pc r (meaning (inst.Bne rs1 rs2 (negsuc n)) f pc)).pc 0 is low
+        inner
         (begins_anew refl)
         (bne_pc seen f pc (at + 4 * 0) r rs1 rs2 (negsuc n) (omega (arith, ints)) (omega arith));
   }
 
   -- a branch to the post-commit address
+  branch_out : (i : Inst) (n : ℕ) → IsTame form.may i → 4 * k + n ≡ 4 * committed form → committed form
+      < 2 ^ 8
+      → k ≢ committed form
+      → ((seen : ℕ → Option ℕ) (f : Regs) (pc to : ℕ) (r : Option ℕ) → sum_64 pc (word (pos n)) ≡ to → to % 4
+      ≡ 0
+      → ((outcome seen f pc r (meaning i f pc)).pc ≡ to)
+      ⊎ ((outcome seen f pc r (meaning i f pc)).pc ≡ sum_64 pc 4))
+      → IsWord form k i
+  branch_out i n tame far near inner goes = record {
+    tame = tame;
+    leads = λ seen f pc at r is aligned low.
+        either_word seen at pc (outcome seen f pc r (meaning i f pc)).pc (committed form) is low inner
+        (leads_out refl)
+        (goes seen f pc (at + 4 * committed form) r (omega (arith, ints)) (omega arith));
+  }
+
   pub beq_out : (rs1 rs2 n : ℕ) → 4 * k + n ≡ 4 * committed form → committed form < 2 ^ 8 → k ≢ committed form
       → IsWord form k (inst.Beq rs1 rs2 (pos n))
-  beq_out rs1 rs2 n far near inner = record {
-    tame = tame_beq form.may rs1 rs2 (pos n);
-    leads = λ seen f pc at r is aligned low.
-        either_word seen at pc (outcome seen f pc r (meaning (inst.Beq rs1 rs2 (pos n)) f pc)).pc (committed form)
-        is low inner (leads_out refl)
-        (beq_pc seen f pc (at + 4 * committed form) r rs1 rs2 (pos n) (omega (arith, ints))
-        (omega arith));
-  }
+  beq_out rs1 rs2 n far near inner =
+      branch_out (inst.Beq rs1 rs2 (pos n)) n (tame_beq form.may rs1 rs2 (pos n)) far near inner
+      (λ seen f pc to r. beq_pc seen f pc to r rs1 rs2 (pos n))
 
   pub bne_out : (rs1 rs2 n : ℕ) → 4 * k + n ≡ 4 * committed form → committed form < 2 ^ 8 → k ≢ committed form
       → IsWord form k (inst.Bne rs1 rs2 (pos n))
-  bne_out rs1 rs2 n far near inner = record {
-    tame = tame_bne form.may rs1 rs2 (pos n);
-    leads = λ seen f pc at r is aligned low.
-        either_word seen at pc (outcome seen f pc r (meaning (inst.Bne rs1 rs2 (pos n)) f pc)).pc (committed form)
-        is low inner (leads_out refl)
-        (bne_pc seen f pc (at + 4 * committed form) r rs1 rs2 (pos n) (omega (arith, ints))
-        (omega arith));
-  }
+  bne_out rs1 rs2 n far near inner =
+      branch_out (inst.Bne rs1 rs2 (pos n)) n (tame_bne form.may rs1 rs2 (pos n)) far near inner
+      (λ seen f pc to r. bne_pc seen f pc to r rs1 rs2 (pos n))
 
   -- the jumps
   pub jal_anew : (n : ℕ) → n + 1 ≡ 4 * k → IsWord form k (inst.Jal 0 (negsuc n))

@@ -2,6 +2,7 @@ pub mod Adds
 pub mod Allocs
 pub mod Beside
 pub mod Bindings
+pub mod BlockKinds
 pub mod BlockLines
 pub mod Files
 pub mod Forms

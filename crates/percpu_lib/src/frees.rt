@@ -7,16 +7,17 @@ ghost use Rattle.percpu_lib.specs.Lines.{AreEmitted, HasRoom};
 ghost use Rattle.percpu_lib.specs.Words.{AreSlots};
 
 use crate::block_lines::{block_lines, inst};
+use crate::blocks::{BlockKind, emit_kind};
 use crate::fault::EmitFault;
-use crate::lines::{Line, emit_lines};
-use crate::room::{has_room, lower_part, upper_part};
+use crate::lines::Line;
+use crate::room::{lower_part, upper_part};
 use crate::slots::Slots;
 use rv_asm::Asm;
 use rv_inst::Inst;
 use std::alloc::Global;
 
 /// The lines of a block that puts the value behind the items of the pool of its processor.
-fn lines_of_free(base: u32, slots: Slots) -> [Line; 27]
+pub fn lines_of_free(base: u32, slots: Slots) -> [Line; 27]
     requires slots { AreSlots slots }
     requires low { slots.table < 0x7FFFF800 }
     requires fits { base + 8 < 2 ^ 32 }
@@ -53,7 +54,7 @@ fn lines_of_free(base: u32, slots: Slots) -> [Line; 27]
 /// abort address, and `base + 4` stands behind the block; `base + 5` to `base + 7` stay free. `Room` exactly
 /// where one of the eight isn't free, and then nothing changes. `NoMemory` leaves the lines that were appended
 /// before.
-pub fn emit_free(_alloc: Global, asm: &mut Asm, base: u32, slots: &Slots) -> Result<(), EmitFault>
+pub fn emit_free(alloc: Global, asm: &mut Asm, base: u32, slots: &Slots) -> Result<(), EmitFault>
     requires slots { AreSlots slots.now }
     requires low { slots.now.table < 0x7FFFF800 }
     ensures room { (result ≡ Err EmitFault.Room) ↔ (HasRoom asm.old.labels base → ⊥) }
@@ -63,10 +64,5 @@ pub fn emit_free(_alloc: Global, asm: &mut Asm, base: u32, slots: &Slots) -> Res
     ensures memory { result ≡ Err EmitFault.NoMemory
         → (n : ℕ) × AreEmitted (take n (free_lines slots.now base)) asm.old asm.new }
 {
-    if !has_room(asm, base) {
-        return Err(EmitFault::Room);
-    }
-    let lines = lines_of_free(base, *slots);
-    emit_lines(asm, &lines)?;
-    Ok(())
+    emit_kind(alloc, asm, base, *slots, BlockKind::Frees)
 }

@@ -12,6 +12,7 @@ mod adds;
 mod allocs;
 mod block_lines;
 mod block_theorems;
+mod blocks;
 mod fault;
 mod frees;
 mod lines;

@@ -27,7 +27,7 @@ pub fn lower_part(address: u64) -> i64
 pub fn has_room(asm: &Asm, base: u32) -> bool
     ensures exact { IsTrue result ↔ HasRoom asm.now.labels base }
     ensures within { OnTrue result (base + 8 ≤ length asm.now.labels) }
-    ensures few { length asm.now.labels < 2 ^ 32 }
+    ensures fits { OnTrue result (base + 8 < 2 ^ 32) }
 {
     if asm.labels() < 8 || asm.labels() - 8 < base {
         return false;

@@ -1,10 +1,10 @@
 -- What the next instruction of a thread does, by its effect and its fault.
 use Rattle.std.proofs.Common.{◌≡◌, ◌≢◌, ℕ, refl, sym, ap, ◌∙◌, Bool, true, false, cond, is_some, Option, Some, None, length}
-use Rattle.std.specs.Option.{option_or}
-use Rattle.process.proofs.Common.{Done, Effect, HartState, Here, Plain, Setting, Why, done_of, hart_at, here_in_plain, memory, refusal_of, runs}
-use Rattle.mach_types.specs.declared.events.Why.TheVariants.{InBarrier}
+use Rattle.std.specs.Option.{option_map, option_or}
+use Rattle.process.proofs.Common.{Done, Effect, HartState, Here, Why, done_of, file_on, hart_in, refusal_of, runs, thread}
+use Rattle.mach_types.specs.declared.events.Why.TheVariants.{Idle, InBarrier}
 use Rattle.rv_inst.specs.Class.{is_call}
-use Rattle.rv_inst.specs.Execution.{fault_in, instruction_gate}
+use Rattle.rv_inst.specs.Execution.{fault_in, instruction_gate, outcome}
 use Rattle.rv_inst.specs.declared.effects.Effect.TheVariants as effect
 use Rattle.hart_state.specs.State.{exec_refusal, outcome_on}
 use Rattle.block_model.specs.Calls.{called}
@@ -13,7 +13,7 @@ use Rattle.block_model.specs.Sequences.{is_inside_here}
 use Rattle.mach_types.specs.declared.events.Choice.TheVariants as asked
 use Rattle.block_model.specs.Events.Exec.{by_call, by_fault, by_outcome, has_handler, is_held, next_effect, next_fault, one_instruction, others_gate, outcome_of, refusal_exec_by}
 use Rattle.block_model.specs.Events.Preempt.{unless_in_barrier}
-use Rattle.block_model.specs.Here.{is_storable, reached}
+use Rattle.block_model.specs.Here.{is_storable, reached, view_of_all, waiting_here}
 use Rattle.block_model.specs.Instruction as instruction
 use Rattle.block_model.specs.Kernel.{signalled}
 use Rattle.mach_types.specs.Kernel.Signals.{with_pending}
@@ -49,30 +49,42 @@ done_inside here t at fault is inside = rw (at, fault, is, inside) refl
 pub done_plain : (here : Here) (t : ℕ) (e : Effect) → runs here ≡ Some t → next_fault here t ≡ None → next_effect here t ≡ Some e → is_call e ≡ false → done_of asked.Exec here ≡ by_outcome here t (outcome_of here t e)
 done_plain here t e at fault is no_call = rw (at, fault, is, no_call) refl
 
--- what it does on the hart that is kept is what it does at the place
-pub outcome_same : (credit : ℕ) (s : Setting) (p : Plain) (h t : ℕ) (x : HartState) (byte : ℕ → Option ℕ) (e : Effect) → x ≡ hart_at s p h credit → runs (here_in_plain s p h) ≡ Some t → byte ≡ memory (here_in_plain s p h) →
-    outcome_on x byte e ≡ outcome_of (here_in_plain s p h) t e
-outcome_same credit s p h t x byte e at runs same = rw (at, same, runs) refl
-
--- what the hart asks before it performs it
-pub not_refused : (credit : ℕ) (s : Setting) (p : Plain) (h t : ℕ) (x : HartState) (e : Effect) → x ≡ hart_at s p h credit → runs (here_in_plain s p h) ≡ Some t → next_fault (here_in_plain s p h) t ≡ None → next_effect (here_in_plain s p h) t ≡ Some e →
-    refusal_of asked.Exec (here_in_plain s p h) ≡ None → exec_refusal x (Some e) false ≡ None
-not_refused credit s p h t x e at runs fault is free = rw (at, runs) (gate (rw runs at free))
+-- the next instruction of the thread on a hart that is kept so
+module _ (here : Here) (t ran events credit : ℕ) (x : HartState) (e : Effect) (own : x ≡ hart_in here ran events credit) (at : runs here ≡ Some t)
   where
+    -- what it does there is what it does at the place
+    pub outcome_same : (byte : ℕ → Option ℕ) → byte ≡ reached here → outcome_on x byte e ≡ outcome_of here t e
+    outcome_same byte bytes =
+        ap (λ (y : HartState). outcome_on y byte e) own
+        ∙ ap (λ (b : ℕ → Option ℕ). outcome_on (hart_in here ran events credit) b e) bytes
+        ∙ ap (λ (o : Option ℕ). outcome (view_of_all here) (file_on here o).file (file_on here o).pc here.reserved e) at
+
+    -- what the hart asks before it performs it
     first : (a b : Option Why) → option_or a b ≡ None → a ≡ None
     first None b none = refl
     first (Some why) b none = cc
 
-    by_barrier : (a : Option ℕ) → unless_in_barrier a (option_or (instruction_gate (length (p.waiting h)) (next_effect (here_in_plain s p h) t) (is_some (next_fault (here_in_plain s p h) t)))
-        (others_gate (is_held (here_in_plain s p h) t) (next_effect (here_in_plain s p h) t))) ≡ None → cond (is_some a) (Some InBarrier) (instruction_gate (length (p.waiting h)) (Some e) false) ≡ None
-    by_barrier (Some left) free = cc
-    by_barrier None free =
-        let here = here_in_plain s p h in
-        let g = first (instruction_gate (length (p.waiting h)) (next_effect here t) (is_some (next_fault here t))) (others_gate (is_held here t) (next_effect here t)) free in
-        ap (λ o. instruction_gate (length (p.waiting h)) o false) (sym is) ∙ (ap (λ o. instruction_gate (length (p.waiting h)) (next_effect (here_in_plain s p h) t) (is_some o)) (sym fault) ∙ g)
+    pub not_refused : next_fault here t ≡ None → next_effect here t ≡ Some e → refusal_of asked.Exec here ≡ None → exec_refusal x (Some e) false ≡ None
+    not_refused fault is free =
+        ap (λ (y : HartState). exec_refusal y (Some e) false) own
+        ∙ ap
+        (λ (o : Option ℕ).
+        cond (is_some (option_map thread o))
+        (cond (is_some here.awaits) (Some InBarrier) (instruction_gate (length (waiting_here here)) (Some e) false)) (Some Idle))
+        at
+        ∙ by_barrier here.awaits (sym (ap (refusal_exec_by here) at) ∙ free)
+      where
+        gate : Option Effect → Option ℕ → Option Why
+        gate effect signal = instruction_gate (length (waiting_here here)) effect (is_some signal)
 
-    gate : refusal_exec_by (here_in_plain s p h) (Some t) ≡ None → cond (is_some (p.awaits h)) (Some InBarrier) (instruction_gate (length (p.waiting h)) (Some e) false) ≡ None
-    gate free = by_barrier (p.awaits h) free
+        by_barrier : (a : Option ℕ)
+            → unless_in_barrier a (option_or (gate (next_effect here t) (next_fault here t)) (others_gate (is_held here t) (next_effect here t))) ≡ None
+            → cond (is_some a) (Some InBarrier) (gate (Some e) None) ≡ None
+        by_barrier (Some left) free = cc
+        by_barrier None free =
+            ap (λ (o : Option Effect). gate o None) (sym is)
+            ∙ ap (gate (next_effect here t)) (sym fault)
+            ∙ first (gate (next_effect here t) (next_fault here t)) (others_gate (is_held here t) (next_effect here t)) free
 
 pub no_fault : (here : Here) (t : ℕ) (byte : ℕ → Option ℕ) (writable : ℕ → Bool) (e : Effect) → byte ≡ reached here → writable ≡ is_storable here → next_fault here t ≡ None → next_effect here t ≡ Some e → fault_in byte writable e ≡ None
 no_fault here t byte writable e same can fault is = rw (same, can) (by_effect_of (next_effect here t) is fault)

@@ -212,7 +212,7 @@ is_fatal comes_to.Cleared = false
 is_fatal (comes_to.Aborted at) = false
 is_fatal (comes_to.Killed why) = true
 
-lives_by_words : (here : Here) (t : ℕ) (o : Outcome) → is_fatal o ≡ false → lives_on here t o ≡ can_write_words here (area_here here t)
+pub lives_by_words : (here : Here) (t : ℕ) (o : Outcome) → is_fatal o ≡ false → lives_on here t o ≡ can_write_words here (area_here here t)
 lives_by_words here t comes_to.Nothing goes = refl
 lives_by_words here t comes_to.Cleared goes = refl
 lives_by_words here t (comes_to.Aborted at) goes = refl
@@ -222,7 +222,7 @@ no_words : (here : Here) (area : Option Area) (w : Words) → can_write_words he
 no_words here None w fails = cc
 no_words here (Some area) w fails = ap (λ b. words_entered b area w) fails
 
-entered_by_words : (here : Here) (t : ℕ) (o : Outcome) (b : Bool) → can_write_words here (area_here here t) ≡ b
+pub entered_by_words : (here : Here) (t : ℕ) (o : Outcome) (b : Bool) → can_write_words here (area_here here t) ≡ b
     → writes_of (area_here here t) o ++ words_to here (area_here here t) (words_on here.hart (next_id here.kernel.ids))
     ≡ (cond b (done_running here t o) (done_killed here t o)).entered
 entered_by_words here t o true may = refl

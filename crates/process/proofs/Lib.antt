@@ -16,6 +16,7 @@ mod FreeInstructions
 mod HartEvents
 mod HartStates
 mod Interruptions
+mod KernelWrites
 pub mod Laws
 mod Lookups
 mod Membarriers

@@ -9,4 +9,5 @@ pub use Rattle.process.proofs.Interruptions.{lost_nothing}
 pub use Rattle.process.proofs.Membarriers.{eighth, running_tied}
 pub use Rattle.process.proofs.Places.{fit_at, goes_on, hart_is, ran_fits, was_not_stuck}
 pub use Rattle.process.proofs.PassingEvents.{get_mapped}
+pub use Rattle.process.proofs.PlainInstructions.{IsPerforming, performing_over}
 pub use Rattle.process.proofs.ReservationLosses.{lost_app}

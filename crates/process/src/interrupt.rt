@@ -25,7 +25,7 @@ pub fn pc_after(pc: u64, outcome: Outcome) -> u64
 }
 
 /// The write by which the pointer of an area becomes 0.
-fn pointer_cleared(area: Area) -> Write
+pub(crate) fn pointer_cleared(area: Area) -> Write
     requires { area.at + RSEQ_CS < 2 ^ 64 }
     ensures { areas.pointer_cleared (Some area) ≡ result ∷ [] }
 {

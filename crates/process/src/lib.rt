@@ -11,6 +11,7 @@ mod foresight;
 mod handlers;
 mod hart_view;
 mod interrupt;
+mod kernel_writes;
 mod membarrier;
 mod next;
 mod parts;
@@ -27,6 +28,7 @@ mod starting;
 
 pub use code::Code;
 pub use exec::Written;
+pub use kernel_writes::KernelWrites;
 pub use next::{Next, effect_at, effect_of_next, is_free, is_local, next_of};
 pub use parts::Parts;
 pub use requests::{is_all_taken, running_harts};

@@ -80,7 +80,7 @@ impl Parts {
     }
 
     /// The least id that no running thread holds.
-    fn next_id(&self) -> u8
+    pub(crate) fn next_id(&self) -> u8
         requires { harts_that (λ id. list_any (holds id) self.now.harts.items) 8 ≢ 255 }
         ensures { result ≡ areas.lowest_cid (harts_that (λ id. list_any (holds id) self.now.harts.items) 8) }
     {

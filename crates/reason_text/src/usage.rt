@@ -1,6 +1,6 @@
 //! The usage of all commands, and help. Both go over the table of commands, and name none.
 
-use command_words::{COMMANDS, CommandKind, SourceKind, command_kind};
+use command_words::{COMMANDS, CommandKind, ShownKind, SourceKind, command_kind};
 use std::alloc::{AllocError, Global};
 use std::fmt::Write;
 
@@ -16,6 +16,8 @@ const OPTIONS: &str = "  --harts N   how many harts there are: 1 to 8 (default 2
   --until K   how many different outcomes are enough: 1 to 64 (by default all runs are made)
   --by B      by what outcomes are told apart: text or end (default text)
   --jobs N    how many threads make the runs: 1 to 64 (default as many as there are processors)
+  --from N    from which line the log is told: 1 to 1000000 (default 1)
+  --to N      to which line the log is told: 1 to 1000000 (default its last)
 ";
 
 /// The version (own).
@@ -45,13 +47,24 @@ fn words_of_run(source: SourceKind) -> &'static str {
     }
 }
 
+/// What stands behind that, by what is shown of a run.
+fn words_of_shown(kind: CommandKind) -> &'static str {
+    match kind {
+        CommandKind::Runs {
+            shown: ShownKind::Trace,
+            ..
+        } => " [--from N] [--to N]",
+        _ => "",
+    }
+}
+
 /// Appends the commands with their names and options, and what the options are.
 pub(crate) fn push_usage(text: &mut String) -> Result<(), AllocError> {
     let mut begin = "usage:";
     for word in COMMANDS {
         if let Some(kind) = command_kind(word) {
-            let behind = words_behind(kind);
-            writeln!(text, "{begin} rseq_run {word} {behind}")?;
+            let (behind, more) = (words_behind(kind), words_of_shown(kind));
+            writeln!(text, "{begin} rseq_run {word} {behind}{more}")?;
             begin = "      ";
         }
     }

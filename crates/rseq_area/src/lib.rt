@@ -18,4 +18,4 @@ pub use lookups::{Lookups, looked_at};
 pub use mach_types::{Area, BadWhy, Named, Seq};
 pub use naming::named;
 pub use registration::{register, unregister};
-pub use words::{set_cpu, words_written};
+pub use words::{can_set_cpu, set_cpu, words_written};

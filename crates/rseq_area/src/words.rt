@@ -26,7 +26,7 @@ pub fn set_cpu<M: UserMem>(
     ensures permissions { (a : ℕ) → M.can_write mem.new a ≡ M.can_write mem.old a }
     ensures alike { M.IsAlike mem.old mem.new }
 {
-    if !can_write_words(mem, area) {
+    if !can_set_cpu(mem, area) {
         return false;
     }
     put_word(mem, area.at, start);
@@ -36,8 +36,9 @@ pub fn set_cpu<M: UserMem>(
     true
 }
 
-/// Whether the four words can be written. They then lie below 2^64.
-fn can_write_words<M: UserMem>(mem: &M, area: &Area) -> bool
+/// What [`set_cpu`] would answer: whether the four words can be written. They then lie below 2^64. Nothing is
+/// written.
+pub fn can_set_cpu<M: UserMem>(mem: &M, area: &Area) -> bool
     ensures answer { result ≡ are_words_writable (M.can_write mem.now) area.now }
     ensures fit { result ≡ true → area.now.at + MM_CID < 2 ^ 64 }
 {

@@ -1,7 +1,7 @@
 //! `rseq_run`: runs a RISC-V program on a machine of several harts, and prints its console, its log or its
-//! gathered log, and how it ended; or its acts, or how many of each form each hart made; or the place that a
-//! script comes to; or the different outcomes of many runs. Or it runs two programs together by a script, and prints
-//! both consoles, the log, and how each process and the pair ended.
+//! gathered log, and how it ended; or what came of each line of its log; or its acts, or how many of each form
+//! each hart made; or the place that a script comes to; or the different outcomes of many runs. Or it runs two
+//! programs together by a script, and prints both consoles, the log, and how each process and the pair ended.
 #![tactic(auto)]
 
 use outcomes::{Fault, Reason};

@@ -1,17 +1,15 @@
 -- In a pair run a barrier returns only where each hart that it is about is passed (membarrier(2)): what the hart stored before the call, of
 -- either process, is in memory. While a thread waits in its barrier, each hart that the barrier is about is left or passed.
-use Rattle.std.proofs.Common.{◌≡◌, ℕ, ◌+◌, ◌≤◌, ◌⊎◌, List, [], ◌∷◌, ◌++◌, length, fold, eqb, Bool, true, false, not, cond, ◌&&◌, inl, inr, Option, Some, None, refl, sym, ap, ◌∙◌, subst, arith}
 use Rattle.std.proofs.lemmas.Nat.Bits.{bit_at-zero}
 use Rattle.mach_types.specs.declared.events.Choice.TheVariants as asked
 use Rattle.mach_types.specs.declared.events.Kind.TheVariants as kind
 use Rattle.block_model.specs.Events.Finish.{refusal_return}
 use Rattle.block_model.specs.Requests.{awaits_of_own, without_hart}
 use Rattle.block_model.proofs.Laws.{without_hart-other}
-use Rattle.shared_procs.specs.ReturningBarriers.{begun_or, is_by}
 use Rattle.shared_procs.specs.StoresEntered.{is_on}
-use Rattle.shared_procs.proofs.Common.{acting, apply, apply_two, Barrier, begun_by, cases_eq, Choice, choice_of, choice_with, Done, End, ended_if, entered, Entry, eqb-true, event_two, executed, false≢true, fold-append, half, has_hart, Here, here_two, is_of_process, IsPairRun, IsPairRunHistory, on_hart, option_map, option_or, own_choice, Pair, pair_after, pair_history, PairBegun, PairEvent, PairHistory, PairSetting, Plain, refusal_done_by, refusal_of, returning, runs, Store, Targets}
+use Rattle.shared_procs.proofs.Common.{◌≡◌, ℕ, ◌+◌, ◌≤◌, ◌⊎◌, List, [], ◌∷◌, ◌++◌, length, fold, eqb, Bool, true, false, not, cond, ◌&&◌, inl, inr, Option, Some, None, refl, sym, ap, ◌∙◌, subst, arith, acting, apply, apply_two, Barrier, begun_by, cases_eq, Choice, choice_of, choice_with, Done, End, ended_if, entered, Entry, eqb-true, event_two, executed, false≢true, fold-append, half, has_hart, Here, here_two, is_of_process, IsPairRun, IsPairRunHistory, on_hart, option_map, option_or, own_choice, Pair, pair_after, pair_history, PairBegun, PairEvent, PairHistory, PairSetting, Plain, refusal_done_by, refusal_of, returning, runs, Store, Targets, begun_or, is_by, and_parts}
 use Rattle.shared_procs.proofs.EventFacts.{takes_where_none_waits}
-use Rattle.shared_procs.proofs.Halves.{waits_by_half}
+use Rattle.shared_procs.proofs.Halves.{by_process, waits_by_half}
 use Rattle.shared_procs.proofs.HartsApart.{apart, event_of}
 use Rattle.shared_procs.proofs.Sums.{sum_is}
 
@@ -40,12 +38,6 @@ IsCalled p h before b =
 called_next : (p : Bool) (h : ℕ) (e : PairEvent) (before : PairHistory) (b : PairBegun) → IsCalled p h before b → IsCalled p h (e ∷ before) b
 called_next p h e before b was = (e ∷ was.0, was.1, ap (λ (rest : PairHistory). e ∷ rest) was.2, was.3, was.4, was.5)
 
-same_process : (p q own : Bool) → (is_of_process p q && own) ≡ true → (q ≡ p) × (own ≡ true)
-same_process true true own is = (refl, is)
-same_process true false own is = absurd (false≢true is)
-same_process false true own is = absurd (false≢true is)
-same_process false false own is = (refl, is)
-
 pub is_called : (p : Bool) (h : ℕ) (before : PairHistory) (b : PairBegun) → begun_by p h before ≡ Some b → IsCalled p h before b
 is_called p h [] b is = absurd cc
 is_called p h (e ∷ before) b is = by_event (is_by p h e) refl (λ older. called_next p h e before b (is_called p h before b older)) is
@@ -56,8 +48,8 @@ is_called p h (e ∷ before) b is = by_event (is_by p h e) refl (λ older. calle
     by_barrier (Some barrier) its own older is =
         let call : before ≡ b.call = cc in
         let same : barrier ≡ b.barrier = cc in
-        let at = same_process p e.process (is_on h e) own in
-        ([], e, ap (λ (rest : PairHistory). e ∷ rest) call, at.0, eqb-true e.entry.hart.0 h at.1, its ∙ ap Some same)
+        let at = and_parts (is_of_process p e.process) (is_on h e) own in
+        ([], e, ap (λ (rest : PairHistory). e ∷ rest) call, by_process p e.process at.0, eqb-true e.entry.hart.0 h at.1, its ∙ ap Some same)
 
     by_event : (own : Bool) → is_by p h e ≡ own → (begun_by p h before ≡ Some b → IsCalled p h (e ∷ before) b)
         → cond own (begun_or (begun_by p h before) before e.done.barrier) (begun_by p h before) ≡ Some b → IsCalled p h (e ∷ before) b
@@ -200,17 +192,17 @@ done_where here (Some t) free = waits_for_none here.awaits free
 
 -- AT ITS PLACE IN A LOG
 
-pub run_before : (s : PairSetting) (later : List Entry) (past : PairHistory)
-    → IsPairRunHistory s (fold (λ (before : PairHistory) (e : Entry). event_two s before e ∷ before) past later) → IsPairRunHistory s past
+-- the history after more entries
+abbrev pub goes_on_to : PairSetting → PairHistory → List Entry → PairHistory
+goes_on_to s past later = fold (λ (before : PairHistory) (e : Entry). event_two s before e ∷ before) past later
+
+pub history_more : (s : PairSetting) (log later : List Entry) → pair_history s (log ++ later) ≡ goes_on_to s (pair_history s log) later
+unfolding pair_history
+history_more s log later = fold-append (λ (before : PairHistory) (e : Entry). event_two s before e ∷ before) [] log later
+
+pub run_before : (s : PairSetting) (later : List Entry) (past : PairHistory) → IsPairRunHistory s (goes_on_to s past later) → IsPairRunHistory s past
 run_before s [] past run = run
 run_before s (e ∷ later) past run = (run_before s later (event_two s past e ∷ past) run).0
-
-pub run_to : (s : PairSetting) (earlier later : List Entry) (entry : Entry) → IsPairRun s (earlier ++ entry ∷ later)
-    → IsPairRunHistory s (event_two s (pair_history s earlier) entry ∷ pair_history s earlier)
-unfolding pair_history
-run_to s earlier later entry run =
-    run_before s later (event_two s (pair_history s earlier) entry ∷ pair_history s earlier)
-    (subst (IsPairRunHistory s) (fold-append (λ (before : PairHistory) (e : Entry). event_two s before e ∷ before) [] earlier (entry ∷ later)) run)
 
 pub none_left : (k : ℕ) → has_hart 0 k ≡ false
 none_left k = ap (λ n. eqb n 1) (bit_at-zero k)
@@ -235,7 +227,7 @@ module _ (s : PairSetting) (earlier later : List Entry) (entry : Entry) (run : I
   returned_at : IsPassedSoFar s before (on_hart m entry.hart.0) entry.hart.0 0
   returned_at =
       let h = entry.hart.0 in
-      let now = run_to s earlier later entry run in
+      let now = run_before s later (event_two s before entry ∷ before) (subst (IsPairRunHistory s) (history_more s earlier (entry ∷ later)) run) in
       let choice : choice_of entry ≡ asked.Done = ap (λ k. choice_with k entry) is in
       let done : refusal_of asked.Done (here_two s m (on_hart m h) h) ≡ None =
       subst (λ (c : Choice). refusal_of (own_choice c) (here_two s m (acting m h c) h) ≡ None) choice (event_of s (event_two s before entry) before now).free in

@@ -29,7 +29,7 @@ pub use Rattle.hart_state.specs.declared.hart.HartState.{HartState}
 pub use Rattle.mach_types.specs.Bytes.{IsAccessSize, after_write, all_stored, byte_over, each_byte, joined, word_at, written}
 pub use Rattle.mach_types.specs.Events.{choice_of, choice_with, kind_of}
 pub use Rattle.mach_types.specs.Kernel.Barriers.{asked, refusal, targets}
-pub use Rattle.mach_types.specs.Kernel.Pages.{can_write, permission_of}
+pub use Rattle.mach_types.specs.Kernel.Pages.{Pages, can_write, permission_at, permission_of}
 pub use Rattle.mach_types.specs.Kernel.PairBarriers.{concerned}
 pub use Rattle.mach_types.specs.Kernel.Scheduling.{has_hart}
 pub use Rattle.mach_types.specs.Kernel.Signals.{next_for}
@@ -41,6 +41,7 @@ pub use Rattle.mach_types.specs.declared.barriers.BarrierCommand.{BarrierCommand
 pub use Rattle.mach_types.specs.declared.barriers.Registered.{Registered}
 pub use Rattle.mach_types.specs.declared.errors.TheConstants.{ENOSYS}
 pub use Rattle.mach_types.specs.declared.events.Choice.{Choice}
+pub use Rattle.mach_types.specs.declared.events.Choice.TheVariants.{Exec}
 pub use Rattle.mach_types.specs.declared.events.Entry.{Entry}
 pub use Rattle.mach_types.specs.declared.events.Hart.{Hart}
 pub use Rattle.mach_types.specs.declared.events.Kind.{Kind}
@@ -59,7 +60,7 @@ pub use Rattle.page_map.proofs.Laws.{each_byte-fails, over-high, over-low}
 pub use Rattle.page_map.specs.Map.{Map, byte_in, can_write_in, held_in, may_write, permission_in}
 pub use Rattle.page_map.specs.Mapping.{IsGap}
 pub use Rattle.process.proofs.Laws.{hart_tied, in_list, plain_next, writable_held}
-pub use Rattle.process.proofs.PairLaws.{eighth, fit_at, hart_is, quietly, was_not_stuck}
+pub use Rattle.process.proofs.PairLaws.{eighth, fit_at, hart_is, lost_app, quietly, was_not_stuck}
 pub use Rattle.process.specs.Harts.{counted, credit_of, file_on, hart_at}
 pub use Rattle.process.specs.Planned.{IsPlanned}
 pub use Rattle.process.specs.Refinement.{IsCounted, IsPlace, IsTied, IsUncounted}
@@ -72,21 +73,22 @@ pub use Rattle.rv_inst.specs.Words.{signed_32}
 pub use Rattle.rv_inst.specs.declared.effects.Effect.{Effect}
 pub use Rattle.shared_procs.specs.Entering.{AreEntering, AreStorable, HaveEntered, HaveLost, HoldsShared, MayEmpty}
 pub use Rattle.shared_procs.specs.Halves.{program_in}
-pub use Rattle.shared_procs.specs.OwnEntries.{AreOfImages, IsSameProcess, OwnEntry, belongs, learnt_of, own_entries}
-pub use Rattle.shared_procs.specs.PairMachines.{AreTied, seen, setting_of}
-pub use Rattle.shared_procs.specs.PairPlaces.{AreBoth, AreEmptied, AreMade, HasNext, IsActing, IsAsked, IsPerformedAt, IsStep, call_next, is_take}
-pub use Rattle.shared_procs.specs.PairRuns.{IsPairRun, IsPairRunHistory, PairEvent, PairHistory, entry_as, entry_two, event_two, has_ended, pair_after, pair_decide, pair_seen, state_of_end, unless_two}
+pub use Rattle.shared_procs.specs.OwnEntries.{AreOfImages, IsSameProcess, Learnt, OwnEntry, belongs, belongs_by, learnt_by, learnt_exec, learnt_of, own_entries, own_entry, read_in_segment, reads, succeeds}
+pub use Rattle.shared_procs.specs.PairMachines.{AreTied, IsPair, seen, setting_of}
+pub use Rattle.shared_procs.specs.PairPlaces.{AreBoth, AreEmptied, AreMade, AreUnshared, HasNext, HasStep, IsActing, IsAsked, IsOutsideCall, IsPerformedAt, IsStep, IsSteppedAt, MayAct, call_next, emptied, is_take}
+pub use Rattle.shared_procs.specs.PairRuns.{IsPairRun, IsPairRunHistory, PairEvent, PairHistory, PairSeen, entry_as, entry_two, event_two, has_ended, pair_after, pair_decide, pair_seen, state_of_end, unless_two}
 unfoldable pub use Rattle.shared_procs.specs.PairRuns.{pair_history}
-pub use Rattle.shared_procs.specs.Pairs.{Pair, PairSetting, SECOND_THREADS, acting, apply_two, closing, done_as, done_two, ended_if, goes_on, half, here_two, is_of_second, is_over, is_shared, neighbour, number_in_log, on_hart, own_choice, pair_start, refusal_as, refusal_two, runs_in, setting, stand, waiting_below}
-pub use Rattle.shared_procs.specs.ReturningBarriers.{PairBegun, begun_by, is_of_process, returning}
+pub use Rattle.shared_procs.specs.Pairs.{Pair, PairSetting, SECOND_THREADS, acting, apply_two, closing, done_as, done_two, ended_if, goes_on, half, here_two, is_of_second, is_over, is_shared, neighbour, number_in_log, on_hart, own_choice, own_number, pair_start, refusal_as, refusal_begins, refusal_two, runs_in, setting, stand, waiting_below}
+pub use Rattle.shared_procs.specs.ReturningBarriers.{IsBusy, PairBegun, begun_by, begun_or, is_by, is_of_process, returning}
 pub use Rattle.shared_procs.specs.Segments.{lies_within, reached_in, shared_in, storable_in}
 pub use Rattle.shared_procs.specs.StoresEntered.{entered, executed}
 pub use Rattle.shared_procs.specs.declared.half.Half.{Half}
 pub use Rattle.shared_procs.specs.declared.outcomes.PairRefused.{PairRefused}
-pub use Rattle.shared_procs.specs.declared.outcomes.PairRefused.TheVariants.{NotEnabled}
+pub use Rattle.shared_procs.specs.declared.outcomes.PairRefused.TheVariants.{Ended, Full, NotEnabled}
 pub use Rattle.shared_procs.specs.declared.pair.Pair.TheInside.{Inside}
+pub use Rattle.std.proofs.Common.{Bool, Err, IfOk, IfSome, List, None, Ok, OnErr, Option, Result, Some, [], ap, append-nil, append_assoc, arith, cond, drop, eq-eqb, eqb, false, find, fold, get_or, inl, inr, is_none, is_some, leb, leb-true, length, length-append, length-drop, ltb, map, nat_le, not, of_z, refl, replicate, rules, set, slice_get, slice_index, subst, suc, sym, to_z, true, unwrap_or, vec_capacity, vec_len, w32, zero, ℕ, ℤ, ◌%◌, ◌&&◌, ◌++◌, ◌+◌, ◌-◌, ◌/◌, ◌<◌, ◌==◌, ◌^◌, ◌||◌, ◌∙◌, ◌∷◌, ◌≡◌, ◌≢◌, ◌≤◌, ◌⊎◌}
 pub use Rattle.std.proofs.Math.Path.{fun_ext}
-pub use Rattle.std.proofs.lemmas.Bool.{cases_eq, cases_lt, cond_both, eqb-true, false≢true, le-leb, le-ltb, leb-false, lt-leb, lt-ltb}
+pub use Rattle.std.proofs.lemmas.Bool.{and_parts, cases_eq, cases_lt, cond_both, eqb-true, false≢true, le-leb, le-ltb, leb-false, lt-leb, lt-ltb}
 pub use Rattle.std.proofs.lemmas.Bool.Decides.{nat_tests}
 pub use Rattle.std.proofs.lemmas.List.Sums.{fold-append}
 pub use Rattle.std.specs.List.{AllByRecursion, filter}

@@ -1,10 +1,8 @@
 -- Stores of instructions that enter memory: one, none, and several, one after the other; and a process beside them.
-use Rattle.std.proofs.Common.{◌≡◌, ℕ, ◌<◌, ◌++◌, ◌/◌, ◌||◌, Bool, true, false, List, [], ◌∷◌, length, drop, append_assoc, append-nil, Option, Some, None, IfSome, slice_get, refl, sym, ap, ◌∙◌, subst, arith}
 use Rattle.std.proofs.lemmas.List.Elements.{filter-append}
 use Rattle.mach_types.specs.Kernel.Pages.{can_read}
 use Rattle.process.specs.Refinement.{IsReadable}
-use Rattle.process.proofs.PairLaws as losses
-use Rattle.shared_procs.proofs.Common.{all_stored, AllByRecursion, AreEntering, AreStorable, aside, can_write, Done, each_byte, filter, fun_ext, HaveEntered, HaveLost, here_in_plain, HoldsPages, is_in_segment, is_shared, IsTied, lost_after, Map, may_write, nothing, Parts, permission_in, Plain, Setting, storable_in, Store, Stored, Write, written}
+use Rattle.shared_procs.proofs.Common.{◌≡◌, ℕ, ◌<◌, ◌++◌, ◌/◌, ◌||◌, Bool, true, false, List, [], ◌∷◌, length, drop, append_assoc, append-nil, Option, Some, None, IfSome, slice_get, refl, sym, ap, ◌∙◌, subst, arith, all_stored, AllByRecursion, AreEntering, AreStorable, aside, can_write, Done, each_byte, filter, fun_ext, HaveEntered, HaveLost, here_in_plain, HoldsPages, is_in_segment, is_shared, IsTied, lost_after, Map, may_write, nothing, Parts, permission_in, Plain, Setting, storable_in, Store, Stored, Write, written, lost_app}
 use Rattle.shared_procs.proofs.TiedAlike.{quietly_aside}
 
 -- LISTS OF STORES
@@ -79,11 +77,11 @@ pub lost_shown : (h : ℕ) (ws : List Store) (other other' : Parts)
 lost_shown h ws other other' shown s y tied =
     quietly_aside s y other' h (filter is_shared (all_stored ws)) (shown s y (nothing (here_in_plain s y h)) tied refl refl)
 
-pub lost_app : (ss ts : List Store) (m m1 m2 : Parts) → HaveLost ss m m1 → HaveLost ts m1 m2 → HaveLost (ss ++ ts) m m2
-lost_app ss ts m m1 m2 first then s y tied =
+lost_both : (ss ts : List Store) (m m1 m2 : Parts) → HaveLost ss m m1 → HaveLost ts m1 m2 → HaveLost (ss ++ ts) m m2
+lost_both ss ts m m1 m2 first then s y tied =
     subst (λ (r : ℕ → Option ℕ). IsTied s (record y { reserved = r }) m2)
     (fun_ext (λ k.
-    losses.lost_app (filter is_shared (all_stored ss)) (filter is_shared (all_stored ts)) (y.reserved k)
+    lost_app (filter is_shared (all_stored ss)) (filter is_shared (all_stored ts)) (y.reserved k)
     ∙ ap (λ (ws : List Write). lost_after ws (y.reserved k)) (sym (shared_app ss ts))))
     (then s (record y { reserved = λ k. lost_after (filter is_shared (all_stored ss)) (y.reserved k) }) (first s y tied))
 
@@ -110,7 +108,7 @@ entering_more waited (v ∷ left) w m m1 m2 segment segment1 segment2 other othe
       gone = so.gone ++ w ∷ [];
       all = append_assoc so.gone (w ∷ []) left ∙ ap (λ (u : Store). so.gone ++ (u ∷ left)) same ∙ so.all;
       entered = entered_app so.gone (w ∷ []) m m1 m2 segment segment1 segment2 so.entered entered;
-      lost = lost_app so.gone (w ∷ []) other other1 other2 so.lost lost;
+      lost = lost_both so.gone (w ∷ []) other other1 other2 so.lost lost;
       storable = storable_kept m1 m2 left entered.permissions so.storable.1;
     }
 

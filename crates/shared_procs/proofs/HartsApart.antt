@@ -1,13 +1,12 @@
 -- A hart runs threads of one process alone; and where it runs none of a process, no store of the process waits there.
-use Rattle.std.proofs.Common.{◌≡◌, ◌≢◌, ◌⊎◌, inl, inr, ℕ, ◌<◌, ◌&&◌, ◌||◌, List, [], ◌∷◌, Bool, true, false, not, cond, Option, None, Some, is_none, is_some, length, find, nat_le, refl, sym, ap, ◌∙◌, subst}
 use Rattle.std.specs.List.{list_any}
 use Rattle.mach_types.specs.Kernel.Threads.{goes_on as thread_goes_on, is_running_on, is_waiting_state}
 use Rattle.mach_types.specs.declared.events.Choice.TheVariants as asked
 use Rattle.mach_types.specs.declared.limits.End.TheVariants as over
-use Rattle.mach_types.specs.declared.threads.ThreadState.TheVariants.{Ready, Running, Waiting}
-use Rattle.shared_procs.proofs.Common.{acting, apply, apply_two, cases_eq, Choice, choice_of, Done, End, ended_if, final, goes_on, half, here_two, is_of_second, is_on, is_stuck, is_take, IsFit, IsPairRunHistory, Neighbour, neighbour, on_hart, option_map, option_or, own_choice, Pair, pair_after, PairEvent, PairHistory, PairSetting, Plain, plain_over, refusal_of, refusal_two, running_on, runs_in, stand, stand_next, Thread, Threads, ThreadState}
+use Rattle.mach_types.specs.declared.threads.ThreadState.TheVariants.{Waiting}
+use Rattle.shared_procs.proofs.Common.{◌≡◌, ◌≢◌, ◌⊎◌, inl, inr, ℕ, ◌<◌, ◌&&◌, ◌||◌, List, [], ◌∷◌, Bool, true, false, not, cond, Option, None, Some, is_none, is_some, length, find, nat_le, refl, sym, ap, ◌∙◌, subst, acting, apply, apply_two, cases_eq, Choice, choice_of, Done, done_of, End, ended_if, Entry, final, goes_on, half, here_two, is_of_second, is_on, is_stuck, is_take, IsFit, IsPairRun, IsPairRunHistory, Neighbour, neighbour, on_hart, option_map, option_or, own_choice, Pair, pair_after, pair_history, PairEvent, PairHistory, PairSetting, Plain, plain_over, refusal_of, refusal_two, running_on, runs_in, stand, stand_next, Thread, Threads, ThreadState}
 use Rattle.shared_procs.proofs.EventFacts.{does_so}
-use Rattle.shared_procs.proofs.Halves.{each_half}
+use Rattle.shared_procs.proofs.Halves.{each_half, open_of}
 use Rattle.shared_procs.proofs.Refusals.{begins}
 use Rattle.shared_procs.proofs.Settled.{decided, done_fit, over_lt, own_free, settled}
 
@@ -22,19 +21,14 @@ HoldsNone m p k = runs_in m p k ≡ None → (half p m).waiting k ≡ []
 -- A STUCK PROCESS
 
 -- none of its threads runs
-not_on : (k : ℕ) (st : ThreadState) → not (is_waiting_state st) ≡ false → is_running_on k st ≡ false
-not_on k Ready is = cc
-not_on k (Running h) is = cc
-not_on k (Waiting at) is = refl
-
 none_found : (k : ℕ) (live : List Thread) → list_any thread_goes_on live ≡ false → find (is_on k) live ≡ None
 none_found k [] is = refl
-none_found k (th ∷ live) is = by (thread_goes_on th) refl (none_found k live) is
+none_found k (th ∷ live) is = by th.state is (none_found k live)
   where
-    by : (b : Bool) → thread_goes_on th ≡ b → (list_any thread_goes_on live ≡ false → find (is_on k) live ≡ None)
-        → (b || list_any thread_goes_on live) ≡ false → find (is_on k) (th ∷ live) ≡ None
-    by true goes rest none = cc
-    by false waits rest none = ap (λ b. cond b (Some th) (find (is_on k) live)) (not_on k th.state waits) ∙ rest none
+    by : (st : ThreadState) → (not (is_waiting_state st) || list_any thread_goes_on live) ≡ false
+        → (list_any thread_goes_on live ≡ false → find (is_on k) live ≡ None) → cond (is_running_on k st) (Some th) (find (is_on k) live) ≡ None
+    by (Waiting at) none rest = rest none
+    by st none rest = cc
 
 stuck_idle : (k : ℕ) (ts : Threads) → is_stuck ts ≡ true → running_on k ts ≡ None
 stuck_idle k ts is = by (nat_le 1 (length ts.live)) (list_any thread_goes_on ts.live) refl is
@@ -55,15 +49,6 @@ idle_of x k unended is =
         → running_on k x.kernel.threads ≡ None
     by true stuck runs = stuck_idle k x.kernel.threads stuck
     by false stuck runs = runs
-
-open_of : (x : Plain) → is_none (plain_over x) ≡ true → x.ended ≡ None
-open_of x goes = by x.ended refl
-  where
-    by : (o : Option End) → x.ended ≡ o → x.ended ≡ None
-    by None is = is
-    by (Some e) is =
-        let bad : false ≡ true = sym (ap (λ (o : Option End). is_none (final o x.kernel)) is) ∙ goes in
-        cc
 
 -- THE HART OF AN EVENT
 
@@ -91,7 +76,8 @@ pub record IsEvent (s : PairSetting) (before : PairHistory) (e : PairEvent) : Ty
   pub goes : goes_on (pair_after s before) e.process ≡ true
   pub free : refusal_of (own_choice (choice_of e.entry)) (here_two s (pair_after s before) e.process e.entry.hart.0) ≡ None
   pub alone : RunsOne (pair_after s before) e.entry.hart.0 → runs_in (pair_after s before) (not e.process) e.entry.hart.0 ≡ None
-  pub fit : IsFit (here_two s (pair_after s before) e.process e.entry.hart.0) e.done
+  pub fit : IsFit (here_two s (pair_after s before) e.process e.entry.hart.0)
+      (record e.done { entered = (done_of (own_choice (choice_of e.entry)) (here_two s (pair_after s before) e.process e.entry.hart.0)).entered })
   pub took_is : e.done.took ≡ is_take (own_choice (choice_of e.entry))
   pub quietly : (end : End) → e.done.ended ≡ Some end → (e.done.executed ≡ []) × (e.done.drained ≡ 0)
 
@@ -124,11 +110,6 @@ pub was_idle : (b : Bool) (o : Option ℕ) → b ≡ true → cond b o None ≡ 
 was_idle true o goes is = is
 was_idle false o goes is = cc
 
--- the threads of a process after its own event
-threads_after : (o : Option End) (h k : ℕ) (d : Done) (x : Plain) → running_on k (ended_if o (apply h d x)).kernel.threads ≡ running_on k d.kernel.threads
-threads_after None h k d x = refl
-threads_after (Some e) h k d x = refl
-
 -- the thread of a process that runs on a hart, where the process stands so
 abbrev idle_in : Plain → ℕ → Type 0
 idle_in x k = cond (is_none (plain_over x)) (running_on k x.kernel.threads) None ≡ None
@@ -154,8 +135,8 @@ module _ (s : PairSetting) (e : PairEvent) (before : PairHistory) (run : IsPairR
   stays_idle k other =
       each_half (λ q x. runs_in m q k ≡ None → idle_in x k) h p d m
       (λ none.
-      idle_either (is_none (plain_over (ended_if d.ended (apply h d (half p m))))) (running_on k (ended_if d.ended (apply h d (half p m))).kernel.threads)
-      (threads_after d.ended h k d (half p m) ∙ its.fit.others k other ∙ was_idle (goes_on m p) (running_on k (half p m).kernel.threads) its.goes none))
+      idle_either (is_none (plain_over (apply h d (half p m)))) (running_on k d.kernel.threads)
+      (its.fit.others k other ∙ was_idle (goes_on m p) (running_on k (half p m).kernel.threads) its.goes none))
       (λ none. none)
 
   one_here : (q : Bool) → runs_in m (not q) h ≡ None → RunsOne (apply_two h q d m) h
@@ -173,7 +154,7 @@ module _ (s : PairSetting) (e : PairEvent) (before : PairHistory) (run : IsPairR
   own_holds k (Some end) is none = refl
   own_holds k None is none =
       let beside : Option Neighbour = Some (neighbour s m p) in
-      let next = stand_next (stand s m p) h d beside (λ can. refl) its.lt (settled s before run.0 p its.goes) its.fit in
+      let next = stand_next (stand s m p) h _ beside (λ can. refl) its.lt (settled s before run.0 p its.goes) its.fit d.entered in
       let unended : (apply h d (half p m)).ended ≡ None = ap (λ o. option_or o (half p m).ended) is ∙ open_of (half p m) its.goes in
       (next.good h its.lt).idle k (idle_of (apply h d (half p m)) k unended none)
 
@@ -199,5 +180,8 @@ apart s (e ∷ before) run =
     }
 
 -- the stores that wait on a hart are of one process
-pub of_one_process : (m : Pair) (h : ℕ) → AreApart m → (m.first.waiting h ≡ []) ⊎ (m.second.waiting h ≡ [])
-of_one_process m h are = elim (are.one h) [ inl idle ↦ inr (are.none true h idle) | inr idle ↦ inl (are.none false h idle) ]
+pub of_one_process : (s : PairSetting) (log : List Entry) (h : ℕ) → IsPairRun s log
+    → ((half false (pair_after s (pair_history s log))).waiting h ≡ []) ⊎ ((half true (pair_after s (pair_history s log))).waiting h ≡ [])
+of_one_process s log h run =
+    let are = apart s (pair_history s log) run in
+    elim (are.one h) [ inl idle ↦ inr (are.none true h idle) | inr idle ↦ inl (are.none false h idle) ]

@@ -1,18 +1,13 @@
 -- What a process of a pair writes to the segment lies in it, where it has no page beside the segment.
-use Rattle.std.proofs.Common.{◌≡◌, ℕ, zero, suc, ◌+◌, ◌-◌, ◌/◌, ◌%◌, ◌++◌, Bool, true, false, cond, eqb, inl, inr, List, [], ◌∷◌, Option, Some, None, refl, sym, ap, ◌∙◌, subst, arith}
-use Rattle.mach_types.specs.Kernel.Pages.{Pages, permission_at}
 use Rattle.mach_types.specs.declared.events.Choice.TheVariants as asked
 use Rattle.mach_types.specs.declared.signals.TheConstants.{SIGBUS, SIGSEGV}
 use Rattle.rv_inst.specs.declared.effects.Effect.TheVariants as effect
 use Rattle.block_model.proofs.Laws.{MayEnter}
-use Rattle.shared_procs.proofs.Common.{all_stored, AllByRecursion, AllWritable, by_call, by_effect, by_outcome, call_writes, called_here, can_write, cases_lt, Choice, closing, cond_both, Done, done_drain_of, done_exec_by, done_of, each_byte, each_byte-fails, Effect, End, event_writes, false≢true, fault_by, fault_in, fetched, filter, has_handler, Here, is_call, is_in_segment, is_reserved, is_shared, is_storable, is_writable, IsGap, Neighbour, next_effect, next_fault, none_passes, or_in_segment, Outcome, outcome, outcome_of, permission_of, Plain, reached, Regs, runs, SEGMENT_AT, SEGMENT_SIZE, Store, Stored, view_of_all, waiting_below, waiting_here, Write}
+use Rattle.shared_procs.proofs.Common.{◌≡◌, ℕ, zero, suc, ◌+◌, ◌-◌, ◌/◌, ◌%◌, ◌++◌, Bool, true, false, cond, eqb, inl, inr, List, [], ◌∷◌, Option, Some, None, refl, sym, ap, ◌∙◌, subst, arith, all_stored, AllByRecursion, AllWritable, by_call, by_effect, by_outcome, call_writes, called_here, can_write, cases_lt, Choice, closing, cond_both, Done, done_drain_of, done_exec_by, done_of, each_byte, each_byte-fails, Effect, End, event_writes, false≢true, fault_by, fault_in, fetched, filter, has_handler, Here, is_call, is_in_segment, is_reserved, is_shared, is_storable, is_writable, Neighbour, next_effect, next_fault, or_in_segment, Outcome, outcome, outcome_of, Plain, reached, Regs, runs, SEGMENT_AT, SEGMENT_SIZE, Store, Stored, view_of_all, waiting_below, waiting_here, Write, Pages, permission_at}
 use Rattle.shared_procs.proofs.Entered.{shared_both, stored_app}
+use Rattle.shared_procs.proofs.PairEvents.{IsClear, hidden_writes}
 use Rattle.shared_procs.proofs.PrivateReservations.{IsInside}
-use Rattle.shared_procs.proofs.Segments.{inside_from, inside_gap, inside_to}
-
--- no page lies in the gap, in the middle of which the segment is
-abbrev pub IsClear : Pages → Type 0
-IsClear p = (n : ℕ) → IsGap n → permission_of p.runs n ≡ None
+use Rattle.shared_procs.proofs.Segments.{inside_from, inside_to}
 
 abbrev pub AreInside : List Write → Type 0
 AreInside ws = AllByRecursion IsInside (filter is_shared ws)
@@ -55,20 +50,10 @@ module _ (p : Pages) (clear : IsClear p) (other : Neighbour) where
       by true is rest = (store_inside w may.0 is, rest)
       by false is rest = rest
 
--- the kernel writes on pages alone, of which none lies in the segment; an instruction, where it makes no
--- fault
+-- the kernel writes on pages alone, of which none lies in the segment; an instruction, where it makes no fault
 module _ (here : Here) (clear : IsClear here.kernel.pages) where
-  on_page : (a : ℕ) → is_writable here a ≡ true → is_in_segment a ≡ false
-  on_page a may = by (is_in_segment a) refl
-    where
-      by : (b : Bool) → is_in_segment a ≡ b → b ≡ false
-      by false is = refl
-      by true is = absurd (false≢true (sym (ap can_write (clear (a / 4096) (inside_gap a is))) ∙ may))
-
   pub kernel_inside : (ws : List Write) → AllWritable (is_writable here) ws → AreInside ws
-  kernel_inside ws all =
-      subst (AllByRecursion IsInside)
-      (sym (none_passes (is_writable here) is_shared (λ w may. on_page w.at may) (λ at count. refl) ws all)) tt
+  kernel_inside ws all = subst (AllByRecursion IsInside) (sym (hidden_writes here clear ws all)) tt
 
   -- AN INSTRUCTION
 

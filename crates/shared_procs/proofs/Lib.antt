@@ -6,7 +6,6 @@ mod Halves
 mod HartsApart
 mod InsideWrites
 mod OthersEvents
-mod OwnEntryExamples
 mod OwnRuns
 mod OwnSteps
 mod PairCalls
@@ -18,11 +17,9 @@ mod PairExamples
 mod PairInstructions
 mod PairMemory
 mod PairPremises
-mod PairStepped
 mod PairSteps
 mod PairTargets
 mod PairTies
-mod PairWrites
 mod PrivateReservations
 mod Refusals
 mod SameCalls

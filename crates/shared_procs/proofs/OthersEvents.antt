@@ -1,25 +1,18 @@
 -- Whose an entry of a pair run is. An event that isn't a process's own, another process's or a take of an
 -- idle hart, leaves it alike.
-use Rattle.std.proofs.Common.{◌≡◌, ◌≢◌, inl, inr, ℕ, Bool, true, false, not, cond, [], ◌∷◌, Option, Some, None, is_some, refl, sym, ap, ◌∙◌, subst}
 use Rattle.mach_types.specs.declared.events.Kind.TheVariants as kind
 use Rattle.mach_types.specs.declared.events.Why.TheVariants.{NoStore}
 use Rattle.block_model.specs.Events.Drain.{refusal_drain_of}
 use Rattle.block_model.specs.Events.Preempt.{refusal_preempt_by}
 use Rattle.block_model.specs.Events.Signal.{refusal_signal_by}
-use Rattle.shared_procs.specs.OwnEntries.{belongs_by}
-use Rattle.shared_procs.proofs.Common.{acting, apply, belongs, Choice, choice_of, choice_with, Done, done_as, done_of, done_take_by, ended_if, Entry, false≢true, filter, goes_on, half, Here, here_two, Idle, is_of_process, is_of_second, is_shared, IsPairRunHistory, Kind, kind_of, on_hart, only_took, own_choice, Pair, pair_after, PairEvent, PairHistory, PairSetting, refusal_done_by, refusal_exec_by, refusal_of, running_on, runs, runs_in, stand, waiting_here}
-use Rattle.shared_procs.proofs.Halves.{each_half}
+use Rattle.shared_procs.proofs.Common.{◌≡◌, ◌≢◌, inl, inr, ℕ, Bool, true, false, not, cond, [], ◌∷◌, Option, Some, None, is_some, refl, sym, ap, ◌∙◌, subst, acting, apply, belongs, Choice, choice_of, choice_with, Done, done_as, done_of, done_take_by, ended_if, Entry, false≢true, filter, goes_on, half, Here, here_two, Idle, is_of_process, is_of_second, is_shared, IsPairRunHistory, Kind, kind_of, on_hart, only_took, own_choice, Pair, pair_after, PairEvent, PairHistory, PairSetting, refusal_done_by, refusal_exec_by, refusal_of, running_on, runs, runs_in, stand, waiting_here, belongs_by}
+use Rattle.shared_procs.proofs.Halves.{by_process, each_half}
 use Rattle.shared_procs.proofs.HartsApart.{RunsOne, apart, event_of, was_idle}
 use Rattle.shared_procs.proofs.InsideWrites.{AreInside}
 use Rattle.shared_procs.proofs.OwnSteps.{closed, others_stay, own_state, takes_alone}
 use Rattle.shared_procs.proofs.SameEvents.{is_run}
 
 -- WHOSE AN ENTRY IS
-
-pub by_process : (p q : Bool) → is_of_process p q ≡ true → q ≡ p
-by_process true q is = is
-by_process false false is = refl
-by_process false true is = absurd (false≢true is)
 
 itself : (p : Bool) → is_of_process p p ≡ true
 itself true = refl

@@ -1,10 +1,8 @@
 -- Two pair runs in which a process does the same and learns the same: it is the same after them, and at each
 -- place of both where it made so many entries.
-use Rattle.std.proofs.Common.{◌≡◌, ◌≢◌, ℕ, ◌++◌, Bool, true, false, cond, List, [], ◌∷◌, Option, Some, None, append_assoc, drop, fold, is_some, length, length-append, refl, sym, ap, ◌∙◌, subst, arith}
 use Rattle.std.proofs.Math.Seq.{drop-append_seam}
-use Rattle.shared_procs.specs.OwnEntries.{own_entry}
-use Rattle.shared_procs.proofs.Common.{apply_two, AreOfImages, belongs, Choice, choice_of, Done, done_as, done_of, Entry, event_two, fold-append, half, here_in_plain, here_two, IsPairRun, IsPairRunHistory, IsSameProcess, learnt_of, neighbour, own_choice, own_entries, OwnEntry, Pair, pair_after, pair_history, pair_start, PairEvent, PairHistory, PairSetting, Plain, plain_start, running_on, Setting, setting}
-use Rattle.shared_procs.proofs.BarrierReturns.{run_before}
+use Rattle.shared_procs.proofs.Common.{◌≡◌, ◌≢◌, ℕ, ◌++◌, Bool, true, false, cond, List, [], ◌∷◌, Option, Some, None, append_assoc, drop, is_some, length, length-append, refl, sym, ap, ◌∙◌, subst, arith, apply_two, AreOfImages, belongs, Choice, choice_of, Done, done_as, done_of, Entry, event_two, half, here_in_plain, here_two, IsPairRun, IsPairRunHistory, IsSameProcess, learnt_of, neighbour, own_choice, own_entries, OwnEntry, Pair, pair_after, pair_history, pair_start, PairEvent, PairHistory, PairSetting, Plain, plain_start, running_on, Setting, setting, own_entry}
+use Rattle.shared_procs.proofs.BarrierReturns.{goes_on_to, history_more, run_before}
 use Rattle.shared_procs.proofs.Halves.{own_half}
 use Rattle.shared_procs.proofs.HartsApart.{apart, event_of}
 use Rattle.shared_procs.proofs.OthersEvents.{kind_is, made, not_own, own_acts, own_runs}
@@ -91,27 +89,18 @@ module _ (s s' : PairSetting) (p : Bool) (m m' : Pair) (same : setting s p ≡ s
 
 -- BOTH RUNS
 
--- a history has no own entry and leaves the process as it starts, or its newest own entry is this, and leaves
--- it so
-data Newest (s : PairSetting) (p : Bool) (before : PairHistory) : Type 0 where
-  HasNone : own_entries s p before ≡ [] → own_state (half p (pair_after s before)) ≡ own_state (half p (pair_start s)) → Newest s p before
-  Has : (e : PairEvent) (past : PairHistory) → IsPairRunHistory s (e ∷ past) → belongs (pair_after s past) p e.entry ≡ true
-      → own_entries s p before ≡ own_entry s p e past ∷ own_entries s p past
-      → own_state (half p (pair_after s before)) ≡ own_state (half p (pair_after s (e ∷ past))) → Newest s p before
-
-newest : (s : PairSetting) (p : Bool) (before : PairHistory) → AreOfImages s → IsPairRunHistory s before → Newest s p before
-newest s p [] images run = HasNone refl refl
-newest s p (e ∷ before) images run = by (belongs (pair_after s before) p e.entry) refl (newest s p before images run.0)
+-- what holds after an own event, and before any other one, of the own entries and of the process, holds after each event
+own_or_not : (s : PairSetting) (p : Bool) (images : AreOfImages s) (e : PairEvent) (before : PairHistory) → IsPairRunHistory s (e ∷ before)
+    → (Q : List OwnEntry → Plain → Type 0)
+    → (belongs (pair_after s before) p e.entry ≡ true → Q (own_entry s p e before ∷ own_entries s p before) (own_state (half p (pair_after s (e ∷ before)))))
+    → Q (own_entries s p before) (own_state (half p (pair_after s before)))
+    → Q (own_entries s p (e ∷ before)) (own_state (half p (pair_after s (e ∷ before))))
+own_or_not s p images e before run Q own older = by (belongs (pair_after s before) p e.entry) refl
   where
-    listed : (own : Bool) → belongs (pair_after s before) p e.entry ≡ own
-        → own_entries s p (e ∷ before) ≡ cond own (own_entry s p e before ∷ own_entries s p before) (own_entries s p before)
-    listed own is = ap (λ b. cond b (own_entry s p e before ∷ own_entries s p before) (own_entries s p before)) is
-
-    by : (own : Bool) → belongs (pair_after s before) p e.entry ≡ own → Newest s p before → Newest s p (e ∷ before)
-    by true is older = Has e before run is (listed true is) refl
-    by false is (HasNone none left) = HasNone (listed false is ∙ none) (not_own s e before run p (lies_inside s e before images run) is ∙ left)
-    by false is (Has f past its mine own left) =
-        Has f past its mine (listed false is ∙ own) (not_own s e before run p (lies_inside s e before images run) is ∙ left)
+    by : (mine : Bool) → belongs (pair_after s before) p e.entry ≡ mine
+        → Q (cond mine (own_entry s p e before ∷ own_entries s p before) (own_entries s p before)) (own_state (half p (pair_after s (e ∷ before))))
+    by true is = own is
+    by false is = subst (Q (own_entries s p before)) (sym (not_own s e before run p (lies_inside s e before images run) is)) older
 
 module _ (s s' : PairSetting) (p : Bool) (images : AreOfImages s) (images' : AreOfImages s') (same : setting s p ≡ setting s' p) where
   abbrev Alike : PairHistory → PairHistory → Type 0
@@ -140,43 +129,36 @@ module _ (s s' : PairSetting) (p : Bool) (images : AreOfImages s) (images' : Are
       ∙ own_alike s s' p m m' same are e.entry (no_area s p before run.0) (λ other. own_runs m p e.entry e.entry.kind own other) learns waits
       ∙ ap (own_after s' p m') its ∙ sym (left_own s' e' before' p run' own')
 
-  alike_after : (own : List OwnEntry) (before before' : PairHistory) → IsPairRunHistory s before → IsPairRunHistory s' before'
-      → own_entries s p before ≡ own → own_entries s' p before' ≡ own → Alike before before'
-  alike_after [] before before' run run' is is' = by (newest s p before images run) (newest s' p before' images' run')
-    where
-      by : Newest s p before → Newest s' p before' → Alike before before'
-      by (HasNone none left) (HasNone none' left') = left ∙ start_alike ∙ sym left'
-      by (Has e past its mine list left) _ = absurd cc
-      by _ (Has e past its mine list left) = absurd cc
-  alike_after (entry ∷ own) before before' run run' is is' =
-      by (newest s p before images run) (newest s' p before' images' run') (alike_after own)
-    where
-      by : Newest s p before → Newest s' p before'
-          → ((past past' : PairHistory) → IsPairRunHistory s past → IsPairRunHistory s' past' → own_entries s p past ≡ own → own_entries s' p past' ≡ own → Alike past past')
-          → Alike before before'
-      by (HasNone none left) _ older = absurd cc
-      by _ (HasNone none left) older = absurd cc
-      by (Has e past run mine list left) (Has e' past' run' mine' list' left') older =
-          let first : own_entry s p e past ≡ own_entry s' p e' past' = cc in
-          let rest : own_entries s p past ≡ own = cc in
-          let rest' : own_entries s' p past' ≡ own = cc in
-          left ∙ both_own e e' past past' run run' mine mine' first (older past past' run.0 run'.0 rest rest') ∙ sym left'
+  -- a run without own entries
+  none_own : (before' : PairHistory) → IsPairRunHistory s' before' → [] ≡ own_entries s' p before' → Alike [] before'
+  none_own [] run' = λ is. start_alike
+  none_own (e' ∷ before') run' =
+      own_or_not s' p images' e' before' run' (λ own x. [] ≡ own → own_state (half p (pair_start s)) ≡ x) (λ mine is. absurd (cc)) (none_own before' run'.0)
+
+  -- one whose newest own entry is that of e
+  newest_own : (e : PairEvent) (before : PairHistory) → IsPairRunHistory s (e ∷ before) → belongs (pair_after s before) p e.entry ≡ true
+      → ((past : PairHistory) → IsPairRunHistory s' past → own_entries s p before ≡ own_entries s' p past → Alike before past)
+      → (before' : PairHistory) → IsPairRunHistory s' before' → own_entry s p e before ∷ own_entries s p before ≡ own_entries s' p before'
+      → Alike (e ∷ before) before'
+  newest_own e before run own older [] run' = λ is. absurd cc
+  newest_own e before run own older (e' ∷ before') run' =
+      own_or_not s' p images' e' before' run'
+      (λ all x. own_entry s p e before ∷ own_entries s p before ≡ all → own_state (half p (pair_after s (e ∷ before))) ≡ x)
+      (λ mine is. both_own e e' before before' run run' own mine (cc) (older before' run'.0 (cc))) (newest_own e before run own older before' run'.0)
+
+  alike_after : (before before' : PairHistory) → IsPairRunHistory s before → IsPairRunHistory s' before'
+      → own_entries s p before ≡ own_entries s' p before' → Alike before before'
+  alike_after [] before' run run' = none_own before' run'
+  alike_after (e ∷ before) before' run run' =
+      own_or_not s p images e before run (λ own x. own ≡ own_entries s' p before' → x ≡ own_state (half p (pair_after s' before')))
+      (λ own. newest_own e before run own (λ past. alike_after before past run.0) before' run') (alike_after before before' run.0 run')
 
   pub is_the_same : (before before' : PairHistory) → IsPairRunHistory s before → IsPairRunHistory s' before'
       → own_entries s p before ≡ own_entries s' p before' → IsSameProcess (half p (pair_after s before)) (half p (pair_after s' before'))
   is_the_same before before' run run' is =
-      same_process (half p (pair_after s before)) (half p (pair_after s' before'))
-      (alike_after (own_entries s' p before') before before' run run' is refl)
+      same_process (half p (pair_after s before)) (half p (pair_after s' before')) (alike_after before before' run run' is)
 
 -- AT EACH PLACE
-
--- the history after more entries
-abbrev goes_on_to : PairSetting → PairHistory → List Entry → PairHistory
-goes_on_to s past later = fold (λ (before : PairHistory) (e : Entry). event_two s before e ∷ before) past later
-
-history_more : (s : PairSetting) (log later : List Entry) → pair_history s (log ++ later) ≡ goes_on_to s (pair_history s log) later
-unfolding pair_history
-history_more s log later = fold-append (λ (before : PairHistory) (e : Entry). event_two s before e ∷ before) [] log later
 
 -- the own entries of a beginning are the oldest ones
 abbrev AreOldest : List OwnEntry → List OwnEntry → Type 0

@@ -1,7 +1,7 @@
 -- What of a process in a pair hangs on its own entries, and what an event leaves of it: an own one, one of
 -- the other process, and one of none.
-use Rattle.std.proofs.Common.{◌≡◌, ◌≢◌, ℕ, zero, suc, ◌++◌, Bool, true, false, cond, eqb, List, [], Option, Some, None, append-nil, eq-eqb, refl, sym, ap, ◌∙◌}
-use Rattle.shared_procs.proofs.Common.{all_stored, AllByRecursion, apply, aside, closing, Done, End, ended_if, eqb-true, false≢true, fun_ext, here_at, IsSameProcess, Kernel, lost_after, only_took, Plain, running_on, Stand, Store, waiting_below, Write}
+use Rattle.shared_procs.proofs.Common.{◌≡◌, ◌≢◌, ℕ, ◌++◌, Bool, true, false, cond, eqb, List, [], Option, Some, None, append-nil, eq-eqb, refl, sym, ap, ◌∙◌, all_stored, AllByRecursion, apply, aside, closing, Done, End, ended_if, eqb-true, false≢true, fun_ext, here_at, IsSameProcess, Kernel, lost_after, only_took, Plain, running_on, Stand, Store, Write}
+use Rattle.shared_procs.proofs.Halves.{below_same}
 use Rattle.shared_procs.proofs.PrivateReservations.{IsInside, private, private_after, private_twice, unhit}
 use Rattle.shared_procs.proofs.SameEvents.{own_part}
 
@@ -68,14 +68,9 @@ module _ (h : ℕ) (d : Done) (x : Plain) (others : (k : ℕ) → k ≢ h → ru
 abbrev pub closed : ℕ → Plain → Done → Done
 closed harts x d = record d { entered = d.entered ++ all_stored (closing harts x d.ended) }
 
-below_alike : (x y : Plain) → x.waiting ≡ y.waiting → (n : ℕ) → waiting_below x n ≡ waiting_below y n
-below_alike x y same zero = refl
-below_alike x y same (suc n) =
-    ap (λ ws. ws ++ x.waiting n) (below_alike x y same n) ∙ ap (λ (f : ℕ → List Store). waiting_below y n ++ f n) same
-
 closing_alike : (harts : ℕ) (x y : Plain) → x.waiting ≡ y.waiting → (o : Option End) → closing harts x o ≡ closing harts y o
 closing_alike harts x y same None = refl
-closing_alike harts x y same (Some e) = below_alike x y same harts
+closing_alike harts x y same (Some e) = below_same x y (λ k. ap (λ (f : ℕ → List Store). f k) same) harts
 
 pub closed_alike : (harts : ℕ) (d e : Done) (x y : Plain) → own_state x ≡ own_state y → own_part d ≡ own_part e
     → own_part (closed harts x d) ≡ own_part (closed harts y e)

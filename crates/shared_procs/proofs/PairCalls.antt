@@ -1,11 +1,9 @@
 -- A call of a thread of a process of a pair that isn't answered as where the process is alone; and one that is.
-use Rattle.std.proofs.Common.{◌≡◌, ◌≢◌, ◌⊎◌, inl, inr, ℕ, ℤ, ◌%◌, ◌^◌, ◌<◌, Bool, true, false, [], Option, Some, None, get_or, w32, to_z, of_z, refl, sym, ap, ◌∙◌, arith}
 use Rattle.std.proofs.lemmas.Int.{of_z-to_z}
 use Rattle.mach_types.specs.Kernel.Barriers.{registered_after}
 use Rattle.mach_types.specs.Kernel.PairBarriers.{command_two}
 use Rattle.mach_types.specs.Kernel.Threads.{runs as runs_in}
 use Rattle.mach_types.specs.Registers.{register}
-use Rattle.mach_types.specs.declared.events.Choice.TheVariants as asked_for
 use Rattle.rv_inst.specs.declared.effects.Effect.TheVariants as effect
 use Rattle.block_model.specs.Calls.Answers.{negative, returned}
 use Rattle.block_model.specs.Kernel.{for_barriers}
@@ -15,8 +13,7 @@ use Rattle.process.proofs.PairLaws.{caller_at, done_call, done_inside}
 use Rattle.sys_calls.specs.Made.{IsAnswer, IsOwnCall, StandsSo, barrier_of, gives_up, process_end}
 use Rattle.sys_calls.specs.declared.calling.CallEnd.{CallEnd}
 use Rattle.sys_calls.proofs.CallLaws.{argument_is, begins_only_beside, int_argument_is, made_answers, made_refused}
-use Rattle.shared_procs.specs.PairPlaces.{IsOutsideCall}
-use Rattle.shared_procs.proofs.Common.{Answer, answers, argument, asked, BarrierCommand, Begin, by_call, by_effect, call_next, call_number, call_of, call_writes, called, called_here, concerned, Done, done_exec_by, done_of, Effect, ENOSYS, file_among, file_on, filter, Hart, hart_is, HartState, Here, here_at, here_two, int_argument, is_call, is_inside_here, is_shared, IsGap, IsPlace, IsPlanned, IsStep, neighbour, next_effect, Pair, PairSetting, Parts, permission_in, refused, Registered, running_harts, runs, Saved, signed_32, Stand, stand, targets, Threads, Value}
+use Rattle.shared_procs.proofs.Common.{◌≡◌, ◌≢◌, ◌⊎◌, inl, inr, ℕ, ℤ, ◌%◌, ◌^◌, ◌<◌, Bool, true, false, [], Option, Some, None, w32, to_z, of_z, refl, sym, ap, ◌∙◌, arith, Answer, answers, argument, asked, BarrierCommand, Begin, by_call, by_effect, call_next, call_number, call_of, call_writes, called, called_here, concerned, Done, done_exec_by, done_of, Effect, ENOSYS, file_among, filter, Hart, Here, here_two, int_argument, is_call, is_inside_here, is_shared, IsGap, IsPlanned, IsStep, neighbour, next_effect, Pair, PairSetting, Parts, permission_in, refused, Registered, running_harts, Saved, signed_32, stand, targets, Threads, Value, Exec, IsOutsideCall}
 use Rattle.shared_procs.proofs.PairEvents.{hidden_writes}
 
 -- 32 bits that are read as a signed number, written and read again
@@ -30,17 +27,8 @@ answers_silent : (here : Here) (t : ℕ) (a : Answer) → (answers here t a).ent
 answers_silent here t (Value n) = refl
 answers_silent here t (Begin targets restart) = refl
 
--- the registers of the thread on a hart
-file_at : (v : Stand) (m : Parts) (h : ℕ) (x : HartState) (saved : Saved) (t : ℕ) → IsPlace v m h → x ≡ get_or m.harts.items h x
-    → saved ≡ record { file = x.file; pc = x.pc } → runs (here_at v h) ≡ Some t → saved ≡ (here_at v h).file t
-file_at v m h x saved t place value saved_is at =
-    saved_is
-    ∙ ap (λ (y : HartState). let f : Saved = record { file = y.file; pc = y.pc } in f) (hart_is v m h x place value)
-    ∙ ap (file_on (here_at v h)) at
-
-pub number_read : (v : Stand) (m : Parts) (h : ℕ) (x : HartState) (saved : Saved) (n t : ℕ) → IsPlace v m h → x ≡ get_or m.harts.items h x
-    → saved ≡ record { file = x.file; pc = x.pc } → n ≡ register saved.file 17 → runs (here_at v h) ≡ Some t → n ≡ call_number (here_at v h) t
-number_read v m h x saved n t place value saved_is is at = is ∙ ap (λ (f : Saved). register f.file 17) (file_at v m h x saved t place value saved_is at)
+pub number_read : (here : Here) (t n : ℕ) (saved : Saved) → n ≡ register saved.file 17 → saved ≡ here.file t → n ≡ call_number here t
+number_read here t n saved is file = is ∙ ap (λ (f : Saved). register f.file 17) file
 
 module _ (s : PairSetting) (m : Pair) (p : Bool) (h : Hart) (mine other : Parts) (step : IsStep s m p h.0 call_next mine other) where
   abbrev here : Here
@@ -53,7 +41,7 @@ module _ (s : PairSetting) (m : Pair) (p : Bool) (h : Hart) (mine other : Parts)
   harts = s.limits.harts
 
   -- outside sequences
-  done_outside : is_inside_here here t ≡ false → done_of asked_for.Exec here ≡ by_call here (called here t)
+  done_outside : is_inside_here here t ≡ false → done_of Exec here ≡ by_call here (called here t)
   done_outside outside = done_call here t step.at (sym step.fault) (sym step.effect) outside
 
   -- MEMBARRIER
@@ -80,14 +68,11 @@ module _ (s : PairSetting) (m : Pair) (p : Bool) (h : Hart) (mine other : Parts)
       (after ∙ begins_only_beside here.kernel.barriers targets_asked set restart (asked cmd_asked (int_argument here t 1)) (sym is)))
 
   -- what was asked, by the registers
-  module _ (x : HartState) (saved : Saved) (cmd cpu : ℤ) (flags running beside many : ℕ) (value : x ≡ get_or mine.harts.items h.0 x)
-      (saved_is : saved ≡ record { file = x.file; pc = x.pc }) (cmd_is : cmd ≡ signed_32 (register saved.file 10))
-      (flags_is : flags ≡ register saved.file 11 % 2 ^ 32) (cpu_is : cpu ≡ signed_32 (register saved.file 12))
+  module _ (saved : Saved) (cmd cpu : ℤ) (flags running beside many : ℕ) (file : saved ≡ here.file t)
+      (cmd_is : cmd ≡ signed_32 (register saved.file 10)) (flags_is : flags ≡ register saved.file 11 % 2 ^ 32)
+      (cpu_is : cpu ≡ signed_32 (register saved.file 12))
       (running_is : running ≡ running_harts here.kernel.threads harts) (beside_is : beside ≡ (neighbour s m p).running) (many_is : many ≡ harts)
     where
-      file : saved ≡ here.file t
-      file = file_at (stand s m p) mine h.0 x saved t step.place value saved_is step.at
-
       cmd_same : to_z w32 (of_z w32 cmd) ≡ cmd_asked
       cmd_same = again cmd (argument here t 0) (cmd_is ∙ ap signed_32 (argument_is here t saved file 0))
 
@@ -138,16 +123,16 @@ module _ (s : PairSetting) (m : Pair) (p : Bool) (h : Hart) (mine other : Parts)
             harts = refl;
           }
 
-  pub barrier_hidden : (a : Answer) → done_of asked_for.Exec here ≡ by_call here (answers here t a) → filter is_shared (done_of asked_for.Exec here).entered ≡ []
+  pub barrier_hidden : (a : Answer) → done_of Exec here ≡ by_call here (answers here t a) → filter is_shared (done_of Exec here).entered ≡ []
   barrier_hidden a is = ap (λ (d : Done). filter is_shared d.entered) is ∙ ap (filter is_shared) (answers_silent here t a)
 
   -- RSEQ
 
-  pub rseq_called : IsOutsideCall 293 mine h.0 → (x : HartState) (saved saved' : Saved) (end : CallEnd) → x ≡ get_or mine.harts.items h.0 x
-      → saved ≡ record { file = x.file; pc = x.pc } → saved' ≡ returned (negative ENOSYS.0) saved → gives_up end ≡ false
-      → ((u : ℕ) (ts : Threads) → runs_in ts u → StandsSo end u ts) → barrier_of end ≡ None → process_end end ≡ None → IsAnswer end saved'
+  pub rseq_called : IsOutsideCall 293 mine h.0 → (saved saved' : Saved) (end : CallEnd) → saved ≡ here.file t
+      → saved' ≡ returned (negative ENOSYS.0) saved → gives_up end ≡ false → ((u : ℕ) (ts : Threads) → runs_in ts u → StandsSo end u ts)
+      → barrier_of end ≡ None → process_end end ≡ None → IsAnswer end saved'
       → IsCalled (stand s m p) h.0 mine mine end saved' [] (refused here t ENOSYS)
-  rseq_called outside x saved saved' end value saved_is after stays runs_on none ends answered =
+  rseq_called outside saved saved' end file after stays runs_on none ends answered =
       let call = outside (stand s m p) t step.place step.at in
       record {
         place = step.place;
@@ -157,7 +142,7 @@ module _ (s : PairSetting) (m : Pair) (p : Bool) (h : Hart) (mine other : Parts)
         done = done_outside call.0 ∙ ap (λ n. by_call here (call_of n here t)) call.1;
         made =
             made_refused here t h.0 mine.kernel mine.pages saved saved' ENOSYS end (refused here t ENOSYS) refl step.place.tied.tables step.place.tied.pages
-            (file_at (stand s m p) mine h.0 x saved t step.place value saved_is step.at) (caller_at (stand s m p) mine h t step.place step.at) refl after stays runs_on none ends answered;
+            file (caller_at (stand s m p) mine h t step.place step.at) refl after stays runs_on none ends answered;
         table = step.place.tied.table;
         written = refl;
         harts = refl;
@@ -187,17 +172,17 @@ module _ (s : PairSetting) (m : Pair) (p : Bool) (h : Hart) (mine other : Parts)
       either (inr out) = inr (inr (out.1, out.2))
 
   -- it begins no barrier
-  pub own_begins_none : IsOwn → (done_of asked_for.Exec here).barrier ≡ None
+  pub own_begins_none : IsOwn → (done_of Exec here).barrier ≡ None
   own_begins_none (inl inside) = ap (λ (d : Done). d.barrier) (done_inside here t step.at (sym step.fault) (sym step.effect) inside)
   own_begins_none (inr out) = ap (λ (d : Done). d.barrier) (done_outside out.0) ∙ called_begins_none here t out.1
 
   -- and the kernel writes to pages alone
-  pub own_hidden : ((n : ℕ) → IsGap n → permission_in mine.pages n ≡ None) → filter is_shared (done_of asked_for.Exec here).entered ≡ []
+  pub own_hidden : ((n : ℕ) → IsGap n → permission_in mine.pages n ≡ None) → filter is_shared (done_of Exec here).entered ≡ []
   own_hidden gap =
       ap (λ (d : Done). filter is_shared d.entered) made_here
-      ∙ hidden_writes s m p h.0 mine step.place gap (called_here here t).entered (call_writes here t)
+      ∙ hidden_writes here (λ n its. sym (step.place.tied.pages.permissions n) ∙ gap n its) (called_here here t).entered (call_writes here t)
     where
-      made_here : done_of asked_for.Exec here ≡ by_call here (called_here here t)
+      made_here : done_of Exec here ≡ by_call here (called_here here t)
       made_here =
           ap (done_exec_by here) step.at
           ∙ ap (λ (o : Option ℕ). by_effect here t o (next_effect here t)) (sym step.fault)

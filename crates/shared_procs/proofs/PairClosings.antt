@@ -1,17 +1,15 @@
 -- Both processes of a pair, and the segment, after an event: where it ended its process, with what waited on the process's harts.
-use Rattle.std.proofs.Common.{◌≡◌, ◌≢◌, ℕ, zero, suc, ◌<◌, ◌≤◌, ◌++◌, ◌||◌, Bool, true, false, not, cond, eqb, ltb, inl, inr, List, [], drop, length, append-nil, get_or, set, Option, Some, None, is_some, slice_get, refl, sym, ap, ◌∙◌, subst, arith}
 use Rattle.std.proofs.lemmas.List.{length-set}
-use Rattle.std.proofs.lemmas.Option.{slice_get_past}
+use Rattle.std.proofs.lemmas.Option.{same_Some, slice_get_past}
 use Rattle.mach_types.specs.declared.limits.End.TheVariants as over
 use Rattle.block_model.specs.Here.{writable_in}
 use Rattle.process.proofs.Laws.{get_set_other, get_set_same}
-use Rattle.process.proofs.PairLaws as losses
-use Rattle.shared_procs.specs.PairPlaces.{emptied}
-use Rattle.shared_procs.proofs.Common.{all_stored, AllByRecursion, apply, apply_two, AreBoth, AreEmptied, AreStorable, aside, can_write_in, cases_eq, cases_lt, Choice, closing, credit_of, Done, done_as, done_of, each_byte, End, ended_if, ends_by_process, filter, fit_at, fun_ext, Half, half, hart_at, hart_tied, HartState, has_ended, HaveEntered, HaveLost, here_two, HoldsPages, HoldsShared, is_in_segment, is_shared, is_stuck, IsCounted, IsPlace, IsStanding, IsTied, IsUncounted, le-ltb, lost_after, lt-ltb, MayEmpty, Neighbour, neighbour, option_map_or, option_or, or_in_segment, Pair, PairSetting, Parts, permission_in, Plain, refusal_of, Setting, setting, stand, stand_next, Store, waiting_below, writable_held, Write, written}
+use Rattle.shared_procs.proofs.Common.{◌≡◌, ◌≢◌, ℕ, suc, ◌<◌, ◌≤◌, ◌++◌, ◌||◌, Bool, true, false, not, cond, eqb, ltb, inl, inr, List, [], drop, length, append-nil, get_or, set, Option, Some, None, is_some, slice_get, refl, sym, ap, ◌∙◌, subst, arith, all_stored, AllByRecursion, apply, apply_two, AreBoth, AreEmptied, AreStorable, aside, can_write_in, cases_eq, cases_lt, Choice, closing, credit_of, Done, done_as, done_of, each_byte, End, ended_if, ends_by_process, filter, fit_at, fun_ext, Half, half, hart_at, hart_tied, HartState, has_ended, HaveEntered, HaveLost, here_two, HoldsPages, HoldsShared, is_in_segment, is_shared, is_stuck, IsCounted, IsPlace, IsStanding, IsTied, IsUncounted, le-ltb, lost_after, lt-ltb, MayEmpty, nat_tests, Neighbour, neighbour, option_map_or, option_or, or_in_segment, Pair, PairSetting, Parts, permission_in, Plain, refusal_of, Setting, setting, stand, stand_next, Store, waiting_below, writable_held, Write, written, emptied, lost_app}
 use Rattle.shared_procs.proofs.Entered.{readable_kept, shared_app, shared_both, storable_kept, stored_app, written_app}
 use Rattle.shared_procs.proofs.EventFacts.{does_so}
 use Rattle.shared_procs.proofs.PairEnds.{ended_tells}
 use Rattle.shared_procs.proofs.TiedAlike.{tied_as}
+use Rattle.shared_procs.proofs.Halves.{below_same, open_so_far}
 
 -- WHAT WAITS MAY ENTER MEMORY
 
@@ -24,7 +22,7 @@ may_empty s x o m stands tied k z at =
           let all = tied.all_harts in
           let lt : k < s.limits.harts = omega (arith, listed, all) in
           let own : z ≡ hart_at s x k (credit_of m.harts.items k) =
-          same_some z (hart_at s x k (credit_of m.harts.items k)) (sym at ∙ tied.harts k lt) in
+          same_Some z (hart_at s x k (credit_of m.harts.items k)) (sym at ∙ tied.harts k lt) in
           let buffer : z.buffer ≡ x.waiting k = ap (λ (y : HartState). y.buffer) own in
           let storable_by : (ℕ → Bool) → ℕ → Bool = λ test a. is_in_segment a || test a in
           let can : storable_by (can_write_in m.pages) ≡ or_in_segment (Some o) (writable_in x.kernel) =
@@ -34,18 +32,11 @@ may_empty s x o m stands tied k z at =
           ((stands.good k lt).within k))
       | inr past ↦ let none : None ≡ Some z = sym (slice_get_past m.harts.items k past) ∙ at in absurd cc
     ]
-  where
-    same_some : (a b : HartState) → Some a ≡ Some b → a ≡ b
-    same_some a b is = cc
 
 -- A HART
 
 lt_suc_other : (k n : ℕ) → k ≢ n → ltb k (suc n) ≡ ltb k n
-lt_suc_other k n ne =
-    elim (cases_lt k n) [
-      | inl lt ↦ lt-ltb k (suc n) (omega arith) ∙ sym (lt-ltb k n lt)
-      | inr le ↦ le-ltb k (suc n) (omega (arith, ne)) ∙ sym (le-ltb k n le)
-    ]
+lt_suc_other k n ne = grind (arith, nat_tests, ne)
 
 -- the harts of a list, with their own credits
 listed : (s : Setting) (x : Plain) (k c : ℕ) (ys : List HartState) → slice_get ys k ≡ Some (hart_at s x k c)
@@ -141,7 +132,7 @@ module _ (s : PairSetting) (p : Bool) (n : ℕ) (x y : Plain) (shared : ℕ → 
       beside =
           subst (λ (r : ℕ → Option ℕ). IsTied (setting s (not p)) (record y { reserved = r }) other')
           (fun_ext (λ k.
-          losses.lost_app (seen (waiting_below x n)) (seen z.buffer) (y.reserved k) ∙ ap (λ (ws : List Write). lost_after ws (y.reserved k)) seen_more))
+          lost_app (seen (waiting_below x n)) (seen z.buffer) (y.reserved k) ∙ ap (λ (ws : List Write). lost_after ws (y.reserved k)) seen_more))
           (lost (setting s (not p)) (record y { reserved = λ k. lost_after (seen (waiting_below x n)) (y.reserved k) }) was.beside);
       holds = λ a is.
           entered.shared (λ b. written (seen (waiting_below x n)) b (shared b)) was.holds a is
@@ -161,7 +152,7 @@ may_still mine mine' n z may harts there same k w at =
           ∙ get_set_same mine.harts.items n z (record z { buffer = []; reserved = None; waits = None }) there in
           let is : Some w ≡ Some (record z { buffer = []; reserved = None; waits = None }) =
           sym at ∙ ap (slice_get mine'.harts.items) own ∙ now in
-          let none : [] ≡ w.buffer = ap (buffer_of w.buffer) (sym is) in
+          let none : [] ≡ w.buffer = sym (ap (λ (y : HartState). y.buffer) (same_Some w (record z { buffer = []; reserved = None; waits = None }) is)) in
           subst (AreStorable mine'.pages) none tt
       | inr ne ↦
           storable_kept mine.pages mine'.pages w.buffer same
@@ -171,10 +162,6 @@ may_still mine mine' n z may harts there same k w at =
           ∙ get_set_other mine.harts.items n k (record z { buffer = []; reserved = None; waits = None }) ne)
           ∙ at))
     ]
-  where
-    buffer_of : List Store → Option HartState → List Store
-    buffer_of ws None = ws
-    buffer_of ws (Some y) = y.buffer
 
 -- THE PROCESS
 
@@ -184,15 +171,6 @@ tells : (o q : Option End) (stuck : Bool) → q ≡ None → o ≢ Some over.Stu
 tells None q stuck none fine =
     ap (λ (r : Option End). has_ended (option_or r (cond stuck (Some over.Stuck) None))) none ∙ ended_tells None stuck (λ is. absurd cc)
 tells (Some e) q stuck none fine = ended_tells (Some e) stuck fine
-
--- no process goes on that an event ended
-open_so_far : (o rest : Option End) → option_or o rest ≡ None → o ≡ None
-open_so_far None rest goes = refl
-open_so_far (Some e) rest goes = cc
-
-below_same : (x y : Plain) → ((k : ℕ) → x.waiting k ≡ y.waiting k) → (n : ℕ) → waiting_below x n ≡ waiting_below y n
-below_same x y same zero = refl
-below_same x y same (suc n) = λ i. below_same x y same n i ++ same n i
 
 -- both after an event
 both_after : (s : PairSetting) (m : Pair) (p : Bool) (h : ℕ) (d : Done) (mine other : Half) (segment : List ℕ)
@@ -222,7 +200,7 @@ module _ (s : PairSetting) (m : Pair) (p : Bool) (h : ℕ) (c : Choice) (mine mi
     pub may_then : MayEmpty mine2
     may_then =
         may_empty (setting s p) x (neighbour s m p) mine2
-        (stand_next (stand s m p) h d (Some (neighbour s m p)) (λ can. refl) place.lt place.stands (fit_at (stand s m p) mine h c place free)) tied_then
+        (stand_next (stand s m p) h d (Some (neighbour s m p)) (λ can. refl) place.lt place.stands (fit_at (stand s m p) mine h c place free) d.entered) tied_then
 
     pub few_then : length mine2.harts.items ≤ 8
     few_then = let all = tied_then.all_harts in let few = place.limits.eight_harts in omega (arith, all, few)
@@ -288,7 +266,7 @@ module _ (s : PairSetting) (m : Pair) (p : Bool) (h : ℕ) (c : Choice) (mine mi
             ∙ ap (λ (ws : List Store). written (d.entered ++ all_stored ws) a (q.byte a)) left))))
             (subst (λ (r : ℕ → Option ℕ). IsTied (setting s (not p)) (record y { reserved = r }) other3.parts)
             (fun_ext (λ k.
-            losses.lost_app (filter is_shared d.entered) (filter is_shared (all_stored (waiting_below x harts))) ((half (not p) m).reserved k)
+            lost_app (filter is_shared d.entered) (filter is_shared (all_stored (waiting_below x harts))) ((half (not p) m).reserved k)
             ∙ ap (λ (ws : List Write). lost_after ws ((half (not p) m).reserved k)) seen))
             now.beside)
             (λ a inside.

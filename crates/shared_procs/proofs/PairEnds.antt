@@ -1,8 +1,7 @@
 -- How the processes of a pair end: an event ends a process by its exit or by a signal. So what is kept of a process tells whether an
 -- event ended it, or no thread of it can go on.
-use Rattle.std.proofs.Common.{◌≡◌, ◌≢◌, Bool, true, false, not, ◌&&◌, cond, [], ◌∷◌, Option, Some, None, is_some, refl, sym, ap, ◌∙◌, subst}
 use Rattle.mach_types.specs.declared.limits.End.TheVariants as over
-use Rattle.shared_procs.proofs.Common.{acting, apply, choice_of, End, ended_if, ends_by_process, Entry, event_two, half, has_ended, here_two, is_stuck, IsPairRunHistory, option_or, own_choice, Pair, pair_after, PairEvent, PairHistory, PairSetting, Plain, plain_over, state_of_end}
+use Rattle.shared_procs.proofs.Common.{◌≡◌, ◌≢◌, Bool, true, false, not, ◌&&◌, cond, [], ◌∷◌, Option, Some, None, is_some, refl, sym, ap, ◌∙◌, subst, acting, apply, choice_of, End, ended_if, ends_by_process, Entry, event_two, half, has_ended, here_two, is_stuck, IsPairRunHistory, option_or, own_choice, Pair, pair_after, PairEvent, PairHistory, PairSetting, Plain, plain_over, state_of_end}
 use Rattle.shared_procs.proofs.Halves.{each_half}
 
 -- no event ended it as one that is stuck
@@ -12,10 +11,6 @@ NotStuck o = o ≢ Some over.Stuck
 either_end : (o p : Option End) → NotStuck o → NotStuck p → NotStuck (option_or o p)
 either_end None p first later = later
 either_end (Some e) p first later = first
-
-kept_by_end : (o : Option End) (m : Plain) → NotStuck m.ended → NotStuck (ended_if o m).ended
-kept_by_end None m fine = fine
-kept_by_end (Some e) m fine = fine
 
 done_ends : (s : PairSetting) (before : PairHistory) (e : Entry) → NotStuck (event_two s before e).done.ended
 done_ends s before e =
@@ -29,8 +24,7 @@ never_stuck s (e ∷ before) run p =
     let m = pair_after s before in
     let fine : NotStuck e.done.ended = subst (λ (x : PairEvent). NotStuck x.done.ended) (sym run.2) (done_ends s before e.entry) in
     each_half (λ q x. NotStuck x.ended) e.entry.hart.0 e.process e.done m
-    (kept_by_end e.done.ended (apply e.entry.hart.0 e.done (half e.process m))
-    (either_end e.done.ended (half e.process m).ended fine (never_stuck s before run.0 e.process)))
+    (either_end e.done.ended (half e.process m).ended fine (never_stuck s before run.0 e.process))
     (never_stuck s before run.0 (not e.process)) p
 
 -- what is kept of it

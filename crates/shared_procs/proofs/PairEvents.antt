@@ -1,8 +1,6 @@
 -- What an event of one process of a pair leaves of both, and of the segment.
-use Rattle.std.proofs.Common.{◌≡◌, ℕ, ◌/◌, Bool, true, false, not, List, [], None, refl, sym, ap, ◌∙◌, subst}
 use Rattle.process.proofs.PairLaws.{IsMade, uncounted}
-use Rattle.shared_procs.specs.PairPlaces.{AreUnshared}
-use Rattle.shared_procs.proofs.Common.{AllWritable, AreMade, aside, can_write_in, Choice, counted, Done, done_of, false≢true, filter, fit_at, Half, half, HartState, here_two, HoldsShared, is_in_segment, is_shared, is_writable, IsFit, IsGap, IsPlace, IsTied, IsUncounted, may_write, none_passes, Pair, PairSetting, Parts, permission_in, refusal_of, setting, stand, writable_held, Write, written}
+use Rattle.shared_procs.proofs.Common.{◌≡◌, ℕ, ◌/◌, Bool, true, false, not, List, [], None, refl, sym, ap, ◌∙◌, subst, AllWritable, AreMade, aside, can_write, Choice, counted, Done, done_of, false≢true, filter, fit_at, Half, half, HartState, Here, here_two, HoldsShared, is_in_segment, is_shared, is_writable, IsFit, IsGap, IsPlace, IsTied, IsUncounted, none_passes, Pair, PairSetting, Parts, permission_of, refusal_of, setting, stand, Write, written, AreUnshared, Pages}
 use Rattle.shared_procs.proofs.Segments.{inside_gap}
 
 module _ (s : PairSetting) (m : Pair) (p : Bool) (h : ℕ) where
@@ -47,21 +45,19 @@ module _ (s : PairSetting) (m : Pair) (p : Bool) (h : ℕ) where
     others = others;
   }
 
-  -- no byte that the process can write on its pages lies in the segment
-  module _ (mine : Parts) (place : IsPlace (stand s m p) mine h) (gap : (n : ℕ) → IsGap n → permission_in mine.pages n ≡ None) where
-    outside_segment : (a : ℕ) → is_writable (here_two s m p h) a ≡ true → is_in_segment a ≡ false
-    outside_segment a may = by (is_in_segment a) refl
-      where
-        by : (b : Bool) → is_in_segment a ≡ b → b ≡ false
-        by false is = refl
-        by true is =
-            let can : can_write_in mine.pages a ≡ true =
-            ap (λ (test : ℕ → Bool). test a)
-            (writable_held (half p m).kernel (setting s p).program.break_at (half p m).byte mine.pages place.tied.pages place.tied.readable)
-            ∙ may in
-            absurd (false≢true (sym (ap may_write (gap (a / 4096) (inside_gap a is))) ∙ can))
+-- no page lies in the gap, in the middle of which the segment is
+abbrev pub IsClear : Pages → Type 0
+IsClear p = (n : ℕ) → IsGap n → permission_of p.runs n ≡ None
 
-    -- so what the kernel writes there isn't shared
-    pub hidden_writes : (ws : List Write) → AllWritable (is_writable (here_two s m p h)) ws → filter is_shared ws ≡ []
-    hidden_writes ws all =
-        none_passes (is_writable (here_two s m p h)) is_shared (λ w may. outside_segment w.at may) (λ at count. refl) ws all
+-- so no byte that can be written on a page lies in the segment
+module _ (here : Here) (clear : IsClear here.kernel.pages) where
+  on_page : (a : ℕ) → is_writable here a ≡ true → is_in_segment a ≡ false
+  on_page a may = by (is_in_segment a) refl
+    where
+      by : (b : Bool) → is_in_segment a ≡ b → b ≡ false
+      by false is = refl
+      by true is = absurd (false≢true (sym (ap can_write (clear (a / 4096) (inside_gap a is))) ∙ may))
+
+  -- and what the kernel writes there isn't shared
+  pub hidden_writes : (ws : List Write) → AllWritable (is_writable here) ws → filter is_shared ws ≡ []
+  hidden_writes ws all = none_passes (is_writable here) is_shared (λ w may. on_page w.at may) (λ at count. refl) ws all

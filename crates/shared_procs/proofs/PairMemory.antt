@@ -1,8 +1,7 @@
 -- Memory as the instructions of a process of a pair reach it, where the process is kept as at a place; and the pages of the segment.
-use Rattle.std.proofs.Common.{◌≡◌, ℕ, ◌+◌, ◌/◌, ◌||◌, Bool, true, false, cond, inl, inr, List, Option, Some, arith, refl, sym, ap, subst}
 use Rattle.process.specs.ExecGates.{AreOfSegment}
 use Rattle.process.proofs.Laws.{bytes_held}
-use Rattle.shared_procs.proofs.Common.{AllByRecursion, AreStorable, byte_in, cases_lt, each_byte, fun_ext, Half, half, here_two, is_in_segment, is_storable, IsActing, le-leb, le-ltb, lt-leb, lt-ltb, memory, Neighbour, Pair, PairSetting, reached, reached_in, SEGMENT_AT, SEGMENT_SIZE, setting, shared_in, storable_in, Store, writable_held}
+use Rattle.shared_procs.proofs.Common.{◌≡◌, ℕ, ◌||◌, Bool, true, false, cond, List, Option, Some, arith, refl, sym, ap, subst, AllByRecursion, AreStorable, byte_in, each_byte, fun_ext, Half, half, here_two, is_in_segment, is_storable, IsActing, memory, nat_tests, Neighbour, Pair, PairSetting, reached, reached_in, setting, shared_in, storable_in, Store, writable_held}
 
 module _ (s : PairSetting) (m : Pair) (p : Bool) (h : ℕ) (mine : Half) (segment : List ℕ) (acting : IsActing s m p h mine segment) where
   pub reached_is : reached_in segment mine.parts.pages ≡ reached (here_two s m p h)
@@ -23,27 +22,7 @@ module _ (s : PairSetting) (m : Pair) (p : Bool) (h : ℕ) (mine : Half) (segmen
 
 -- the segment lies on 16 pages
 pub segment_pages : (o : Neighbour) → AreOfSegment (Some o) (record { first = 0x3FFFF80; count = 16 })
-segment_pages o a =
-    elim (cases_lt a SEGMENT_AT) [
-      | inl low ↦ rw (lt-leb SEGMENT_AT a low, lt-leb 0x3FFFF80 (a / 4096) (omega arith)) refl
-      | inr from ↦
-          elim (cases_lt a (SEGMENT_AT + SEGMENT_SIZE)) [
-            | inl inside ↦
-                rw (
-                  le-leb SEGMENT_AT a from,
-                  lt-ltb a (SEGMENT_AT + SEGMENT_SIZE) inside,
-                  le-leb 0x3FFFF80 (a / 4096) (omega arith),
-                  lt-ltb (a / 4096) (0x3FFFF80 + 16) (omega arith),
-                ) refl
-            | inr past ↦
-                rw (
-                  le-leb SEGMENT_AT a from,
-                  le-ltb a (SEGMENT_AT + SEGMENT_SIZE) past,
-                  le-leb 0x3FFFF80 (a / 4096) (omega arith),
-                  le-ltb (a / 4096) (0x3FFFF80 + 16) (omega arith),
-                ) refl
-          ]
-    ]
+segment_pages o a = grind (arith, nat_tests)
 
 -- what waits on a hart may enter memory
 pub waiting_may : (s : PairSetting) (m : Pair) (p : Bool) (h : ℕ) (mine : Half) (segment : List ℕ) → IsActing s m p h mine segment → (k : ℕ)

@@ -1,21 +1,17 @@
 -- What holds at each place of a pair run of two images: no page lies in the gap and no thread has an area; so
 -- what one process writes to the segment lies in it.
-use Rattle.std.proofs.Common.{◌≡◌, Bool, true, false, not, [], ◌∷◌, Option, Some, None, refl, sym, ap, ◌∙◌, subst, arith}
 use Rattle.elf_load.specs.Start.{start_runs}
 use Rattle.block_model.specs.Layouts.{IsLaidOut}
 use Rattle.block_model.proofs.Laws.{IsPaged, loaded_is_laid_out, no_area_after, none_in_gap, paged_start}
-use Rattle.shared_procs.proofs.Common.{all_stored, apply, AreOfImages, choice_of, closing, Done, done_of, End, ended_if, half, here_two, IsPairRunHistory, Kernel, neighbour, own_choice, pair_after, pair_start, PairEvent, PairHistory, PairSetting, permission_of, Plain, Program, setting}
+use Rattle.shared_procs.proofs.Common.{◌≡◌, Bool, true, false, not, [], ◌∷◌, Option, Some, None, refl, sym, ap, ◌∙◌, subst, arith, all_stored, apply, AreOfImages, choice_of, closing, Done, done_of, End, ended_if, half, here_two, IsPairRunHistory, Kernel, neighbour, own_choice, pair_after, pair_start, PairEvent, PairHistory, PairSetting, permission_of, Plain, Program, setting}
 use Rattle.shared_procs.proofs.Halves.{each_half}
 use Rattle.shared_procs.proofs.HartsApart.{event_of}
-use Rattle.shared_procs.proofs.InsideWrites.{AreInside, IsClear, closing_inside, done_inside, inside_both}
+use Rattle.shared_procs.proofs.InsideWrites.{AreInside, closing_inside, done_inside, inside_both}
 use Rattle.shared_procs.proofs.OthersEvents.{made}
+use Rattle.shared_procs.proofs.PairEvents.{IsClear}
 use Rattle.shared_procs.proofs.Settled.{settled, standing_of}
 
 -- NO AREA, AND NO PAGE BESIDE THE SEGMENT
-
-kernel_ended : (o : Option End) (x : Plain) → (ended_if o x).kernel ≡ x.kernel
-kernel_ended None x = refl
-kernel_ended (Some e) x = refl
 
 -- what an event keeps of its process's record holds of both at each place
 module _ (s : PairSetting) (P : Bool → Kernel → Type 0) (start : (q : Bool) → P q (half q (pair_start s)).kernel)
@@ -26,9 +22,7 @@ module _ (s : PairSetting) (P : Bool → Kernel → Type 0) (start : (q : Bool) 
   at_each (e ∷ before) run q =
       let m = pair_after s before in
       let was = at_each before run.0 in
-      let ended = kernel_ended e.done.ended (apply e.entry.hart.0 e.done (half e.process m)) in
-      each_half (λ r x. P r x.kernel) e.entry.hart.0 e.process e.done m (subst (P e.process) (sym ended) (keeps e before run (was e.process)))
-      (was (not e.process)) q
+      each_half (λ r x. P r x.kernel) e.entry.hart.0 e.process e.done m (keeps e before run (was e.process)) (was (not e.process)) q
 
 pub no_area : (s : PairSetting) (p : Bool) (before : PairHistory) → IsPairRunHistory s before → (half p (pair_after s before)).kernel.areas ≡ []
 no_area s p before run =

@@ -1,10 +1,7 @@
 -- The harts that a barrier of a pair is about are others than its own, and a thread of either process ran on each of them where it was
 -- called.
-use Rattle.std.proofs.Common.{◌≡◌, ◌≢◌, ◌⊎◌, inl, inr, ℕ, ◌++◌, [], ◌∷◌, Bool, true, false, not, cond, ltb, Option, Some, None, is_some, sym, ap, ◌∙◌, subst}
-use Rattle.std.proofs.lemmas.Bool.{and_parts}
 use Rattle.mach_types.proofs.Laws.{has_hart-harts_that}
-use Rattle.shared_procs.specs.ReturningBarriers.{IsBusy}
-use Rattle.shared_procs.proofs.Common.{Barrier, begun_by, false≢true, goes_on, half, has_hart, IsPairRunHistory, neighbour, Pair, pair_after, PairBegun, PairEvent, PairHistory, PairSetting, running_harts, running_on, runs_in, Threads}
+use Rattle.shared_procs.proofs.Common.{◌≡◌, ◌≢◌, ◌⊎◌, inl, inr, ℕ, ◌++◌, [], ◌∷◌, List, Bool, true, false, not, cond, ltb, Option, Some, None, is_some, sym, ap, ◌∙◌, subst, Barrier, begun_by, false≢true, Entry, goes_on, half, has_hart, IsPairRun, IsPairRunHistory, neighbour, Pair, pair_after, pair_history, PairBegun, PairEvent, PairHistory, PairSetting, running_harts, running_on, runs_in, Threads, IsBusy, and_parts}
 use Rattle.shared_procs.proofs.BarrierReturns.{is_called, none_left}
 use Rattle.shared_procs.proofs.HartsApart.{event_of, was_idle}
 
@@ -50,10 +47,10 @@ run_at : (s : PairSetting) (since : PairHistory) (e : PairEvent) (before : PairH
 run_at s [] e before run = run
 run_at s (x ∷ since) e before run = run_at s since e before run.0
 
-pub about_others : (s : PairSetting) (before : PairHistory) (p : Bool) (h k : ℕ) (b : PairBegun) → IsPairRunHistory s before → begun_by p h before ≡ Some b
-    → has_hart b.barrier.targets k ≡ true → (k ≢ h) × IsBusy (pair_after s b.call) k
-about_others s before p h k b run is has =
-    let at = is_called p h before b is in
+pub about_others : (s : PairSetting) (log : List Entry) (p : Bool) (h k : ℕ) (b : PairBegun) → IsPairRun s log
+    → begun_by p h (pair_history s log) ≡ Some b → has_hart b.barrier.targets k ≡ true → (k ≢ h) × IsBusy (pair_after s b.call) k
+about_others s log p h k b run is has =
+    let at = is_called p h (pair_history s log) b is in
     let to = run_at s at.0 at.1 b.call (subst (IsPairRunHistory s) at.2 run) in
     let both = about_now s at.1 b.call b.barrier k to at.5 has in
     (λ same. both.0 (same ∙ sym at.4), both.1)

@@ -1,9 +1,8 @@
 -- A pair at its start, and what the parts of a process tell of it.
-use Rattle.std.proofs.Common.{◌≡◌, ℕ, ◌<◌, Bool, true, false, not, ◌&&◌, cond, List, [], Option, Some, None, is_none, is_some, get_or, refl, sym, ap, ◌∙◌, subst}
 use Rattle.elf_load.specs.Start.{program_of}
 use Rattle.elf_load.specs.declared.image.Image.{Image}
 use Rattle.block_model.specs.Setting.{setting_of}
-use Rattle.shared_procs.proofs.Common.{AreTied, hart_tied, HartState, IsPairRun, IsTied, Limits, option_map, pair_after, pair_history, PairSetting, Parts, Plain, plain_over, plain_start, Program, running_on, Setting, setting, shared_in, thread}
+use Rattle.shared_procs.proofs.Common.{◌≡◌, ℕ, ◌<◌, Bool, true, false, not, List, [], Option, Some, None, is_some, get_or, refl, sym, ap, ◌∙◌, subst, AreTied, hart_tied, HartState, IsPairRun, IsTied, Limits, option_map, pair_after, pair_history, PairSetting, Parts, Plain, plain_start, Program, running_on, Setting, setting, shared_in, thread}
 
 -- no entry is a pair run
 pub run_start : (s : PairSetting) → IsPairRun s []
@@ -32,18 +31,9 @@ not_idle : (o : Option ℕ) → not (not (is_some (option_map thread o))) ≡ is
 not_idle None = refl
 not_idle (Some t) = refl
 
-pub runs_tell : (s : Setting) (p : Plain) (m : Parts) (h : ℕ) (x : HartState) (goes idle : Bool) → IsTied s p m → h < s.limits.harts
-    → x ≡ get_or m.harts.items h x → goes ≡ is_none (plain_over p) → idle ≡ not (is_some x.running)
-    → (goes && not idle) ≡ is_some (cond (is_none (plain_over p)) (running_on h p.kernel.threads) None)
-runs_tell s p m h x goes idle tied lt value goes_is idle_is =
-    ap (λ b. b && not idle) goes_is ∙ go (is_none (plain_over p))
-  where
-    busy : not idle ≡ is_some (running_on h p.kernel.threads)
-    busy =
-        ap not idle_is
-        ∙ ap (λ (y : HartState). not (not (is_some y.running))) (hart_tied s p m h x tied lt value)
-        ∙ not_idle (running_on h p.kernel.threads)
-
-    go : (b : Bool) → (b && not idle) ≡ is_some (cond b (running_on h p.kernel.threads) None)
-    go true = busy
-    go false = refl
+pub busy_tells : (s : Setting) (p : Plain) (m : Parts) (h : ℕ) (x : HartState) (idle : Bool) → IsTied s p m → h < s.limits.harts
+    → x ≡ get_or m.harts.items h x → idle ≡ not (is_some x.running) → not idle ≡ is_some (running_on h p.kernel.threads)
+busy_tells s p m h x idle tied lt value is =
+    ap not is
+    ∙ ap (λ (y : HartState). not (not (is_some y.running))) (hart_tied s p m h x tied lt value)
+    ∙ not_idle (running_on h p.kernel.threads)

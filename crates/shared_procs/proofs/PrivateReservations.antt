@@ -1,10 +1,9 @@
 -- Reservations outside the segment: what another process writes to the segment doesn't end them.
-use Rattle.std.proofs.Common.{◌≡◌, ◌≢◌, ℕ, ◌+◌, ◌≤◌, Bool, true, false, cond, List, [], ◌∷◌, Option, Some, None, refl, sym, ap, ◌∙◌, arith}
 use Rattle.std.proofs.lemmas.Bool.{ne_eqb}
 use Rattle.mach_types.specs.declared.user_memory.Write.TheVariants.{Zeroed}
 use Rattle.rv_inst.specs.Execution.{has_reserved, lost_by}
 use Rattle.block_model.proofs.Swaps.Untouched.{lost_swaps}
-use Rattle.shared_procs.proofs.Common.{AllByRecursion, is_in_segment, is_reserved, lost_after, nat_tests, reserved_at, SEGMENT_AT, SEGMENT_SIZE, Stored, Write}
+use Rattle.shared_procs.proofs.Common.{◌≡◌, ◌≢◌, ℕ, ◌+◌, ◌≤◌, Bool, true, false, cond, List, [], ◌∷◌, Option, Some, None, refl, sym, ap, ◌∙◌, arith, AllByRecursion, is_in_segment, is_reserved, lost_after, nat_tests, reserved_at, SEGMENT_AT, SEGMENT_SIZE, Stored, Write}
 
 -- a reservation, where none of its bytes lies in the segment: what is left of it by a write to all of the
 -- segment

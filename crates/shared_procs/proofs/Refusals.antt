@@ -1,10 +1,7 @@
 -- The refusals of every choice of a hart of a pair; those of a choice, by the numbers of a process; and that the process that acts goes on.
-use Rattle.std.proofs.Common.{◌≡◌, ◌≢◌, ℕ, Bool, true, false, not, cond, leb, Option, Some, None, is_some, Result, Err, refl}
 use Rattle.mach_types.specs.declared.events.Choice.TheVariants as asked
 use Rattle.mach_types.specs.declared.events.Why.TheVariants.{Busy, NoHart}
-use Rattle.shared_procs.specs.Pairs.{own_number, refusal_begins}
-use Rattle.shared_procs.specs.declared.outcomes.PairRefused.TheVariants.{Ended, Full}
-use Rattle.shared_procs.proofs.Common.{acting, Choice, Entry, entry_two, goes_on, here_two, is_over, NotEnabled, NotReady, on_hart, own_choice, Pair, pair_decide, PairRefused, PairSetting, refusal_as, refusal_of, refusal_two, running_on, runs_in, Tid, unless_two, Why}
+use Rattle.shared_procs.proofs.Common.{◌≡◌, ◌≢◌, ℕ, Bool, true, false, not, cond, leb, Option, Some, None, is_some, Result, Err, refl, acting, Choice, Entry, entry_two, goes_on, here_two, is_over, NotEnabled, NotReady, on_hart, own_choice, Pair, pair_decide, PairRefused, PairSetting, refusal_as, refusal_of, refusal_two, running_on, runs_in, Tid, unless_two, Why, own_number, refusal_begins, Ended, Full}
 
 -- what is decided where no process goes on, the log is full, and the machine hasn't the hart, or else
 abbrev pub decide_with : Bool → Bool → Bool → Result Entry PairRefused → Result Entry PairRefused

@@ -1,13 +1,12 @@
 -- A call of a process beside another one: what it does hangs on the process alone, but that membarrier(2)
 -- waits or not, and for which harts.
-use Rattle.std.proofs.Common.{◌≡◌, ℕ, Bool, true, false, cond, eqb, Option, Some, None, is_some, refl}
 use Rattle.std.specs.Prelude.{pos}
 use Rattle.mach_types.specs.Kernel.Barriers.{answer_of, barrier_at}
 use Rattle.mach_types.specs.Kernel.PairBarriers.{answer_beside}
 use Rattle.mach_types.specs.declared.barriers.BarrierCommand.TheVariants.{Global, GlobalExpedited, PrivateExpedited, PrivateExpeditedRseq}
 use Rattle.mach_types.specs.declared.errors.TheConstants.{EINVAL, EPERM}
 use Rattle.block_model.specs.Calls.Beside.{membarrier_beside}
-use Rattle.shared_procs.proofs.Common.{Answer, answers, argument, asked, BarrierCommand, Begin, call_of, CallDone, concerned, Here, int_argument, Neighbour, option_map_or, refusal, Registered, running_harts, signed_32, targets, Value}
+use Rattle.shared_procs.proofs.Common.{◌≡◌, ℕ, Bool, true, false, cond, eqb, Option, Some, None, is_some, refl, Answer, answers, argument, asked, BarrierCommand, Begin, call_of, CallDone, concerned, Here, int_argument, Neighbour, option_map_or, refusal, Registered, running_harts, signed_32, targets, Value}
 
 -- a call but for the harts that its barrier is about
 abbrev pub but_barrier : CallDone → CallDone

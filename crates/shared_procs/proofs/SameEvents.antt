@@ -1,6 +1,5 @@
 -- An own event of a process beside another one: what it does hangs on the process alone, and on what it
 -- learns.
-use Rattle.std.proofs.Common.{◌≡◌, ℕ, Bool, true, false, cond, List, [], ◌∷◌, Option, Some, None, is_some, refl, sym, ap, ◌∙◌, subst}
 use Rattle.mach_types.specs.Bytes.{overlay}
 use Rattle.mach_types.specs.Kernel.Areas.{area_of, interruption}
 use Rattle.mach_types.specs.Kernel.Signals.{with_pending}
@@ -13,8 +12,7 @@ use Rattle.block_model.specs.Events.Run.{done_killed, done_running}
 use Rattle.block_model.specs.Events.Take.{took_and_interrupted}
 use Rattle.block_model.specs.Kernel.{signalled}
 use Rattle.block_model.proofs.Swaps.Untouched.{fault_same}
-use Rattle.shared_procs.specs.OwnEntries.{Learnt, learnt_by, learnt_exec}
-use Rattle.shared_procs.proofs.Common.{by_call, by_effect, by_fault, by_outcome, call_number, called, called_here, Choice, Done, done_done_by, done_drain_of, done_exec_by, done_next, done_of, done_preempt_by, done_run_by, done_signal_by, done_take_by, Effect, fault_by, fetched, handled_unless_killed, has_handler, Here, interruption_here, is_call, is_in_segment, is_inside_here, is_storable, is_writable, killed_in_call, kills, kind_of, learnt_of, lives_on, memory, next_effect, next_fault, next_for, nothing, only_took, option_map, outcome_of, reached, runs, Store, view_of_all, waiting_here}
+use Rattle.shared_procs.proofs.Common.{◌≡◌, ℕ, Bool, true, false, cond, List, [], ◌∷◌, Option, Some, None, is_some, refl, sym, ap, ◌∙◌, subst, by_call, by_effect, by_fault, by_outcome, call_number, called, called_here, Choice, Done, done_done_by, done_drain_of, done_exec_by, done_next, done_of, done_preempt_by, done_run_by, done_signal_by, done_take_by, Effect, fault_by, fetched, handled_unless_killed, has_handler, Here, interruption_here, is_call, is_in_segment, is_inside_here, is_storable, is_writable, killed_in_call, kills, kind_of, learnt_of, lives_on, memory, next_effect, next_fault, next_for, nothing, only_took, option_map, outcome_of, reached, runs, Store, view_of_all, waiting_here, Learnt, learnt_by, learnt_exec}
 use Rattle.shared_procs.proofs.PrivateReservations.{private}
 use Rattle.shared_procs.proofs.SameCalls.{AreSame, Around, beside, pick, same_call_of}
 use Rattle.shared_procs.proofs.SameOutcomes.{outcome_alike}

@@ -1,11 +1,9 @@
 -- An instruction of a process whose memory is the same outside the segment: where it learns the same it
 -- leaves the same.
-use Rattle.std.proofs.Common.{◌≡◌, ℕ, zero, suc, ◌+◌, Bool, true, false, cond, [], ◌∷◌, Option, Some, None, unwrap_or, refl, ap, ◌∙◌}
 use Rattle.rv_inst.specs.Execution.{further, word_seen}
 use Rattle.rv_inst.specs.Memory.{amo_result, loaded}
 use Rattle.rv_inst.specs.declared.effects.Effect.TheVariants as effect
-use Rattle.shared_procs.specs.OwnEntries.{read_in_segment, reads, succeeds}
-use Rattle.shared_procs.proofs.Common.{Effect, is_in_segment, is_reserved, joined, Outcome, outcome, Regs, reserved_at, Store, word_at}
+use Rattle.shared_procs.proofs.Common.{◌≡◌, ℕ, zero, suc, ◌+◌, Bool, true, false, cond, [], ◌∷◌, Option, Some, None, unwrap_or, refl, ap, ◌∙◌, Effect, is_in_segment, is_reserved, joined, Outcome, outcome, Regs, reserved_at, Store, word_at, read_in_segment, reads, succeeds}
 use Rattle.shared_procs.proofs.PrivateReservations.{private, same_success}
 
 -- an outcome but for a reservation in the segment

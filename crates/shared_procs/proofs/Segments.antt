@@ -1,7 +1,6 @@
 -- The bytes of a segment after a store, and which addresses lie in it.
-use Rattle.std.proofs.Common.{◌≡◌, ℕ, ◌+◌, ◌-◌, ◌/◌, ◌%◌, ◌^◌, ◌<◌, ◌≤◌, ◌⊎◌, inl, inr, true, false, List, length, slice_index, refl, sym, ap, ◌∙◌, arith}
 use Rattle.page_map.proofs.Laws.{over-in, with_word-after, with_word-before, with_word-inside}
-use Rattle.shared_procs.proofs.Common.{byte_over, cases_lt, false≢true, is_in_segment, IsAccessSize, IsGap, le-leb, le-ltb, lies_within, lt-leb, lt-ltb, nat_tests, over-high, over-low, SEGMENT_AT, SEGMENT_SIZE, shared_in, with_word}
+use Rattle.shared_procs.proofs.Common.{◌≡◌, ℕ, ◌+◌, ◌-◌, ◌/◌, ◌%◌, ◌^◌, ◌<◌, ◌≤◌, ◌⊎◌, inl, inr, true, false, List, length, slice_index, refl, sym, ap, ◌∙◌, arith, byte_over, cases_lt, false≢true, is_in_segment, IsAccessSize, IsGap, le-leb, le-ltb, lies_within, lt-leb, lt-ltb, nat_tests, over-high, over-low, SEGMENT_AT, SEGMENT_SIZE, shared_in, with_word}
 
 pub small_byte : (x : ℕ) → x < 256 → x % 256 ≡ x
 small_byte x lt = omega arith
@@ -57,11 +56,11 @@ inside_from a is = grind (arith, nat_tests, is)
 pub inside_to : (a : ℕ) → is_in_segment a ≡ true → a < SEGMENT_AT + SEGMENT_SIZE
 inside_to a is = grind (arith, nat_tests, is)
 
-pub bytes_inside : (at size k : ℕ) → lies_within at size ≡ true → k < size → is_in_segment (at + k) ≡ true
-bytes_inside at size k is lt =
+pub bytes_inside : (at size a : ℕ) → lies_within at size ≡ true → at ≤ a → a < at + size → is_in_segment a ≡ true
+bytes_inside at size a is low high =
     let from = within_from at size is in
     let to = within_to at size is in
-    is_inside (at + k) (omega arith) (omega arith)
+    is_inside a (omega arith) (omega arith)
 
 -- no page lies in the segment
 pub inside_gap : (a : ℕ) → is_in_segment a ≡ true → IsGap (a / 4096)
@@ -80,7 +79,7 @@ access_bytes n (inr (inr (inr e))) = (omega arith, omega arith)
 -- of an access that doesn't lie in the segment no byte does, or one lies beside it, where no page lies either
 abbrev pub IsOutside : ℕ → ℕ → Type 0
 IsOutside at size =
-    ((k : ℕ) → k < size → is_in_segment (at + k) ≡ false) ⊎ ((k : ℕ) × (k < size) × (is_in_segment (at + k) ≡ false) × IsGap ((at + k) / 4096))
+    ((a : ℕ) → at ≤ a → a < at + size → is_in_segment a ≡ false) ⊎ ((k : ℕ) × (k < size) × (is_in_segment (at + k) ≡ false) × IsGap ((at + k) / 4096))
 
 pub outside : (at size : ℕ) → IsAccessSize size → lies_within at size ≡ false → IsOutside at size
 outside at size access fails =
@@ -91,14 +90,14 @@ outside at size access fails =
       | inl low ↦
           elim (cases_lt SEGMENT_AT (at + size)) [
             | inl over ↦ inr (0, some, is_below (at + 0) (omega arith), (omega arith, omega arith))
-            | inr below ↦ inl (λ k lt. is_below (at + k) (omega arith))
+            | inr below ↦ inl (λ a low high. is_below a (omega arith))
           ]
       | inr from ↦
           elim (cases_lt (SEGMENT_AT + SEGMENT_SIZE) (at + size)) [
             | inl over ↦
                 elim (cases_lt at (SEGMENT_AT + SEGMENT_SIZE)) [
                   | inl on ↦ inr (size - 1, omega arith, is_past (at + (size - 1)) (omega arith), (omega arith, omega arith))
-                  | inr past ↦ inl (λ k lt. is_past (at + k) (omega arith))
+                  | inr past ↦ inl (λ a low high. is_past a (omega arith))
                 ]
             | inr to ↦
                 let both : lies_within at size ≡ true = rw (le-leb SEGMENT_AT at from, le-leb (at + size) (SEGMENT_AT + SEGMENT_SIZE) to) refl in

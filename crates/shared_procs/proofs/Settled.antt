@@ -1,8 +1,7 @@
 -- Each process of a pair that goes on stands at each place of a pair run.
-use Rattle.std.proofs.Common.{List, [], ◌∷◌, ◌≡◌, ℕ, ◌<◌, ◌++◌, Bool, true, false, not, leb, Option, None, Some, Ok, is_none, refl, sym, ap, ◌∙◌, subst}
-use Rattle.block_model.proofs.Laws.{fit_entered, stand_aside, stand_fit, standing, start_plain, start_run}
-use Rattle.shared_procs.proofs.Common.{acting, all_stored, apply, apply_two, Choice, choice_of, closing, Done, done_of, done_two, End, ended_if, Entry, entry_two, filter, final, goes_on, half, here_two, is_over, is_shared, IsFit, IsPairRun, IsPairRunHistory, IsStanding, leb-false, Neighbour, neighbour, option_or, own_choice, Pair, pair_after, pair_decide, pair_history, pair_start, PairEvent, PairHistory, PairSetting, Plain, plain_over, plain_start, refusal_two, running_on, Setting, setting, Stand, stand, stand_next, unless_two, Why}
-use Rattle.shared_procs.proofs.Halves.{each_half}
+use Rattle.block_model.proofs.Laws.{stand_aside, stand_fit, standing, start_plain, start_run}
+use Rattle.shared_procs.proofs.Common.{List, [], ◌∷◌, ◌≡◌, ℕ, ◌<◌, Bool, true, false, not, leb, Option, None, Some, Ok, is_none, refl, sym, ap, ◌∙◌, subst, acting, apply, apply_two, Choice, choice_of, Done, done_of, done_two, End, ended_if, Entry, entry_two, filter, final, goes_on, half, here_two, is_over, is_shared, IsFit, IsPairRun, IsPairRunHistory, IsStanding, leb-false, Neighbour, neighbour, option_or, own_choice, Pair, pair_after, pair_decide, pair_history, pair_start, PairEvent, PairHistory, PairSetting, Plain, plain_over, plain_start, refusal_two, running_on, Setting, setting, Stand, stand, stand_next, unless_two, Why}
+use Rattle.shared_procs.proofs.Halves.{each_half, open_of, open_so_far}
 use Rattle.shared_procs.proofs.Refusals.{IsFreeAs, choice_goes, decide_with, free_as, refusal_is}
 
 abbrev placed : Setting → Plain → Option Neighbour → Stand
@@ -19,25 +18,12 @@ standing_of s m p are goes = are p goes
 pub own_free : (s : PairSetting) (m : Pair) (h : ℕ) (c : Choice) → is_over m ≡ false → refusal_two s m h c ≡ None → IsFreeAs s m (acting m h c) h (own_choice c)
 own_free s m h c live_on free = free_as s m (acting m h c) h (own_choice c) (choice_goes m h c live_on) (refusal_is s m h c ∙ free)
 
--- what it does is fit
+-- what it does is fit, but for what waits where it ends the process
 pub done_fit : (s : PairSetting) (m : Pair) (h : ℕ) (c : Choice) → AreStanding s m → h < s.limits.harts → is_over m ≡ false → refusal_two s m h c ≡ None
-    → IsFit (here_two s m (acting m h c) h) (done_two s m h c)
+    → IsFit (here_two s m (acting m h c) h) (done_of (own_choice c) (here_two s m (acting m h c) h))
 done_fit s m h c are lt live_on free =
-    let p = acting m h c in
     let own = own_free s m h c live_on free in
-    let d = done_of (own_choice c) (here_two s m p h) in
-    fit_entered (here_two s m p h) d (d.entered ++ all_stored (closing s.limits.harts (half p m) d.ended))
-    (stand_fit (stand s m p) h (own_choice c) (are p own.goes) lt own.free)
-
--- a process that goes on after an event wasn't ended by it
-not_ended : (h : ℕ) (d : Done) (m : Plain) → is_none (plain_over (ended_if d.ended (apply h d m))) ≡ true → d.ended ≡ None
-not_ended h d m goes = by d.ended refl goes
-  where
-    by : (o : Option End) → d.ended ≡ o → is_none (plain_over (ended_if o (apply h d m))) ≡ true → d.ended ≡ None
-    by None is goes = is
-    by (Some e) is goes =
-        let bad : false ≡ true = sym (ap (λ (x : Option End). is_none (final (option_or x m.ended) d.kernel)) is) ∙ goes in
-        cc
+    stand_fit (stand s m (acting m h c)) h (own_choice c) (are (acting m h c) own.goes) lt own.free
 
 -- an allowed event of a pair keeps both standing
 pub pair_next : (s : PairSetting) (m : Pair) (h : ℕ) (c : Choice) → AreStanding s m → h < s.limits.harts → is_over m ≡ false → refusal_two s m h c ≡ None
@@ -45,31 +31,31 @@ pub pair_next : (s : PairSetting) (m : Pair) (h : ℕ) (c : Choice) → AreStand
 pair_next s m h c are lt live_on free =
     let p = acting m h c in
     let d = done_two s m h c in
+    let own = done_of (own_choice c) (here_two s m p h) in
     let beside : Bool → Option Neighbour = λ q. Some (neighbour s (apply_two h p d m) q) in
     each_half (λ q x. is_none (plain_over x) ≡ true → IsStanding (placed (setting s q) x (beside q))) h p d m
     (λ goes.
     let next =
-    stand_next (stand s m p) h d (beside p) (λ can. refl) lt (are p (own_free s m h c live_on free).goes) (done_fit s m h c are lt live_on free) in
-    subst (λ o. IsStanding (placed (setting s p) (ended_if o (apply h d (half p m))) (beside p))) (sym (not_ended h d (half p m) goes)) next)
+    stand_next (stand s m p) h own (beside p) (λ can. refl) lt (are p (own_free s m h c live_on free).goes) (done_fit s m h c are lt live_on free) d.entered in
+    let unended = open_so_far d.ended (half p m).ended (open_of (apply h d (half p m)) goes) in
+    subst (λ o. IsStanding (placed (setting s p) (ended_if o (apply h d (half p m))) (beside p))) (sym unended) next)
     (λ goes. stand_aside (stand s m (not p)) h d (filter is_shared d.entered) (beside (not p)) (λ can. refl) (are (not p) goes))
 
 -- at the start both stand
-beside_start : (s : Setting) (o : Option Neighbour) → IsStanding (placed s (plain_start s) None) → IsStanding (placed s (plain_start s) o)
-beside_start s o is = record {
-  good = λ h lt.
-      let was = is.good h lt in
-      record { lt = lt; within = λ k. tt; few = was.few; idle = was.idle; busy = was.busy; empty = was.empty; kernel = was.kernel };
-  sound = is.sound;
-  held = is.held;
-  events = is.events;
-  ran = is.ran;
-  given = is.given;
-}
-
 start_stands : (s : Setting) (o : Option Neighbour) → IsStanding (placed s (plain_start s) o)
 start_stands s o =
-    beside_start s o (subst (λ (x : Plain). IsStanding (placed s x None)) (start_plain s)
-    (standing (record { setting = s; seed = 0; log = [] }) (start_run s)))
+    let is : IsStanding (placed s (plain_start s) None) =
+    subst (λ (x : Plain). IsStanding (placed s x None)) (start_plain s) (standing (record { setting = s; seed = 0; log = [] }) (start_run s)) in
+    record {
+      good = λ h lt.
+          let was = is.good h lt in
+          record { lt = lt; within = λ k. tt; few = was.few; idle = was.idle; busy = was.busy; empty = was.empty; kernel = was.kernel };
+      sound = is.sound;
+      held = is.held;
+      events = is.events;
+      ran = is.ran;
+      given = is.given;
+    }
 
 both_start : (s : PairSetting) (p : Bool) → IsStanding (stand s (pair_start s) p)
 both_start s true = start_stands (setting s true) _

@@ -1,17 +1,11 @@
 -- What a hart executed has entered, or waits: over both processes.
-use Rattle.std.proofs.Common.{◌≡◌, ℕ, ◌+◌, ◌≤◌, ◌++◌, List, [], ◌∷◌, length, drop, length-append, length-drop, Bool, true, false, cond, eqb, not, Option, None, Some, is_some, refl, ap, ◌∙◌, subst, arith}
-use Rattle.shared_procs.proofs.Common.{apply, apply_two, Done, End, ended_if, entered, eqb-true, executed, half, IsPairRunHistory, pair_after, PairEvent, PairHistory, PairSetting, Plain, Store}
+use Rattle.shared_procs.proofs.Common.{◌≡◌, ℕ, ◌+◌, ◌≤◌, ◌++◌, List, [], ◌∷◌, length, drop, length-append, length-drop, Bool, true, false, cond, eqb, not, Option, None, Some, is_some, refl, ap, ◌∙◌, subst, arith, apply, apply_two, Done, End, ended_if, entered, eqb-true, executed, half, IsPairRunHistory, pair_after, PairEvent, PairHistory, PairSetting, Plain, Store}
 use Rattle.shared_procs.proofs.Halves.{other_half, own_half, waits, waits_by_half}
 use Rattle.shared_procs.proofs.HartsApart.{event_of}
 
 -- the stores of the process that acts after its event, on the hart of the event or another one
 abbrev own_after : Option End → Bool → Done → List Store → List Store
-own_after None own d ws = cond own (drop d.drained (ws ++ d.executed)) ws
-own_after (Some e) own d ws = []
-
-after_end : (o : Option End) (h k : ℕ) (d : Done) (x : Plain) → (ended_if o (apply h d x)).waiting k ≡ own_after o (eqb h k) d (x.waiting k)
-after_end None h k d x = refl
-after_end (Some e) h k d x = refl
+own_after o own d ws = cond (is_some o) [] (cond own (drop d.drained (ws ++ d.executed)) ws)
 
 own_sum : (o : Option End) (own : Bool) (d : Done) (ws : List Store) (E N other : ℕ) → ((e : End) → o ≡ Some e → (d.executed ≡ []) × (d.drained ≡ 0))
     → (own ≡ true → d.drained ≤ length ws) → E ≡ N + (length ws + other)
@@ -42,8 +36,7 @@ sum_next s e before k run was =
     let few = λ (own : eqb h k ≡ true). subst (λ j. d.drained ≤ length ((half p m).waiting j)) (eqb-true h k own) its.fit.drained in
     let sum =
     own_sum d.ended (eqb h k) d ws (executed k before) (entered s k before) other its.quietly few (was ∙ ap (λ n. entered s k before + n) (waits_by_half p m k)) in
-    let own : length ((half p (apply_two h p d m)).waiting k) ≡ length (own_after d.ended (eqb h k) d ws) =
-    ap (λ (x : Plain). length (x.waiting k)) (own_half h p d m) ∙ ap (λ (vs : List Store). length vs) (after_end d.ended h k d (half p m)) in
+    let own : length ((half p (apply_two h p d m)).waiting k) ≡ length (own_after d.ended (eqb h k) d ws) = ap (λ (x : Plain). length (x.waiting k)) (own_half h p d m) in
     let stays : length ((half (not p) (apply_two h p d m)).waiting k) ≡ other = ap (λ (x : Plain). length (x.waiting k)) (other_half h p d m) in
     let now = waits_by_half p (apply_two h p d m) k in
     omega (arith, sum, own, stays, now)

@@ -1,8 +1,7 @@
 -- Parts that are tied to one plain machine are tied to another one whose harts and bytes are the same.
-use Rattle.std.proofs.Common.{◌≡◌, ℕ, ◌<◌, Bool, true, false, ◌&&◌, cond, eqb, List, Some, refl, ap, ◌∙◌, subst}
 use Rattle.sys_calls.specs.Made.{AreSaved}
 use Rattle.sys_calls.specs.Tables.{HoldsTables}
-use Rattle.shared_procs.proofs.Common.{aside, credit_of, final, hart_at, here_in_plain, HoldsPages, IsTied, Kernel, lost_after, nothing, Parts, Plain, Saved, Setting, Write}
+use Rattle.shared_procs.proofs.Common.{◌≡◌, ℕ, ◌<◌, Bool, true, false, ◌&&◌, cond, eqb, List, Some, refl, ap, ◌∙◌, subst, aside, credit_of, final, hart_at, here_in_plain, HoldsPages, IsTied, Kernel, lost_after, nothing, Parts, Plain, Saved, Setting, Write}
 
 pub tied_as : (s : Setting) (p q : Plain) (m : Parts) → IsTied s p m → ((k c : ℕ) → k < s.limits.harts → hart_at s p k c ≡ hart_at s q k c)
     → p.kernel ≡ q.kernel → p.file ≡ q.file → p.ended ≡ q.ended → p.byte ≡ q.byte → IsTied s q m

@@ -188,8 +188,11 @@ done_two s m h c = done_as s m (acting m h c) h (own_choice c)
 -- a process that ended has no waiting store and no reservation, and its barrier calls are gone; requests that
 -- they made stay
 abbrev pub ended_if : Option End → Plain → Plain
-ended_if None m = m
-ended_if (Some e) m = record m { waiting = λ h. []; reserved = λ h. None; awaits = λ h. None }
+ended_if o m = record m {
+  waiting = λ h. if is_some o then [] else m.waiting h;
+  reserved = λ h. if is_some o then None else m.reserved h;
+  awaits = λ h. if is_some o then None else m.awaits h;
+}
 
 -- the pair after an event of hart h and a process that did this
 abbrev pub apply_two : ℕ → Bool → Done → Pair → Pair

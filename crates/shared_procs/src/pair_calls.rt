@@ -1,12 +1,14 @@
 //! A call of a thread of one of two processes. membarrier(2) and rseq(2) are otherwise than where a process is alone.
 
-ghost use Rattle.std.specs.Prelude.{◌≡◌, false};
+ghost use Rattle.std.specs.Prelude.{◌≡◌, ◌<◌, ℕ, Some, false, length};
+ghost use Rattle.block_model.specs.Here.{runs};
+ghost use Rattle.block_model.specs.Stands.{Stand, here_at};
 ghost use Rattle.process.specs.Planned.{IsInside};
+ghost use Rattle.process.specs.Refinement.{IsPlace};
 ghost use Rattle.shared_procs.specs.PairPlaces.{HasStep, IsOutsideCall, IsOwnOrInside, IsSteppedAt, call_next};
 
 use crate::entering::unseen;
 use crate::half::{threads_beside, threads_on};
-use hart_state::HartState;
 use mach_types::errors::ENOSYS;
 use mach_types::{Hart, Saved};
 use membarrier_cmds::command_two;
@@ -19,9 +21,12 @@ const MEMBARRIER: u64 = 283;
 const RSEQ: u64 = 293;
 
 /// The registers of the thread on a hart.
-fn saved_of(state: &HartState) -> Saved
-    ensures { result ≡ record { file = state.now.file; pc = state.now.pc } }
+fn saved_of(mine: &Parts, hart: Hart) -> Saved
+    requires { hart.0 < length mine.now.harts.items }
+    ensures { (v : Stand) (t : ℕ) → IsPlace v mine.now hart.0 → runs (here_at v hart.0) ≡ Some t
+        → result ≡ (here_at v hart.0).file t }
 {
+    let state = &mine.harts[hart.0 as usize];
     Saved {
         file: state.file,
         pc: state.pc,
@@ -37,7 +42,7 @@ fn call_membarrier(mine: &mut Parts, other: &mut Parts, hart: Hart)
     let harts = mine.harts.len() as u8;
     let running = threads_on(mine);
     let beside = threads_beside(other);
-    let mut saved = saved_of(&mine.harts[hart.0 as usize]);
+    let mut saved = saved_of(mine, hart);
     let cmd = signed_argument(&saved, 0);
     let flags = int_argument(&saved, 1);
     let cpu = signed_argument(&saved, 2);
@@ -63,7 +68,7 @@ fn refuse_rseq(mine: &mut Parts, other: &mut Parts, hart: Hart)
     requires number { IsOutsideCall 293 mine.old hart.0 }
     ensures { IsSteppedAt hart.0 call_next mine.old other.old mine.new other.new }
 {
-    let mut saved = saved_of(&mine.harts[hart.0 as usize]);
+    let mut saved = saved_of(mine, hart);
     let end = go_on(&mut saved, Err(ENOSYS));
     mine.finish_call(hart, end, saved, &[]);
     unseen(other, hart);
@@ -86,7 +91,7 @@ fn outside_call(mine: &mut Parts, other: &mut Parts, hart: Hart)
     requires outside { IsInside false mine.old hart.0 }
     ensures { IsSteppedAt hart.0 call_next mine.old other.old mine.new other.new }
 {
-    let number = call_number(&saved_of(&mine.harts[hart.0 as usize]));
+    let number = call_number(&saved_of(mine, hart));
     if number == MEMBARRIER {
         call_membarrier(mine, other, hart)
     } else if number == RSEQ {

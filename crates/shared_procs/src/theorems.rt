@@ -12,6 +12,7 @@ ghost use Rattle.shared_procs.specs.Pairs.{PairSetting, goes_on, half, setting};
 ghost use Rattle.shared_procs.specs.StoresEntered.{entered, executed};
 
 /// On a hart that runs no thread of a process that goes on no store of the process waits.
+#[tactic(auto, using(crate::proofs::Settled::idle_holds_none))]
 pub fn idle_harts_hold_no_store()
     ensures { (s : PairSetting) (log : List Entry) (p : Bool) (h : ℕ) → IsPairRun s log → h < s.limits.harts
         → goes_on (pair_after s (pair_history s log)) p ≡ true
@@ -20,6 +21,7 @@ pub fn idle_harts_hold_no_store()
 {}
 
 /// The stores that wait on a hart are of one process.
+#[tactic(auto, using(crate::proofs::HartsApart::of_one_process))]
 pub fn waiting_stores_are_of_one_process()
     ensures { (s : PairSetting) (log : List Entry) (h : ℕ) → IsPairRun s log
         → ((half false (pair_after s (pair_history s log))).waiting h ≡ [])
@@ -27,6 +29,7 @@ pub fn waiting_stores_are_of_one_process()
 {}
 
 /// What a hart executed of plain stores has entered memory, or waits there, over both processes.
+#[tactic(auto, using(crate::proofs::Sums::sum_is))]
 pub fn stores_enter_or_wait()
     ensures { (s : PairSetting) (log : List Entry) (k : ℕ) → IsPairRun s log
         → executed k (pair_history s log) ≡ entered s k (pair_history s log)
@@ -35,6 +38,7 @@ pub fn stores_enter_or_wait()
 {}
 
 /// Both processes see the same requests of barriers at each hart, and each of them counts the events of both.
+#[tactic(auto, using(crate::proofs::SameRequests::alike_after))]
 pub fn both_see_the_same_requests()
     ensures requests { (s : PairSetting) (log : List Entry) (k : ℕ)
         → (half false (pair_after s (pair_history s log))).requests k
@@ -50,6 +54,7 @@ pub fn both_see_the_same_requests()
 
 /// Where `done` comes in a pair run, the barrier returns that the thread of the hart began (membarrier(2)). What each hart that it is
 /// about had stored before the call is then in memory, whichever process stored it.
+#[tactic(auto, using(crate::proofs::BarrierReturns::returns, crate::proofs::BarrierReturns::is_called, crate::proofs::BarrierReturns::stores_entered))]
 pub fn barriers_return_over_both()
     // There is that barrier.
     ensures begun { (s : PairSetting) (earlier later : List Entry) (entry : Entry)
@@ -75,6 +80,7 @@ pub fn barriers_return_over_both()
 /// A process of a pair hangs on its own entries and on what it learns at them of the other process: the bytes
 /// of the segment that its instructions read, whether its SC there succeed, and whether its calls of
 /// membarrier(2) wait. Nothing is said of pending requests, nor of reservations.
+#[tactic(auto, using(crate::proofs::OwnRuns::is_the_same, crate::proofs::OwnRuns::same_at_each))]
 pub fn process_hangs_on_what_it_learns()
     // Where these are the same in two pair runs, over the same image and limits, so is the process after them.
     ensures last { (s s2 : PairSetting) (log log2 : List Entry) (p : Bool) → AreOfImages s → AreOfImages s2

@@ -4,6 +4,8 @@ use Rattle.std.proofs.Math.Seq.{take-suc-set, drop-cons, take-length, drop-lengt
 use Rattle.mach_types.specs.Bytes.{each_byte, word_at, written, after_write, byte_over}
 use Rattle.mach_types.specs.Kernel.SignalFrames.{words_at, words_stored, word_before}
 use Rattle.mach_types.specs.declared.user_memory.Store.{Store}
+use Rattle.mach_types.specs.declared.user_memory.Write.{Write}
+use Rattle.mach_types.specs.declared.user_memory.Write.TheVariants.{Stored}
 use Rattle.signals.specs.Writing.{can_write_words}
 
 -- WHETHER WORDS CAN BE WRITTEN
@@ -115,6 +117,38 @@ nothing_left first byte at i words e left a =
     same : (o : Option ℕ) → o ≡ option_map (λ n. n) o
     same (Some n) = refl
     same None = refl
+
+-- THE WRITES OF WORDS
+
+-- the writes of the first i words are there
+abbrev pub StoredSoFar : ℕ → List ℕ → List Write → ℕ → Type 0
+StoredSoFar at words writes i = words_stored at words ≡ take i writes ++ words_stored (at + 8 * i) (drop i words)
+
+pub none_stored : (at : ℕ) (words : List ℕ) (writes : List Write) → StoredSoFar at words writes 0
+none_stored at words writes =
+    let here : at ≡ at + 8 * 0 = omega arith in
+    ap (λ a. words_stored a words) here
+
+pub one_stored : (at : ℕ) (words : List ℕ) (writes : List Write) (i : ℕ) → i < length words → i < length writes → StoredSoFar at words writes i
+    → StoredSoFar at words (set writes i (Stored (record { at = at + 8 * i; size = 8; value = get_or words i 0 }))) (i + 1)
+one_stored at words writes i inside room so_far =
+    let w : Write = Stored (record { at = at + 8 * i; size = 8; value = get_or words i 0 }) in
+    let rest = drop (i + 1) words in
+    let next : at + 8 * i + 8 ≡ at + 8 * (i + 1) = omega arith in
+    let more : suc i ≡ i + 1 = omega arith in
+    let split : drop i words ≡ get_or words i 0 ∷ rest = drop-cons words i 0 inside ∙ ap (λ n. get_or words i 0 ∷ drop n words) more in
+    let longer : take (i + 1) (set writes i w) ≡ take i writes ++ w ∷ [] = ap (λ n. take n (set writes i w)) (sym more) ∙ take-suc-set writes i w room in
+    so_far ∙ ap (λ ws. take i writes ++ words_stored (at + 8 * i) ws) split
+    ∙ ap (λ a. take i writes ++ w ∷ words_stored a rest) next
+    ∙ sym (append_assoc (take i writes) (w ∷ []) (words_stored (at + 8 * (i + 1)) rest))
+    ∙ ap (λ ws. ws ++ words_stored (at + 8 * (i + 1)) rest) (sym longer)
+
+pub all_stored : (at : ℕ) (words : List ℕ) (writes : List Write) (i : ℕ) → length words ≡ i → length writes ≡ i → StoredSoFar at words writes i
+    → writes ≡ words_stored at words
+all_stored at words writes i e f so_far =
+    let none : drop i words ≡ [] = ap (λ n. drop n words) (sym e) ∙ drop-length words in
+    sym (so_far ∙ ap (λ ws. take i writes ++ words_stored (at + 8 * i) ws) none
+    ∙ append-nil (take i writes) ∙ ap (λ n. take n writes) (sym f) ∙ take-length writes)
 
 -- WORDS THAT ARE READ
 

@@ -1,6 +1,6 @@
 //! The frame that a handler finds on its stack: 34 words of 8 bytes (own).
 
-ghost use Rattle.std.specs.Prelude.{◌≡◌, ℕ, ◌+◌, ◌*◌, ◌^◌, ◌≤◌, true, length, option_map, Some, None, IfSome};
+ghost use Rattle.std.specs.Prelude.{◌≡◌, ℕ, ◌+◌, ◌*◌, ◌^◌, ◌≤◌, true, length, if◌then◌else◌, option_map, Some, None, IfSome};
 ghost use Rattle.std.specs.Bool.{OnTrue, OnFalse};
 ghost use Rattle.mach_types.specs.Bytes.{written};
 ghost use Rattle.mach_types.specs.Kernel.SignalFrames as spec;
@@ -9,13 +9,16 @@ ghost use Rattle.signals.specs.Writing.{can_write_words};
 use crate::sets::maskable;
 use mach_types::address_space::HANDLER_RETURN;
 use mach_types::signals::SIGNAL_FRAME_SIZE;
-use mach_types::{Action, Regs, Saved, UserMem};
+use mach_types::{Action, Regs, Saved, Store, UserMem, Write};
 
 /// How many words a frame has.
 const WORDS: usize = 34;
 
 /// The words of a frame: the pc, x1 to x31, the old mask, 0.
 pub type FrameWords = [u64; WORDS];
+
+/// The writes of a frame to memory: one for each of its words, the lowest first.
+pub type FrameWrites = [Write; WORDS];
 
 /// The return address, the stack pointer and the first three arguments (RISC-V psABI).
 const RA: u8 = 1;
@@ -120,6 +123,35 @@ pub fn write<M: UserMem>(mem: &mut M, saved: &Saved, mask: u64) -> bool
     let words = frame_words(saved, mask);
     write_words(mem, at, &words);
     true
+}
+
+/// The writes of words from an address on, one behind the other.
+fn words_stored(at: u64, words: &FrameWords) -> FrameWrites
+    requires { at + 272 ≤ 2 ^ 64 }
+    ensures { result ≡ spec.words_stored at words.now }
+{
+    let mut writes = [Write::default(); WORDS];
+    for index in 0..WORDS {
+        writes[index] = Write::Stored(Store {
+            at: at + 8 * index as u64,
+            size: 8,
+            value: words[index],
+        });
+    }
+    writes
+}
+
+/// The writes that [`write`] makes of a frame, in its order; None exactly where a byte of it can't be written.
+/// Nothing is written.
+pub fn frame_writes<M: UserMem>(mem: &M, saved: &Saved, mask: u64) -> Option<FrameWrites>
+    ensures { result ≡ (if spec.can_write_frame (M.can_write mem.now) saved.now
+        then Some (spec.frame_writes saved.now mask) else None) }
+{
+    let at = frame_at(saved.file.get(SP));
+    if !can_write(mem, at) {
+        return None;
+    }
+    Some(words_stored(at, &frame_words(saved, mask)))
 }
 
 /// The words of the frame at the stack pointer; None exactly where a byte of it can't be read.

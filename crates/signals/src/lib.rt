@@ -11,6 +11,7 @@ mod table;
 mod theorems;
 mod threads;
 
+pub use frames::FrameWrites;
 pub use mach_types::Action;
 pub use table::Signals;
 pub use theorems::{

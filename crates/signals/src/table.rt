@@ -9,7 +9,7 @@ ghost use Rattle.mach_types.specs.declared.kernel_words.TheConstants.{MOST_THREA
 ghost use Rattle.mach_types.specs.declared.signals.TheConstants.{LAST_SIGNAL};
 
 use crate::actions::{self, SIGNALS, entered_action, handler_mask, is_ignored, refuses_action};
-use crate::frames;
+use crate::frames::{self, FrameWrites};
 use crate::sets::{joined, less, lowest_deliverable, maskable};
 use crate::threads::{self, ROOM};
 use arrayvec::ArrayVec;
@@ -263,6 +263,16 @@ impl Signals {
         threads::set_mask(&mut self.threads, tid.0, handler_mask(sig, action, mask));
         actions::set_action(&mut self.actions, sig, entered_action(action));
         true
+    }
+
+    /// The writes that [`Signals::push_frame`] makes to the stack of a thread with this file, in its order; None
+    /// exactly where it would answer false. Nothing is written.
+    pub fn frame_writes<M: UserMem>(&self, mem: &M, tid: Tid, saved: &Saved) -> Option<FrameWrites>
+        requires { IsTrue (spec.is_held tid.0 self.now) }
+        ensures { result ≡ (if frame.can_write_frame (M.can_write mem.now) saved.now
+            then Some (frame.frame_writes saved.now (spec.mask_of tid.0 self.now)) else None) }
+    {
+        frames::frame_writes(mem, saved, self.mask_of(tid))
     }
 
     /// Returns from a handler: a thread goes on with the file and the mask in the frame at its stack pointer

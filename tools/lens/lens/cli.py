@@ -18,12 +18,16 @@ from .machine import Answer, Machine
 from .output import RUN, Output
 from .picture import draw_run
 from .program import Program
+from .races import list_races
 from .scripts import Lines, first_unreadable, read_lines
 from .sequences import list_sequences
 from .shrinking import shrink
 from .steering import steer
 from .subjects import SEQUENCES, WORDS, steps_about
 from .trace import make_trace
+from .traced_calls import list_traced_calls
+from .values import Values, read_values
+from .watching import watch
 
 FAULT_STATUS = 2
 
@@ -42,6 +46,8 @@ def make_parser() -> argparse.ArgumentParser:
     add_svg(commands)
     add_calls(commands)
     add_sequences(commands)
+    add_watch(commands)
+    add_races(commands)
     add_why(commands)
     add_cut(commands)
     add_play(commands)
@@ -68,6 +74,7 @@ def add_list(commands) -> None:
         metavar='WORDS',
         help=f'only the steps about one of these, or several with commas: {", ".join(WORDS)}',
     )
+    add_values(command, 'what each step read and wrote')
     command.set_defaults(action=list_command)
 
 
@@ -101,6 +108,7 @@ def add_calls(commands) -> None:
     command = commands.add_parser('calls', help='the system calls, with arguments and answers')
     add_run_and_elf(command)
     command.add_argument('--thread', type=int, metavar='T', help='only those of thread T')
+    add_values(command, 'what each wrote, and whom it woke')
     command.set_defaults(action=calls_command)
 
 
@@ -108,7 +116,28 @@ def add_sequences(commands) -> None:
     command = commands.add_parser('sequences', help='the restartable sequences by name, and how each ended')
     add_run_and_elf(command)
     command.add_argument('--thread', type=int, metavar='T', help='only those of thread T')
+    add_values(command, 'what each step of one read and wrote')
     command.set_defaults(action=sequences_command)
+
+
+def add_watch(commands) -> None:
+    command = commands.add_parser(
+        'watch', help='each access to a variable, with its value and where that came from'
+    )
+    add_run_and_elf(command)
+    command.add_argument(
+        'variable', metavar='NAME[+OFF][:SIZE]', help='a member (NAME[0].MEMBER) or an address too'
+    )
+    command.add_argument('--hart', type=int, metavar='H', help='only the accesses of hart H')
+    command.add_argument('--thread', type=int, metavar='T', help='only those of thread T')
+    add_span(command, 'the last one (that of the run)')
+    command.set_defaults(action=watch_command)
+
+
+def add_races(commands) -> None:
+    command = commands.add_parser('races', help='accesses of two harts that nothing orders')
+    add_run_and_elf(command)
+    command.set_defaults(action=races_command)
 
 
 def add_why(commands) -> None:
@@ -167,6 +196,10 @@ def add_span(command: argparse.ArgumentParser, last: str) -> None:
     command.add_argument('--to', dest='last', type=positive, metavar='M', help=last)
 
 
+def add_values(command: argparse.ArgumentParser, what: str) -> None:
+    command.add_argument('--values', action='store_true', help=what)
+
+
 def subjects(text: str) -> tuple[str, ...]:
     """The words of a list with commas."""
     words = tuple(text.split(','))
@@ -191,6 +224,11 @@ def add_out(command: argparse.ArgumentParser, name: str) -> None:
 
 def read_history(arguments: argparse.Namespace) -> History:
     return make_history(output_of(arguments), Program(arguments.elf))
+
+
+def values_of(arguments: argparse.Namespace) -> Values:
+    """The run that is shown, with what it read and wrote."""
+    return read_values(read_history(arguments), machine_of(arguments))
 
 
 def machine_of(arguments: argparse.Namespace) -> Machine:
@@ -245,7 +283,8 @@ def list_command(arguments: argparse.Namespace) -> None:
         arguments.last,
         chosen_steps(history, arguments),
     )
-    write_out(None, (f'{line}\n' for line in list_run(history, chosen)))
+    values = read_values(history, machine_of(arguments)) if arguments.values else None
+    write_out(None, (f'{line}\n' for line in list_run(history, chosen, values)))
 
 
 def chosen_steps(history: History, arguments: argparse.Namespace) -> set[int] | None:
@@ -309,14 +348,34 @@ def pass_on(arguments: argparse.Namespace, command: str) -> int:
 
 
 def calls_command(arguments: argparse.Namespace) -> None:
-    history = read_history(arguments)
-    write_out(None, (f'{line}\n' for line in list_calls(history, machine_of(arguments), arguments.thread)))
+    history, machine = read_history(arguments), machine_of(arguments)
+    if arguments.values:
+        rows = list_traced_calls(read_values(history, machine), arguments.thread)
+    else:
+        rows = list_calls(history, machine, arguments.thread)
+    write_out(None, (f'{row}\n' for row in rows))
 
 
 def sequences_command(arguments: argparse.Namespace) -> None:
-    history = read_history(arguments)
-    rows = list_sequences(history, machine_of(arguments), arguments.thread)
+    history, machine = read_history(arguments), machine_of(arguments)
+    values = read_values(history, machine) if arguments.values else None
+    rows = list_sequences(history, machine, arguments.thread, values)
     write_out(None, (f'{row}\n' for row in rows))
+
+
+def watch_command(arguments: argparse.Namespace) -> None:
+    values = values_of(arguments)
+    for number in (arguments.first, arguments.last):
+        check_step(values.history.output, number)
+    chosen = Selection(
+        hart=arguments.hart, thread=arguments.thread, first=arguments.first, last=arguments.last
+    )
+    rows = watch(values, arguments.variable, chosen)
+    write_out(None, (f'{row}\n' for row in rows))
+
+
+def races_command(arguments: argparse.Namespace) -> None:
+    write_out(None, (f'{row}\n' for row in list_races(values_of(arguments))))
 
 
 def why_command(arguments: argparse.Namespace) -> None:

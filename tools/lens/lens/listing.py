@@ -8,9 +8,12 @@ from typing import NamedTuple
 
 from .calls import name_of
 from .history import History
-from .output import DRAIN, EXEC, PREEMPT, RUN, Step, shown_console
+from .output import DRAIN, EXEC, HARTS, PREEMPT, RUN, Step, shown_console
+from .values import Values
 
 CONTEXT = 12
+MEMORY = HARTS
+"""The column behind those of the harts, which says what was read and written."""
 SOURCE_SHOWN = 72
 
 
@@ -95,31 +98,36 @@ class Rows:
         return program.instruction(pc).text, program.where(pc), source(self.history, pc)
 
 
-def list_run(history: History, selection: Selection) -> Iterator[str]:
+def list_run(history: History, selection: Selection, values: Values | None = None) -> Iterator[str]:
     """The lines of a listing, with what the program printed and its end where nothing behind the rows is
-    left out."""
+    left out; and with what each step read and wrote, where that is known."""
     made = Rows(history)
     rows = [made.row(step) for step in selection.steps(history.output.steps)]
+    memory = {row.step.number: values.words(row.step) for row in rows} if values else {}
     deeds = {(row.step.hart, row.deed) for row in rows}
     widths = {hart: len(f'hart {hart}') for hart in sorted({hart for hart, _ in deeds})}
-    for hart, words in deeds:
-        widths[hart] = max(widths[hart], len(words))
+    heads = {hart: f'hart {hart}' for hart in widths}
+    if values:
+        heads[MEMORY], widths[MEMORY] = 'memory', len('memory')
+        deeds |= {(MEMORY, words) for words in memory.values()}
+    for column, words in deeds:
+        widths[column] = max(widths[column], len(words))
     where = max(map(len, {row.where for row in rows}), default=0)
 
     @cache
-    def columns(hart: int, words: str, place: str, text: str) -> str:
-        return in_columns({hart: words}, widths, place, where, text)
+    def columns(hart: int, words: str, place: str, text: str, told: str) -> str:
+        return in_columns({hart: words, MEMORY: told}, widths, place, where, text)
 
-    heads = in_columns({hart: f'hart {hart}' for hart in widths}, widths, 'at', where, 'source')
-    yield f'{"step":>7}  {"thread":>6}  {heads}'
+    yield f'{"step":>7}  {"thread":>6}  {in_columns(heads, widths, "at", where, "source")}'
     for step, *words in rows:
-        yield f'{step.number:>7}  {step.thread or "":>6}  {columns(step.hart, *words)}'
+        shown = columns(step.hart, *words, memory.get(step.number, ''))
+        yield f'{step.number:>7}  {step.thread or "":>6}  {shown}'
     yield ''
     yield summary(history, len(rows))
 
 
-def in_columns(deeds: dict[int, str], widths: dict[int, int], where: str, width: int, text: str) -> str:
-    columns = ' | '.join(deeds.get(hart, '').ljust(widths[hart]) for hart in widths)
+def in_columns(cells: dict[int, str], widths: dict[int, int], where: str, width: int, text: str) -> str:
+    columns = ' | '.join(cells.get(column, '').ljust(widths[column]) for column in widths)
     return f'{columns} | {where.ljust(width)}  {text}'.rstrip()
 
 

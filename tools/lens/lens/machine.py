@@ -10,11 +10,13 @@ from pathlib import Path
 from .faults import LensFault
 from .output import Output, parse_output
 from .place import Place, parse_place
+from .trace_text import Trace, parse_trace
 
 REPOSITORY = Path(__file__).resolve().parents[3]
 BUILT = Path(os.environ.get('RSEQ_RUN', REPOSITORY / 'crates' / 'rseq_run' / 'out' / 'rseq_run'))
 """The program that is called where no other is named: that of the repository, or what RSEQ_RUN says."""
-DONE, SCRIPT_REFUSED = 0, 4
+DONE, USAGE, SCRIPT_REFUSED = 0, 2, 4
+UNKNOWN = 'there is no such command'
 SECONDS = 120
 OUTSIDE_SEQUENCES = (b'step', b'kernel')
 CALM = 4_096
@@ -97,6 +99,17 @@ class Machine:
         if answer.status != DONE:
             raise self.fault('acts', answer)
         return parse_acts(answer.text)
+
+    def trace(self, lines: list[str]) -> Trace:
+        """What each line of a script does, each line of which is allowed."""
+        answer = self.call('trace', text_of(lines))
+        if answer.status == DONE:
+            return parse_trace(f'the trace of {self.elf}', answer.text)
+        if answer.status == USAGE and UNKNOWN in answer.said:
+            raise LensFault(
+                f'{self.program} has no command `trace`, by which this knows what a run read and wrote'
+            )
+        raise self.fault('trace', answer)
 
     def output_of(self, answer: Answer, name: str) -> Output:
         """The run that an answer of status 0 has."""

@@ -5,7 +5,7 @@ import re
 import struct
 from bisect import bisect_right
 from dataclasses import dataclass
-from functools import cache
+from functools import cache, cached_property
 
 from elftools.common.exceptions import ELFError
 from elftools.elf.constants import P_FLAGS
@@ -14,6 +14,7 @@ from elftools.elf.elffile import ELFFile
 from .disassembly import disassemble
 from .faults import LensFault
 from .instructions import SIZE, Instruction
+from .layout import Layout
 from .source import Lines, Place
 
 SYMBOL_KINDS = ('STT_FUNC', 'STT_NOTYPE')
@@ -133,6 +134,9 @@ class Program:
         self.instruction = cache(self.find_instruction)
         self.where = cache(self.find_where)
         self.source = cache(self.find_source)
+        self.variable = cache(self.find_variable)
+        self.target = cache(self.find_target)
+        self.bytes_of = cache(self.find_bytes)
 
     def has(self, address: int) -> bool:
         return any(code.has(address) for code in self.code)
@@ -168,13 +172,36 @@ class Program:
         place = self.place(address)
         return self.where(address) + (f', {place.name}' if place else '')
 
-    def variable(self, address: int) -> str:
-        """An address as variable+offset, or in hexadecimal where no variable has it."""
+    @cached_property
+    def layout(self) -> Layout:
+        return Layout(self.path)
+
+    def variable_at(self, address: int) -> Variable | None:
+        """The variable that has the byte at an address."""
         index = bisect_right([variable.address for variable in self.variables], address)
         found = self.variables[index - 1] if index else None
-        if found is None or address >= found.address + found.size:
+        return found if found and address < found.address + found.size else None
+
+    def find_variable(self, address: int) -> str:
+        """An address as variable+offset, or in hexadecimal where no variable has it."""
+        found = self.variable_at(address)
+        if found is None:
             return self.where(address)
         return f'{found.name}+{address - found.address:#x}' if address > found.address else found.name
+
+    def find_target(self, address: int) -> str:
+        """The variable, its member or its element that begins at an address; else as `variable` says it."""
+        found = self.variable_at(address)
+        name = found and self.layout.target(found.name, found.address, address - found.address)
+        return name or self.variable(address)
+
+    def find_bytes(self, address: int, size: int) -> str:
+        """The variable or its member that has just so many bytes from an address on; else `variable+offset`,
+        with `:SIZE` where these aren't all of the variable."""
+        found = self.variable_at(address)
+        name = found and self.layout.name(found.name, found.address, address - found.address, size)
+        is_all = found and (found.address, found.size) == (address, size)
+        return name or f'{self.variable(address)}{"" if is_all else f":{size}"}'
 
     def word(self, address: int) -> int | None:
         """The word of the code at an address."""

@@ -4,16 +4,21 @@ from __future__ import annotations
 from collections.abc import Iterator
 
 from .history import History
+from .listing import deed
 from .machine import Act, Machine
 from .output import EXEC, PREEMPT, RUN, SIGNAL, TAKE, Step
 from .place import Named
+from .values import Values
 
 INTERRUPTIONS = (PREEMPT, SIGNAL, TAKE, RUN)
 SIZE = 4
 
 
-def list_sequences(history: History, machine: Machine, thread: int | None) -> Iterator[str]:
-    """A line for each sequence of a thread, or of all."""
+def list_sequences(
+    history: History, machine: Machine, thread: int | None, values: Values | None = None
+) -> Iterator[str]:
+    """A line for each sequence of a thread, or of all; and below it one for each of its steps that read or
+    wrote, where that is known."""
     every = machine.acts([step.line() for step in history.output.steps])
     acts = [act for act in every if thread in (None, act.thread)]
     named = Names(history, machine)
@@ -23,8 +28,18 @@ def list_sequences(history: History, machine: Machine, thread: int | None) -> It
     for act, words in rows:
         steps = f'{act.first} to {act.last}'
         yield f'{steps:>15}  {act.thread:>6}  {act.hart:>4}  {words:<{width}}  {ending(history, act)}'
+        if values:
+            yield from accesses(values, act)
     yield ''
     yield f'{counted(acts)}; end {history.output.end}'
+
+
+def accesses(values: Values, act: Act) -> Iterator[str]:
+    """What the instructions of a sequence read and wrote, and which stores entered meanwhile."""
+    for step in values.history.output.steps[act.first - 1 : act.last]:
+        words = values.words(step) if step.hart == act.hart else ''
+        if words:
+            yield f'{step.number:>15}  {deed(values.history, step)}  {words}'
 
 
 class Names:

@@ -11,10 +11,14 @@ from lens.history import History, make_history
 from lens.machine import BUILT
 from lens.output import read_output
 from lens.program import Program
+from lens.trace_text import parse_trace
+from lens.values import Values
 
 ROOT = Path(__file__).resolve().parents[3]
 EXAMPLES = ROOT / 'examples'
 GOLDEN = Path(__file__).with_name('golden')
+TRACES = Path(__file__).with_name('traces')
+"""Texts of `trace`, so that most tests need no built program."""
 LENS = ROOT / 'tools' / 'bin' / 'lens'
 PETERSON = EXAMPLES / 'peterson' / 'peterson.elf'
 FENCED = EXAMPLES / 'peterson_fenced' / 'peterson_fenced.elf'
@@ -55,6 +59,11 @@ def found() -> History:
 
 def history(run: Path, elf: Path) -> History:
     return make_history(read_output(str(run)), Program(str(elf)))
+
+
+def values(run: Path, elf: Path, trace: str) -> Values:
+    """A run with what it read and wrote, as a kept text says it."""
+    return Values(history(run, elf), parse_trace(trace, (TRACES / trace).read_bytes()))
 
 
 def lens(*words: object, cwd: Path = ROOT, stdin: bytes = b'') -> subprocess.CompletedProcess:

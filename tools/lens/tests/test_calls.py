@@ -1,9 +1,26 @@
 """`lens calls`: the kept list of one run."""
 import unittest
 
-from .common import EXAMPLES, GOLDEN, lens, needs_program
+from lens.trace_text import parse_trace
+from lens.traced_calls import list_traced_calls, traced_calls
+from lens.values import Values
+
+from .common import EXAMPLES, FOUND, GOLDEN, PETERSON, TRACES, found, lens, needs_program, values
 
 COUNTER = EXAMPLES / 'percpu_counter'
+WAIT = """0 exec 1 0000000000010000
+  line 1
+  call futex 0000000000020000 0000000000000000 0000000000000002 0000000000000000
+  answer later
+  thread 1 sleeps 0000000000020000
+  x10 a0 0000000000000000
+1 exec 2 0000000000010008
+  line 2
+  call {call}
+  answer 0000000000000001
+  thread 1 woken
+{told}end open
+"""
 
 
 @needs_program
@@ -19,6 +36,46 @@ class Calls(unittest.TestCase):
         self.assertEqual(answer.returncode, 0)
         self.assertIn(b'futex(threads, FUTEX_WAIT, 2) = ?', answer.stdout)
         self.assertIn(b'5 calls; end open', answer.stdout)
+
+
+class Traced(unittest.TestCase):
+    """The calls by a trace, with what they wrote and whom they woke."""
+
+    maxDiff = None
+    RUNS = {
+        'found': (FOUND, PETERSON),
+        'restarted': (TRACES / 'restarted.output', COUNTER / 'percpu_counter.elf'),
+    }
+
+    def test_golden(self):
+        for name, (run, elf) in self.RUNS.items():
+            with self.subTest(run=name):
+                listed = '\n'.join(list_traced_calls(values(run, elf, f'{name}.trace'), None))
+                self.assertEqual(f'{listed}\n', (GOLDEN / f'{name}.calls').read_text())
+
+    @needs_program
+    def test_arguments_and_answers(self):
+        """They are those that `inspect` gives."""
+        for name, (run, elf) in self.RUNS.items():
+            with self.subTest(run=name):
+                listed = list_traced_calls(values(run, elf, f'{name}.trace'), None)
+                calls = [line for line in listed if not line.startswith(' ' * 17)]
+                self.assertEqual(calls, lens('calls', run, elf).stdout.decode().splitlines())
+
+    def test_a_wait_answers_later(self):
+        """A woken thread finds what the call itself left in a0, and one whose wait is broken EINTR."""
+        for call, told, due in (
+            ('futex 0000000000020000 0000000000000001 0000000000000001 0000000000000000', '', 0),
+            ('tkill 0000000000000001 000000000000000a', '  thread 1 x10 a0 fffffffffffffffc\n', 2**64 - 4),
+        ):
+            with self.subTest(call=call):
+                trace = parse_trace('a wait', WAIT.format(call=call, told=told).encode())
+                first, _ = traced_calls(Values(found(), trace))
+                self.assertEqual(first.answer, due)
+
+    def test_those_of_a_thread(self):
+        listed = list(list_traced_calls(values(*self.RUNS['found'], 'found.trace'), 1))
+        self.assertIn('write(1, "count 1: an addition is lost\\n", 29) = 29', '\n'.join(listed))
 
 
 if __name__ == '__main__':

@@ -11,12 +11,14 @@ from .common import (
     FOUND,
     GOLDEN,
     PETERSON,
+    TRACES,
     assemble,
     found,
     history,
     lens,
     needs_objdump,
     output_text,
+    values,
 )
 
 
@@ -47,6 +49,19 @@ class Listing(unittest.TestCase):
         run, elf = folder / 'inside.output', folder / 'signal_in_sequence.elf'
         answer = lens('list', run, elf, '--around', 167, '--context', 28)
         self.assertEqual(answer.stdout.decode(), (GOLDEN / 'inside.listing').read_text())
+
+    @needs_objdump
+    def test_golden_of_values(self):
+        told = values(FOUND, PETERSON, 'found.trace')
+        listed = '\n'.join(list_run(told.history, Selection(first=70, last=128), told))
+        self.assertEqual(f'{listed}\n', (GOLDEN / 'found.values').read_text())
+
+    @needs_objdump
+    def test_golden_of_an_area(self):
+        folder = EXAMPLES / 'percpu_counter'
+        told = values(TRACES / 'restarted.output', folder / 'percpu_counter.elf', 'restarted.trace')
+        listed = '\n'.join(list_run(told.history, Selection(first=100, last=160), told))
+        self.assertEqual(f'{listed}\n', (GOLDEN / 'restarted.values').read_text())
 
     def rows(self, **chosen):
         return list(list_run(found(), Selection(**chosen)))[1:-2]

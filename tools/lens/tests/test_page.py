@@ -64,7 +64,7 @@ class Page(unittest.TestCase):
             timeout=300,
         )
         if not below.strip().startswith(COMMANDS):
-            printed = words(ran.stdout + ran.stderr)
+            printed = words(ran.stdout + ran.stderr).replace(f'{room}/', '/tmp/')
             self.assertTrue(
                 not printed or printed.startswith(words(below)),
                 f'{printed[:400]}\nand not\n{words(below)[:400]}',

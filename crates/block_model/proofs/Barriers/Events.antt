@@ -1,12 +1,8 @@
 -- What an event has to do so that what holds of barriers goes on to hold, and what it then makes of requests and of barriers that are
 -- waited in. No kind of event occurs here.
 use Rattle.std.proofs.Common.{◌≡◌, ◌≢◌, ◌⊎◌, ℕ, ◌<◌, ◌++◌, drop, [], Bool, true, false, cond, eqb, ◌&&◌, ◌||◌, Option, Some, None, refl, sym, ap, ◌∙◌}
-use Rattle.std.specs.Option.{option_map, option_or}
-use Rattle.mach_types.specs.Kernel.Scheduling.{has_hart}
-use Rattle.mach_types.specs.Kernel.Threads.{Threads, running_on}
-use Rattle.block_model.specs.Beside.{Neighbour}
-use Rattle.block_model.specs.Here.{Barrier, Done, Here, runs, waiting_here}
-use Rattle.block_model.specs.Requests.{awaits_after, awaits_of_own, is_about, requests_after, restart_after, restarts_at, with_hart, without_hart}
+use Rattle.block_model.proofs.Common.{Barrier, Done, Here, Neighbour, Threads, awaits_after, awaits_of_own, has_hart, option_map, option_or, requests_after, restart_after, restarts_at, running_on, runs, waiting_here, with_hart, without_hart}
+use Rattle.block_model.specs.Requests.{is_about}
 use Rattle.block_model.proofs.Barriers.Requests.{IsAwaited, awaited_begun, awaited_returned, awaited_same, awaited_taken}
 use Rattle.block_model.proofs.HartSets.{some_in, with_hart-itself}
 

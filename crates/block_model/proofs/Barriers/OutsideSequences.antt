@@ -1,22 +1,8 @@
 -- A hart whose thread waits in a barrier is in no sequence: the call of the barrier is outside, and no instruction is executed until the
 -- barrier returns.
 use Rattle.std.proofs.Common.{◌≡◌, ℕ, ◌∷◌, refl, sym, ap, ◌∙◌, Bool, true, false, cond, eq-eqb, Option, Some, None}
-use Rattle.std.specs.Option.{option_map, option_map_or, option_or}
-use Rattle.std.proofs.lemmas.Bool.{false≢true}
-use Rattle.mach_types.specs.Events.{choice_with}
-use Rattle.mach_types.specs.declared.events.Entry.{Entry}
-use Rattle.mach_types.specs.declared.events.Kind.{Kind}
+use Rattle.block_model.proofs.Common.{Barrier, Done, Entry, Event, Here, History, IsRunHistory, Kind, Outcome, Sequence, Setting, awaits, awaits_of_own, choice_with, done_of, false≢true, is_inside_at, is_inside_here, is_instruction, is_of_hart, is_taken_in, option_map, option_map_or, option_or, refusal_exec_by, refusal_of, runs, sequence_on, without_hart}
 use Rattle.mach_types.specs.declared.events.Kind.TheVariants as kind
-use Rattle.mach_types.specs.declared.sequences.Outcome.{Outcome}
-use Rattle.block_model.specs.Acts.{Sequence, is_inside_at, is_instruction, is_taken_in, sequence_on}
-use Rattle.block_model.specs.Events.{done_of, refusal_of}
-use Rattle.block_model.specs.Events.Exec.{refusal_exec_by}
-use Rattle.block_model.specs.Here.{Barrier, Done, Here, runs}
-use Rattle.block_model.specs.History.{Event, History, awaits, is_of_hart}
-use Rattle.block_model.specs.Requests.{awaits_of_own, without_hart}
-use Rattle.block_model.specs.Run.{IsRunHistory}
-use Rattle.block_model.specs.Sequences.{is_inside_here}
-use Rattle.block_model.specs.Setting.{Setting}
 use Rattle.block_model.proofs.Invariants.Events.{out_of_barrier}
 use Rattle.block_model.proofs.Sequences.{Begins, Elsewhere, IsOf, Own, SequenceStep, TakesIn, is_taken, by_sequence}
 use Rattle.block_model.proofs.WholeEvents.{did, is_free, place}

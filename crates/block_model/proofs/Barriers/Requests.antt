@@ -1,11 +1,7 @@
 -- Requests of barriers and the barriers that threads wait in, hart by hart: what holds of them at each place of a run, and that it goes
 -- on to hold where a barrier begins, where a hart takes its requests, and where a barrier returns. No event occurs here.
 use Rattle.std.proofs.Common.{◌≡◌, ◌≢◌, ℕ, ◌<◌, Bool, true, false, cond, eqb, Option, Some, None, inl, inr, refl, sym, ap, ◌∙◌, subst, arith}
-use Rattle.std.specs.Option.{option_map}
-use Rattle.std.proofs.lemmas.Bool.{cases_eq}
-use Rattle.std.proofs.lemmas.Bool.Decides.{eqb_tells}
-use Rattle.mach_types.specs.Kernel.Scheduling.{has_hart}
-use Rattle.block_model.specs.Requests.{with_hart, without_hart}
+use Rattle.block_model.proofs.Common.{cond_both, eqb_same, eqb_tells, has_hart, ne_eqb, option_map, with_hart, without_hart}
 use Rattle.block_model.proofs.HartSets.{none_in, with_hart-itself, with_hart-keeps, with_hart-other, without_hart-has, without_hart-other}
 
 -- the barrier of hart h's thread waits for hart k
@@ -36,29 +32,29 @@ awaited_start harts = record {
   several = λ h left waits. absurd cc;
 }
 
--- requests are pending at harts of the machine alone
-pub asked_below : (harts : ℕ) (requests : ℕ → ℕ) (awaits : ℕ → Option ℕ) (k : ℕ) → IsAwaited harts requests awaits → requests k ≢ 0 → k < harts
-asked_below harts requests awaits k is some =
-    let by = is.asked k some in
-    let its = is.awaited k by.0 by.1 in
-    is.below by.0 its.left k its.waits its.in_left
-
--- where nothing of it changes, it goes on to hold
-pub awaited_same : (harts : ℕ) (requests requests2 : ℕ → ℕ) (awaits awaits2 : ℕ → Option ℕ) → IsAwaited harts requests awaits
-    → ((k : ℕ) → requests2 k ≡ requests k) → ((k : ℕ) → awaits2 k ≡ awaits k) → IsAwaited harts requests2 awaits2
-awaited_same harts requests requests2 awaits awaits2 is same_requests same_awaits = record {
-  pending = λ h left k waits has.
-      ap (λ set. has_hart set h) (same_requests k) ∙ is.pending h left k (sym (same_awaits h) ∙ waits) has;
-  other = λ h left k waits has. is.other h left k (sym (same_awaits h) ∙ waits) has;
-  below = λ h left k waits has. is.below h left k (sym (same_awaits h) ∙ waits) has;
+-- where requests stay, and each barrier that is waited in was, and goes on while it waits for some hart, it goes on to hold
+awaited_fewer : (harts : ℕ) (requests requests2 : ℕ → ℕ) (awaits awaits2 : ℕ → Option ℕ) → IsAwaited harts requests awaits
+    → ((k : ℕ) → requests2 k ≡ requests k) → ((h left : ℕ) → awaits2 h ≡ Some left → awaits h ≡ Some left)
+    → ((h left k : ℕ) → awaits h ≡ Some left → has_hart left k ≡ true → awaits2 h ≡ Some left) → IsAwaited harts requests2 awaits2
+awaited_fewer harts requests requests2 awaits awaits2 is same_requests was goes_on = record {
+  pending = λ h left k waits has. ap (λ set. has_hart set h) (same_requests k) ∙ is.pending h left k (was h left waits) has;
+  other = λ h left k waits has. is.other h left k (was h left waits) has;
+  below = λ h left k waits has. is.below h left k (was h left waits) has;
   awaited = λ k h has.
       let its = is.awaited k h (ap (λ set. has_hart set h) (sym (same_requests k)) ∙ has) in
-      record { left = its.left; waits = same_awaits h ∙ its.waits; in_left = its.in_left };
+      record { left = its.left; waits = goes_on h its.left k its.waits its.in_left; in_left = its.in_left };
   asked = λ k some.
       let by = is.asked k (λ none. some (same_requests k ∙ none)) in
       (by.0, ap (λ set. has_hart set by.0) (same_requests k) ∙ by.1);
-  several = λ h left waits. is.several h left (sym (same_awaits h) ∙ waits);
+  several = λ h left waits. is.several h left (was h left waits);
 }
+
+-- so where nothing of it changes
+pub awaited_same : (harts : ℕ) (requests requests2 : ℕ → ℕ) (awaits awaits2 : ℕ → Option ℕ) → IsAwaited harts requests awaits
+    → ((k : ℕ) → requests2 k ≡ requests k) → ((k : ℕ) → awaits2 k ≡ awaits k) → IsAwaited harts requests2 awaits2
+awaited_same harts requests requests2 awaits awaits2 is same_requests same_awaits =
+    awaited_fewer harts requests requests2 awaits awaits2 is same_requests (λ h left waits. sym (same_awaits h) ∙ waits)
+    (λ h left k waits has. same_awaits h ∙ waits)
 
 -- the thread of hart h begins a barrier at other harts of the machine
 module _ (harts h targets : ℕ) (requests requests2 : ℕ → ℕ) (awaits awaits2 : ℕ → Option ℕ) (is : IsAwaited harts requests awaits)
@@ -70,23 +66,16 @@ module _ (harts h targets : ℕ) (requests requests2 : ℕ → ℕ) (awaits awai
     (now_awaits : (k : ℕ) → awaits2 k ≡ cond (eqb h k) (Some targets) (awaits k)) where
   -- what waits after it: the thread of the hart for its targets, and others as before
   own_awaits : awaits2 h ≡ Some targets
-  own_awaits = now_awaits h ∙ elim (eqb_tells h h) [
-    | inl p ↦ ap (λ b. cond b (Some targets) (awaits h)) p.0
-    | inr q ↦ absurd (q.1 refl)
-  ]
+  own_awaits = now_awaits h ∙ ap (λ b. cond b (Some targets) (awaits h)) (eqb_same h)
 
   other_awaits : (j : ℕ) → j ≢ h → awaits2 j ≡ awaits j
-  other_awaits j ne = now_awaits j ∙ elim (eqb_tells h j) [
-    | inl p ↦ absurd (ne (sym p.1))
-    | inr q ↦ ap (λ b. cond b (Some targets) (awaits j)) q.0
-  ]
+  other_awaits j ne = now_awaits j ∙ ap (λ b. cond b (Some targets) (awaits j)) (ne_eqb h j (λ e. ne (sym e)))
 
   requests_stay : (j k : ℕ) → has_hart (requests k) j ≡ true → has_hart (requests2 k) j ≡ true
-  requests_stay j k has = ap (λ set. has_hart set j) (now_requests k) ∙ go (has_hart targets k)
-    where
-      go : (b : Bool) → has_hart (cond b (with_hart h (requests k)) (requests k)) j ≡ true
-      go true = with_hart-keeps h (requests k) j has
-      go false = has
+  requests_stay j k has =
+      ap (λ set. has_hart set j) (now_requests k)
+      ∙ cond_both (has_hart targets k) (with_hart h (requests k)) (requests k) (λ set. has_hart set j ≡ true)
+      (λ about. with_hart-keeps h (requests k) j has) (λ about. has)
 
   own_request : (k : ℕ) → has_hart targets k ≡ true → has_hart (requests2 k) h ≡ true
   own_request k about =
@@ -164,25 +153,18 @@ module _ (harts h : ℕ) (requests requests2 : ℕ → ℕ) (awaits awaits2 : �
     (now_requests : (k : ℕ) → requests2 k ≡ cond (eqb h k) 0 (requests k))
     (now_awaits : (k : ℕ) → awaits2 k ≡ cond (eqb h k) (awaits k) (option_map (without_hart h) (awaits k))) where
   requests_elsewhere : (k : ℕ) → k ≢ h → requests2 k ≡ requests k
-  requests_elsewhere k ne = now_requests k ∙ elim (eqb_tells h k) [
-    | inl p ↦ absurd (ne (sym p.1))
-    | inr q ↦ ap (λ b. cond b 0 (requests k)) q.0
-  ]
+  requests_elsewhere k ne = now_requests k ∙ ap (λ b. cond b 0 (requests k)) (ne_eqb h k (λ e. ne (sym e)))
 
   requests_here : requests2 h ≡ 0
-  requests_here = now_requests h ∙ elim (eqb_tells h h) [
-    | inl p ↦ ap (λ b. cond b 0 (requests h)) p.0
-    | inr q ↦ absurd (q.1 refl)
-  ]
+  requests_here = now_requests h ∙ ap (λ b. cond b 0 (requests h)) (eqb_same h)
 
   taken_several : (j left : ℕ) → awaits2 j ≡ Some left → 1 < harts
   taken_several j left waits = go (eqb h j) (awaits j) refl (sym (now_awaits j) ∙ waits)
     where
       go : (b : Bool) (o : Option ℕ) → awaits j ≡ o → cond b o (option_map (without_hart h) o) ≡ Some left → 1 < harts
-      go true None was now = absurd cc
-      go false None was now = absurd cc
       go true (Some all) was now = is.several j all was
       go false (Some all) was now = is.several j all was
+      go b o was now = absurd cc
 
   -- a barrier that waits after it waited before, and for each hart that it waits for, but this one
   was_awaited : (j left k : ℕ) → awaits2 j ≡ Some left → has_hart left k ≡ true → (k ≢ h) × IsAwaitedBy awaits j k
@@ -256,46 +238,24 @@ module _ (harts h : ℕ) (requests requests2 : ℕ → ℕ) (awaits awaits2 : �
       go true now = absurd cc
       go false now = now
 
-  returned_awaited : (k j : ℕ) → has_hart (requests2 k) j ≡ true → IsAwaitedBy awaits2 j k
-  returned_awaited k j has =
-      let its = is.awaited k j (ap (λ set. has_hart set j) (sym (now_requests k)) ∙ has) in
-      elim (eqb_tells h j) [
-        | inl p ↦
-            let same : Some 0 ≡ Some its.left = sym over ∙ ap awaits p.1 ∙ its.waits in
-            let left_is : its.left ≡ 0 = cc in
-            let no = none_in k in
-            let yes = ap (λ set. has_hart set k) (sym left_is) ∙ its.in_left in
-            absurd cc
-        | inr q ↦ record { left = its.left; waits = now_awaits j ∙ ap (λ b. cond b None (awaits j)) q.0 ∙ its.waits; in_left = its.in_left }
-      ]
+  goes_on : (j left k : ℕ) → awaits j ≡ Some left → has_hart left k ≡ true → awaits2 j ≡ Some left
+  goes_on j left k waits has = elim (eqb_tells h j) [
+    | inl p ↦
+        let same : Some 0 ≡ Some left = sym over ∙ ap awaits p.1 ∙ waits in
+        let left_is : left ≡ 0 = cc in
+        let no = none_in k in
+        let yes = ap (λ set. has_hart set k) (sym left_is) ∙ has in
+        absurd cc
+    | inr q ↦ now_awaits j ∙ ap (λ b. cond b None (awaits j)) q.0 ∙ waits
+  ]
 
   pub awaited_returned : IsAwaited harts requests2 awaits2
-  awaited_returned = record {
-    pending = λ j left k waits has. ap (λ set. has_hart set j) (now_requests k) ∙ is.pending j left k (was_waiting j left waits) has;
-    other = λ j left k waits has. is.other j left k (was_waiting j left waits) has;
-    below = λ j left k waits has. is.below j left k (was_waiting j left waits) has;
-    awaited = returned_awaited;
-    asked = λ k some.
-        let by = is.asked k (λ none. some (now_requests k ∙ none)) in
-        (by.0, ap (λ set. has_hart set by.0) (now_requests k) ∙ by.1);
-    several = λ j left waits. is.several j left (was_waiting j left waits);
-  }
+  awaited_returned = awaited_fewer harts requests requests2 awaits awaits2 is now_requests was_waiting goes_on
 
--- on a machine of one hart no thread waits in a barrier, and no request is pending
+-- on a machine of one hart no thread waits in a barrier
 pub alone_awaits : (requests : ℕ → ℕ) (awaits : ℕ → Option ℕ) (h : ℕ) → IsAwaited 1 requests awaits → awaits h ≡ None
 alone_awaits requests awaits h is = go (awaits h) refl
   where
     go : (o : Option ℕ) → awaits h ≡ o → o ≡ None
     go None waits = refl
     go (Some left) waits = let two = is.several h left waits in absurd (omega arith)
-
-pub alone_requests : (requests : ℕ → ℕ) (awaits : ℕ → Option ℕ) (k : ℕ) → IsAwaited 1 requests awaits → requests k ≡ 0
-alone_requests requests awaits k is = elim (cases_eq (requests k) 0) [
-  | inl none ↦ none
-  | inr some ↦
-      let by = is.asked k some in
-      let its = is.awaited k by.0 by.1 in
-      let none = alone_awaits requests awaits by.0 is in
-      let bad : None ≡ Some its.left = sym none ∙ its.waits in
-      absurd cc
-]

@@ -1,28 +1,10 @@
 -- In a log of allowed entries a barrier returns only where each hart that it is about is passed (membarrier(2)). While a thread waits
 -- in its barrier, each hart that the barrier is about has a request pending or is passed already.
 use Rattle.std.proofs.Common.{◌≡◌, ◌≢◌, ℕ, ◌+◌, ◌≤◌, List, [], ◌∷◌, ◌++◌, length, length-append, length-drop, drop, eqb, arith, refl, sym, ap, ◌∙◌, subst, Bool, true, false, not, cond, ◌&&◌, ◌||◌, inl, inr, Option, Some, None, is_none}
-use Rattle.std.specs.List.{fold}
-use Rattle.std.specs.Option.{option_map, option_map_or, option_or}
-use Rattle.std.proofs.lemmas.Bool.{cases_eq, eqb-true, eqb-false, false≢true, ne_eqb, or_right}
-use Rattle.mach_types.proofs.Laws.{eqb_same}
-use Rattle.mach_types.specs.Events.{choice_with}
-use Rattle.mach_types.specs.Kernel.Scheduling.{has_hart}
-use Rattle.mach_types.specs.declared.events.Entry.{Entry}
-use Rattle.mach_types.specs.declared.events.Kind.{Kind}
+use Rattle.block_model.proofs.Common.{Barrier, Done, Entry, Event, Here, History, IsAllowedLog, IsRunHistory, Kind, Sequence, Setting, Store, and_right, awaits, awaits_of_own, begun_with, cases_eq, choice_with, done_done_by, done_of, done_take_by, drains, eqb-false, eqb-true, eqb_same, event, false≢true, fold, has_hart, here_in_history, history, is_inside_at, is_inside_here, is_instruction, is_of_hart, is_taken_in, ne_eqb, option_map, option_map_or, option_or, or_right, refusal_done_by, restart, restarts_at, running, runs, sequence_on, stores, taken_up, waiting, with_event, without_hart}
 use Rattle.mach_types.specs.declared.events.Kind.TheVariants as kind
-use Rattle.mach_types.specs.declared.user_memory.Store.{Store}
-use Rattle.block_model.specs.Acts.{Sequence, begun_with, is_inside_at, is_instruction, is_taken_in, sequence_on, taken_up, with_event}
 use Rattle.block_model.specs.Barriers.{Begun, HaveReturned, IsPassed, IsProperReturn, begun_on, begun_or}
-use Rattle.block_model.specs.Deciding.{event, history}
-use Rattle.block_model.specs.Events.{done_of}
-use Rattle.block_model.specs.Events.Finish.{done_done_by, refusal_done_by}
-use Rattle.block_model.specs.Events.Take.{done_take_by}
-use Rattle.block_model.specs.Here.{Barrier, Done, Here, runs}
-use Rattle.block_model.specs.History.{Event, History, awaits, drains, here_in_history, is_of_hart, restart, running, stores, waiting}
-use Rattle.block_model.specs.Requests.{awaits_of_own, has_taken, restarts_at, without_hart}
-use Rattle.block_model.specs.Run.{IsAllowedLog, IsRunHistory}
-use Rattle.block_model.specs.Sequences.{is_inside_here}
-use Rattle.block_model.specs.Setting.{Setting}
+use Rattle.block_model.specs.Requests.{has_taken}
 use Rattle.block_model.proofs.ErrorCalls.{run_to}
 use Rattle.block_model.proofs.EventEffects.{EventDeed, Restarts, Takes, deed_of}
 use Rattle.block_model.proofs.Invariants.Events.{takes_where}
@@ -50,9 +32,6 @@ pub record IsEarlier (call before : History) : Type 0 where
   pub place : length call ≤ length before
   pub fewer : (k : ℕ) → length (stores k call) ≤ length (stores k before)
 
-is_earlier : (before : History) → IsEarlier before before
-is_earlier before = record { place = omega arith; fewer = λ k. omega arith }
-
 more_stores : (b : Bool) (ws more : List Store) → length ws ≤ length (cond b (ws ++ more) ws)
 more_stores true ws more = omega (arith, length-append ws more)
 more_stores false ws more = omega arith
@@ -73,7 +52,7 @@ call_earlier h (e ∷ before) b is = earlier_next b.call e before (by_hart (is_o
     by_barrier None older is = older is
     by_barrier (Some barrier) older is =
         let same : before ≡ b.call = cc in
-        subst (λ (call : History). IsEarlier call before) same (is_earlier before)
+        subst (λ (call : History). IsEarlier call before) same (record { place = omega arith; fewer = λ k. omega arith })
 
     by_hart : (c : Bool) → (begun_on h before ≡ Some b → IsEarlier b.call before)
         → cond c (begun_or (begun_on h before) before e.done.barrier) (begun_on h before) ≡ Some b → IsEarlier b.call before
@@ -187,11 +166,7 @@ restart_stays k h d before none asks =
     ap (λ b. cond b false (restarts_at k d.barrier || before)) none ∙ or_right (restarts_at k d.barrier) before asks
 
 none_taken : (k h : ℕ) (d : Done) → d.took ≡ false → has_taken k h d ≡ false
-none_taken k h d none = ap (λ b. eqb h k && b) none ∙ never (eqb h k)
-  where
-    never : (b : Bool) → (b && false) ≡ false
-    never true = refl
-    never false = refl
+none_taken k h d none = and_right (eqb h k) d.took none
 
 other_taken : (k h : ℕ) (d : Done) → h ≢ k → has_taken k h d ≡ false
 other_taken k h d other = ap (λ b. b && d.took) (ne_eqb h k other)

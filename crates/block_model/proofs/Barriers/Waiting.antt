@@ -1,28 +1,9 @@
 -- While a thread waits in the barrier that it began it stays on its hart, which makes no event but takes of requests (membarrier(2)). And a
 -- take interrupts a thread only where one of the requests asks for a restart.
 use Rattle.std.proofs.Common.{◌≡◌, ℕ, refl, Bool, true, false, Option, Some, None, ◌≢◌, List, [], ◌∷◌, ◌++◌, sym, ap, ◌∙◌, subst, cond}
-use Rattle.block_model.specs.Events.Take.{done_take, done_take_by}
-use Rattle.block_model.specs.Here.{Here, runs, Barrier, Done, waiting_here}
-use Rattle.std.specs.Option.{IsSome, option_map, option_or}
-use Rattle.std.proofs.lemmas.Bool.{eqb-true, eqb-false, false≢true}
-use Rattle.mach_types.specs.Events.{choice_with}
-use Rattle.mach_types.specs.Kernel.Signals.{next_for}
-use Rattle.mach_types.specs.Kernel.Threads.{running_on}
-use Rattle.mach_types.specs.declared.events.Entry.{Entry}
-use Rattle.mach_types.specs.declared.events.Kind.{Kind}
+use Rattle.block_model.proofs.Common.{Barrier, Done, Entry, Event, Here, History, IsAllowedLog, IsRunHistory, IsSome, Kind, Setting, Store, awaits, awaits_of_own, choice_with, done, done_of, done_take, done_take_by, eqb-false, eqb-true, event, false≢true, history, is_of_hart, next_for, number_of, option_map, option_or, refusal_delivery, refusal_drain_of, refusal_exec_by, refusal_of, refusal_preempt_by, refusal_signal_by, restart, running, running_on, runs, thread_in, unless_waiting, waiting_here, without_hart}
 use Rattle.mach_types.specs.declared.events.Kind.TheVariants as kind
-use Rattle.mach_types.specs.declared.user_memory.Store.{Store}
 use Rattle.block_model.specs.Barriers.{Begun, IsWaiting, begun_on, begun_or}
-use Rattle.block_model.specs.Deciding.{done, event, history, number_of, thread_in}
-use Rattle.block_model.specs.Events.{done_of, refusal_of}
-use Rattle.block_model.specs.Events.Drain.{refusal_drain_of}
-use Rattle.block_model.specs.Events.Exec.{refusal_exec_by}
-use Rattle.block_model.specs.Events.Preempt.{refusal_preempt_by, unless_waiting}
-use Rattle.block_model.specs.Events.Signal.{refusal_delivery, refusal_signal_by}
-use Rattle.block_model.specs.History.{Event, History, awaits, is_of_hart, restart, running}
-use Rattle.block_model.specs.Requests.{awaits_of_own, without_hart}
-use Rattle.block_model.specs.Run.{IsAllowedLog, IsRunHistory}
-use Rattle.block_model.specs.Setting.{Setting}
 use Rattle.block_model.proofs.Barriers.Events.{waited_before}
 use Rattle.block_model.proofs.Barriers.Return.{returns_by}
 use Rattle.block_model.proofs.ErrorCalls.{run_to}

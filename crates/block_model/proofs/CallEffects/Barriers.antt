@@ -1,35 +1,21 @@
 -- membarrier(2): its answer is one at once, or its barrier is about other harts of the machine. So it is beside another process.
 use Rattle.std.proofs.Common.{◌≡◌, ◌≢◌, ◌⊎◌, inl, inr, ℕ, ℤ, pos, ◌+◌, ◌-◌, ◌*◌, ◌%◌, ◌^◌, ◌<◌, ◌≤◌, [], Bool, true, false, not, cond, eqb, ltb, ◌&&◌, ◌||◌, Option, Some, None, is_some, refl, sym, ap, ◌∙◌, subst, arith}
-use Rattle.std.specs.Option.{option_map_or}
+use Rattle.block_model.proofs.Common.{CallDone, EINVAL, EPERM, Errno, Here, IsError, IsGoodHere, Neighbour, Registered, Threads, and_parts, argument, eqb-false, eqb_same, false≢true, for_barriers, has_hart, has_hart-harts_that, int_argument, ltb-true, mod-lt, negative, option_map_or, or_cases, running_on, said}
 use Rattle.std.specs.Int.{w32, cast_unsigned}
 use Rattle.std.specs.Ordering.{int_eq}
 use Rattle.std.specs.Prelude.{neg_ℤ}
-use Rattle.std.proofs.Math.Nat.{mod-lt}
-use Rattle.std.proofs.lemmas.Bool.{and_parts, eqb-false, false≢true, ltb-true, or_cases}
 use Rattle.std.proofs.lemmas.Bool.Decides.{Decides-int_eq}
 use Rattle.std.proofs.lemmas.Int.{of_z-to_z}
 use Rattle.std.proofs.lemmas.Nat.{mod-mul-add}
-use Rattle.mach_types.proofs.Laws.{eqb_same, has_hart-harts_that}
 use Rattle.mach_types.specs.Kernel.Barriers.{answer_of, asked, barrier_at, counted_if, is_about, is_asked, is_target, number_of, offered, query_value, refusal, registered_after, registered_by, registrations, takes_flags, targets}
-use Rattle.mach_types.specs.Kernel.Scheduling.{has_hart}
-use Rattle.mach_types.specs.Kernel.Threads.{Threads, running_on}
 use Rattle.mach_types.specs.declared.barriers.Answer.{Answer}
 use Rattle.mach_types.specs.declared.barriers.Answer.TheVariants.{Value}
 use Rattle.mach_types.specs.declared.barriers.BarrierCommand.{BarrierCommand}
 use Rattle.mach_types.specs.declared.barriers.BarrierCommand.TheVariants.{Query, Global, GlobalExpedited, RegisterGlobalExpedited, PrivateExpedited, RegisterPrivateExpedited, PrivateExpeditedRseq, RegisterPrivateExpeditedRseq, GetRegistrations}
-use Rattle.mach_types.specs.declared.barriers.Registered.{Registered}
-use Rattle.mach_types.specs.declared.errors.Errno.{Errno}
-use Rattle.mach_types.specs.declared.errors.TheConstants.{EINVAL, EPERM}
 use Rattle.rv_inst.specs.Words.{signed_32, word}
-use Rattle.block_model.specs.Beside.{Neighbour}
-use Rattle.block_model.specs.Calls.Answers.{CallDone, argument, int_argument, negative, said}
 use Rattle.block_model.specs.Calls.Barriers.{answers, running_harts}
 use Rattle.block_model.specs.Calls.Beside.{barrier_call}
 use Rattle.mach_types.specs.Kernel.PairBarriers.{answer_beside, concerned, is_concerned}
-use Rattle.block_model.specs.ErrorCalls.{IsError}
-use Rattle.block_model.specs.Here.{Here}
-use Rattle.block_model.specs.Kernel.{for_barriers}
-use Rattle.block_model.specs.Standing.{IsGoodHere}
 use Rattle.block_model.proofs.Barriers.Events.{IsAtOthers, RunsOn}
 use Rattle.block_model.proofs.HartSets.{some_hart}
 use Rattle.block_model.proofs.CallEffects.{CallDeed, Answers, Begins, EnrolsFor, Says, small_no_error}
@@ -46,22 +32,17 @@ runs_there ts harts k is none =
 -- one of two processes runs a thread on a hart that a command is about
 either_part : (a b c d : Bool) → (a && b || c && d) ≡ true → (b ≡ true) ⊎ (d ≡ true)
 either_part true true c d is = inl refl
-either_part true false true d is = inr is
 either_part true false false d is = cc
-either_part false b true d is = inr is
 either_part false b false d is = cc
+either_part a b c d is = inr is
 
 concerns_running : (c : BarrierCommand) (mine other : Registered) (own others : Bool) → is_concerned c mine other own others ≡ true
     → (own ≡ true) ⊎ (others ≡ true)
-concerns_running Query mine other own others is = cc
 concerns_running Global mine other own others is = or_cases own others is
 concerns_running GlobalExpedited mine other own others is = either_part mine.global own other.global others is
-concerns_running RegisterGlobalExpedited mine other own others is = cc
 concerns_running PrivateExpedited mine other own others is = inl is
-concerns_running RegisterPrivateExpedited mine other own others is = cc
 concerns_running PrivateExpeditedRseq mine other own others is = inl is
-concerns_running RegisterPrivateExpeditedRseq mine other own others is = cc
-concerns_running GetRegistrations mine other own others is = cc
+concerns_running c mine other own others is = cc
 
 module _ (c : BarrierCommand) (mine : Registered) (o : Neighbour) (ts : Threads) (harts k : ℕ) where
   abbrev concerns : ℕ → Bool
@@ -227,19 +208,17 @@ module _ (here : Here) (t number : ℕ) (its_number : number ≡ 283) where
   deed_command running run GlobalExpedited is =
       either_answer here.kernel.barriers.global _ _ (λ _. deed_barrier running run GlobalExpedited false is)
       (λ _. deed_value 0 (omega arith))
-  deed_command running run RegisterGlobalExpedited is = deed_value 0 (omega arith)
   deed_command running run PrivateExpedited is =
       either_answer here.kernel.barriers.private _ _
       (λ _. deed_barrier running run PrivateExpedited false is)
       (λ _. deed_refusal EPERM refl (kept PrivateExpedited is refl))
-  deed_command running run RegisterPrivateExpedited is = deed_value 0 (omega arith)
   deed_command running run PrivateExpeditedRseq is =
       either_answer here.kernel.barriers.rseq _ _
       (λ _. deed_barrier running run PrivateExpeditedRseq true is)
       (λ _. deed_refusal EPERM refl (kept PrivateExpeditedRseq is refl))
-  deed_command running run RegisterPrivateExpeditedRseq is = deed_value 0 (omega arith)
   deed_command running run GetRegistrations is =
       deed_value (registrations here.kernel.barriers) (registrations_low here.kernel.barriers)
+  deed_command running run other is = deed_value 0 (omega arith)
 
   -- no command has the number, or none takes the flags
   deed_unknown : asked cmd flags ≡ None → CallDeed here t number (answers here t (refusal EINVAL))
@@ -256,16 +235,8 @@ module _ (here : Here) (t number : ℕ) (its_number : number ≡ 283) where
   -- beside another process GLOBAL_EXPEDITED alone answers otherwise
   deed_command_beside : (running : ℕ) → AllRun running → (c : BarrierCommand) → asked cmd flags ≡ Some c
       → CallDeed here t number (answers here t (answer_beside here.kernel.barriers (set running) c))
-  deed_command_beside running run Query is = deed_command running run Query is
-  deed_command_beside running run Global is = deed_command running run Global is
   deed_command_beside running run GlobalExpedited is = deed_barrier running run GlobalExpedited false is
-  deed_command_beside running run RegisterGlobalExpedited is = deed_command running run RegisterGlobalExpedited is
-  deed_command_beside running run PrivateExpedited is = deed_command running run PrivateExpedited is
-  deed_command_beside running run RegisterPrivateExpedited is = deed_command running run RegisterPrivateExpedited is
-  deed_command_beside running run PrivateExpeditedRseq is = deed_command running run PrivateExpeditedRseq is
-  deed_command_beside running run RegisterPrivateExpeditedRseq is =
-      deed_command running run RegisterPrivateExpeditedRseq is
-  deed_command_beside running run GetRegistrations is = deed_command running run GetRegistrations is
+  deed_command_beside running run c is = deed_command running run c is
 
   module _ (other : Neighbour) (there : here.beside ≡ Some other) where
     abbrev about : BarrierCommand → ℕ

@@ -1,10 +1,7 @@
 -- clone(2).
 use Rattle.std.proofs.Common.{◌≡◌, ℕ, ◌&&◌, [], ◌∷◌, true, arith}
-use Rattle.std.proofs.lemmas.Bool.{and_parts, not-false}
-use Rattle.block_model.specs.Calls.Answers.{are_writable, argument, word_written}
-use Rattle.block_model.specs.Calls.Cloning.{clone, clone_child_settid, clone_errors, clone_parent_settid, has_flag, may_write, written_if}
-use Rattle.block_model.specs.Here.{Here, is_writable}
-use Rattle.block_model.specs.Kernel.{next_number}
+use Rattle.block_model.proofs.Common.{Here, and_parts, are_writable, argument, has_flag, is_writable, next_number, not-false, word_written}
+use Rattle.block_model.specs.Calls.Cloning.{clone, clone_child_settid, clone_errors, clone_parent_settid, may_write, written_if}
 use Rattle.block_model.proofs.CallEffects.{CallDeed, Bears, by_errors}
 use Rattle.block_model.proofs.WritableBytes.{AllWritable, both_writable, written_where}
 

@@ -1,10 +1,7 @@
 -- write(2) and writev(2).
 use Rattle.std.proofs.Common.{ℕ, List, [], ◌∷◌, arith, length, length-take, take, eqb}
-use Rattle.std.proofs.lemmas.Bool.{leb-false}
-use Rattle.mach_types.specs.declared.kernel_words.TheConstants.{CONSOLE_ROOM}
-use Rattle.block_model.specs.Calls.Answers.{argument}
+use Rattle.block_model.proofs.Common.{CONSOLE_ROOM, Here, argument, leb-false, memory}
 use Rattle.block_model.specs.Calls.Console.{Span, bytes_of, room, span_errors, spans_at, total, write, write_errors, write_spans, writev, writev_errors}
-use Rattle.block_model.specs.Here.{Here, memory}
 use Rattle.block_model.proofs.CallEffects.{CallDeed, Answers, Prints, Says, by_errors, either, small_no_error}
 
 module _ (here : Here) (t number : ℕ) where

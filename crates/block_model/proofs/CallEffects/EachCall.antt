@@ -1,9 +1,7 @@
 -- Each call of the table is one of the deeds.
 use Rattle.std.proofs.Common.{◌≡◌, ◌≢◌, ℕ, eqb, refl, sym, subst, true, None}
-use Rattle.std.proofs.lemmas.Bool.{eqb-true}
-use Rattle.block_model.specs.Calls.{call_of, called}
-use Rattle.block_model.specs.Calls.Answers.{CallDone, call_number}
-use Rattle.block_model.specs.Here.{Here}
+use Rattle.block_model.proofs.Common.{CallDone, Here, call_number, called, eqb-true}
+use Rattle.block_model.specs.Calls.{call_of}
 use Rattle.block_model.proofs.CallEffects.{Begins, CallDeed, Says, either}
 use Rattle.block_model.proofs.CallEffects.Affinity.{deed_getaffinity, deed_getcpu, deed_setaffinity, deed_yield}
 use Rattle.block_model.proofs.CallEffects.Barriers.{deed_barrier_call}

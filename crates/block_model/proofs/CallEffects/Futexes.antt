@@ -1,10 +1,7 @@
 -- futex(2).
 use Rattle.std.proofs.Common.{ℕ, [], arith, eqb}
-use Rattle.std.proofs.Math.Nat.{mod-lt}
-use Rattle.mach_types.specs.Kernel.Signals.{next_for}
-use Rattle.block_model.specs.Calls.Answers.{argument, int_argument}
+use Rattle.block_model.proofs.Common.{Here, argument, int_argument, mod-lt, next_for}
 use Rattle.block_model.specs.Calls.Futexes.{futex, futex_errors, futex_wait, operation, wait_errors}
-use Rattle.block_model.specs.Here.{Here}
 use Rattle.block_model.proofs.SignalsOfWaiters.{none_left}
 use Rattle.block_model.proofs.CallEffects.{CallDeed, Waits, Wakes, answers_0, by_errors, either}
 

@@ -1,17 +1,10 @@
 -- brk(2), mmap(2), munmap(2) and mprotect(2): a page that such a call doesn't take can be written after it
 -- where it could before.
 use Rattle.std.proofs.Common.{◌≡◌, ℕ, ◌-◌, ◌/◌, ◌≤◌, inl, inr, List, [], ◌∷◌, refl, sym, subst, arith, Bool, true, false, not, cond, ◌&&◌, eqb, leb, ltb, Option, Some, None, Result, Ok, Err, is_none, is_some}
-use Rattle.std.proofs.lemmas.Bool.{and_parts, cases_lt, false≢true, le-leb, leb-true, lt-ltb, le-ltb}
-use Rattle.mach_types.proofs.Laws.{each_page-at}
-use Rattle.mach_types.specs.declared.address_space.TheConstants.{MAPPING_START, PAGE_SIZE, USER_END}
-use Rattle.mach_types.specs.declared.errors.Errno.{Errno}
-use Rattle.mach_types.specs.Kernel.Pages.{PageRun, Pages, can_write, is_in, pages_of, permission_of, run, zeros_of}
+use Rattle.block_model.proofs.Common.{Errno, Here, IsError, MAPPING_START, PAGE_SIZE, PageRun, Pages, USER_END, and_parts, argument, can_write, cases_lt, cond_both, each_page-at, false≢true, is_in, is_writable, le-leb, le-ltb, leb-true, lt-ltb, paged, pages_of, permission_of, run, said, taken_by}
+use Rattle.mach_types.specs.Kernel.Pages.{zeros_of}
 use Rattle.mach_types.specs.Kernel.PageCalls.{break_run, free_past, mapped_at, mmap_answer, mprotect_refusal, munmap_refusal, permission_for, protected, unmapped}
-use Rattle.block_model.specs.Calls.Answers.{argument, said}
-use Rattle.block_model.specs.Calls.Memory.{brk, changed_unless, mapped_or_refused, may_break, mmap, mmap_errors, mprotect, munmap, no_pages, permission_here, taken_by, unless_refused, zeros_if_mapped}
-use Rattle.block_model.specs.ErrorCalls.{IsError}
-use Rattle.block_model.specs.Here.{Here, is_writable}
-use Rattle.block_model.specs.Kernel.{paged}
+use Rattle.block_model.specs.Calls.Memory.{brk, changed_unless, mapped_or_refused, may_break, mmap, mmap_errors, mprotect, munmap, no_pages, permission_here, unless_refused, zeros_if_mapped}
 use Rattle.block_model.proofs.CallEffects.{CallDeed, Answers, Remaps, Says, answers_0, by_errors}
 use Rattle.block_model.proofs.Invariants.Calls.Conditions.{StaysWritable}
 use Rattle.block_model.proofs.Pages.{IsPaged, paged_brk, paged_mmap, paged_mprotect, paged_munmap, IsPlaced, is_inside, placed}
@@ -134,11 +127,8 @@ module _ (here : Here) (p : ℕ) where
 
 -- a page that comes to be is zeroed, and nothing is stored
 zeros_writable : (here : Here) (r : PageRun) → AllWritable (is_writable here) (zeros_if_mapped r)
-zeros_writable here r = by (is_some r.permission && not (eqb r.count 0))
-  where
-    by : (b : Bool) → AllWritable (is_writable here) (cond b (zeros_of r ∷ []) [])
-    by true = (tt, tt)
-    by false = tt
+zeros_writable here r =
+    cond_both (is_some r.permission && not (eqb r.count 0)) (zeros_of r ∷ []) [] (AllWritable (is_writable here)) (λ mapped. (tt, tt)) (λ none. tt)
 
 deed_moved : (here : Here) (t : ℕ) (b : Bool) → may_break here (argument here t 0) ≡ b
     → CallDeed here t 214

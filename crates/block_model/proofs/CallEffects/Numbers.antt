@@ -1,8 +1,7 @@
 -- getpid(2), gettid(2) and set_tid_address(2).
 use Rattle.std.proofs.Common.{ℕ, []}
-use Rattle.block_model.specs.Calls.Answers.{argument}
+use Rattle.block_model.proofs.Common.{Here, argument}
 use Rattle.block_model.specs.Calls.Numbers.{getpid, gettid, set_tid_address}
-use Rattle.block_model.specs.Here.{Here}
 use Rattle.block_model.proofs.CallEffects.{CallDeed, Answers, Clears, Says, small_no_error}
 
 module _ (here : Here) (t number : ℕ) where

@@ -1,17 +1,9 @@
 -- rseq(2), which isn't there beside another process.
 use Rattle.std.proofs.Common.{◌≡◌, ℕ, ◌%◌, Bool, cond, eqb, not, true, false, refl, Option, Some, None, Result, Ok, Err}
-use Rattle.std.specs.Option.{option_map_or}
-use Rattle.mach_types.specs.declared.errors.Errno.{Errno}
-use Rattle.mach_types.specs.declared.errors.TheConstants.{EINVAL}
-use Rattle.mach_types.specs.declared.sequences.Area.{Area}
-use Rattle.mach_types.specs.Kernel.Areas.{are_words_writable, registered_again, registered_first, registration, unregistration, words_on, words_unregistered}
-use Rattle.block_model.specs.Beside.{Neighbour}
-use Rattle.block_model.specs.Calls.Answers.{argument, int_argument}
+use Rattle.block_model.proofs.Common.{Area, EINVAL, Errno, Here, Neighbour, are_words_writable, area_here, argument, id_of, int_argument, is_writable, option_map_or, words_on}
+use Rattle.mach_types.specs.Kernel.Areas.{registered_again, registered_first, registration, unregistration, words_unregistered}
 use Rattle.block_model.specs.Calls.Beside.{sequence_call}
 use Rattle.block_model.specs.Calls.Sequences.{registers_or_refused, rseq, unregisters, unregisters_or_refused}
-use Rattle.block_model.specs.Here.{Here, is_writable}
-use Rattle.block_model.specs.Ids.{id_of}
-use Rattle.block_model.specs.Sequences.{area_here}
 use Rattle.block_model.proofs.CallEffects.{CallDeed, Registers, Says, Unregisters, answers_0, deed_killed, either}
 use Rattle.block_model.proofs.WritableBytes.{area_writable}
 

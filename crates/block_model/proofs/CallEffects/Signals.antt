@@ -1,18 +1,9 @@
 -- tkill(2), tgkill(2), sigaction(2), sigprocmask(2) and sigreturn(2).
 use Rattle.std.proofs.Common.{◌≡◌, ◌≢◌, ◌∙◌, ◌≤◌, ◌+◌, arith, ℕ, List, Bool, cond, eqb, false, true, refl, subst, Option, Some, None, is_some, [], ◌∷◌}
-use Rattle.std.specs.Option.{option_map_or}
-use Rattle.std.proofs.lemmas.Bool.{and_parts, false≢true, not-false}
-use Rattle.mach_types.specs.Kernel.SignalFrames.{frame_read}
-use Rattle.mach_types.specs.Kernel.Signals.{Signalling, acted, action_of, changed_mask, mask_of, next_for, posted, with_mask}
-use Rattle.mach_types.specs.Kernel.Threads.{Threads, is_waiting_state, state_of, waits}
-use Rattle.mach_types.specs.declared.signal_words.Action.{Action}
-use Rattle.mach_types.specs.declared.threads.ThreadState.{ThreadState}
-use Rattle.mach_types.specs.declared.threads.ThreadState.TheVariants.{Ready, Running, Waiting}
-use Rattle.block_model.specs.Calls.Answers.{are_writable, argument, double_written, int_argument, number_at}
-use Rattle.block_model.specs.Calls.Signals.{action_at, action_given, action_size, action_written, masked, may_write, post, refuses_signal, resumed, rt_sigaction, rt_sigprocmask, rt_sigreturn, send, sigaction_errors, sigprocmask_errors, tgkill, tgkill_errors, tkill, tkill_errors, waits_in_vain, with_posted}
-use Rattle.mach_types.specs.declared.errors.TheConstants.{EINVAL}
-use Rattle.block_model.specs.Here.{Here, is_writable, memory}
-use Rattle.block_model.specs.Record.{Kernel}
+use Rattle.block_model.proofs.Common.{Action, EINVAL, Here, Kernel, Signalling, ThreadState, Threads, Waiting, acted, action_of, and_parts, are_writable, argument, double_written, false≢true, frame_read, int_argument, is_waiting_state, is_writable, mask_of, memory, next_for, not-false, option_map_or, posted, resumed, state_of, waits, with_mask}
+use Rattle.mach_types.specs.Kernel.Signals.{changed_mask}
+use Rattle.block_model.specs.Calls.Answers.{number_at}
+use Rattle.block_model.specs.Calls.Signals.{action_at, action_given, action_size, action_written, masked, may_write, post, refuses_signal, rt_sigaction, rt_sigprocmask, rt_sigreturn, send, sigaction_errors, sigprocmask_errors, tgkill, tgkill_errors, tkill, tkill_errors, waits_in_vain, with_posted}
 use Rattle.block_model.proofs.Images.{number_small}
 use Rattle.block_model.proofs.CallEffects.{AllStand, CallDeed, Breaks, Resumes, Says, Signalled, answers_0, by_errors, deed_killed, either}
 use Rattle.block_model.proofs.SignalsOfWaiters.{next_acted, next_masked, next_posted, next_unbroken}
@@ -23,10 +14,8 @@ use Rattle.block_model.proofs.WritableBytes.{AllWritable, part_writable, written
 -- a thread whose wait a signal breaks waits
 waits_by : (ts : Threads) (u : ℕ) (o : Option ThreadState) → state_of u ts ≡ o
     → option_map_or is_waiting_state o false ≡ true → waits ts u
-waits_by ts u None was is = absurd (false≢true is)
-waits_by ts u (Some Ready) was is = absurd (false≢true is)
-waits_by ts u (Some (Running h)) was is = absurd (false≢true is)
 waits_by ts u (Some (Waiting at)) was is = (at, was)
+waits_by ts u o was is = absurd (false≢true is)
 
 in_vain_waits : (u : ℕ) (k : Kernel) → waits_in_vain u k ≡ true → waits k.threads u
 in_vain_waits u k is =

@@ -1,41 +1,21 @@
 -- Events other than instructions are fit: what each does where it is not refused keeps what holds at each place of a run.
 use Rattle.std.proofs.Common.{◌≡◌, ℕ, ◌≤◌, List, [], ◌++◌, drop, sym, ap, ◌∙◌, subst, arith, None, ◌∷◌, refl, Bool, true, false, cond, eqb, Option, Some, ◌≢◌}
-use Rattle.std.specs.List.{AllByRecursion}
-use Rattle.mach_types.specs.Kernel.Pages.{Pages}
-use Rattle.mach_types.specs.Kernel.Threads.{running_on, Threads, is_ready, state_of}
-use Rattle.mach_types.specs.declared.user_memory.Store.{Store}
-use Rattle.block_model.specs.Here.{Done, Here, waiting_here, runs}
-use Rattle.block_model.specs.Standing.{IsGoodHere, MayEnter}
+use Rattle.block_model.proofs.Common.{AllByRecursion, Done, Here, IsGoodHere, IsTables, MayEnter, NoRequest, NotAllowed, NotReady, Outcome, Pages, Ready, Saved, Scheduling, Store, Targets, Threads, Why, action_of, affinity_of, done_done, done_done_by, done_drain_of, done_killed, done_next, done_preempt_by, done_run, done_running, done_signal, done_signal_by, done_take, done_take_by, eqb-true, file_interrupted, files_interrupted, handled_unless_killed, handler_file, has_hart, interruption_here, is_ready, kills, left, lives_on, ne_eqb, next_for, on, only_took, refusal_delivery, refusal_done_by, refusal_drain_of, refusal_preempt_by, refusal_return, refusal_run, refusal_run_by, refusal_signal, refusal_signal_by, refusal_take, running_on, runs, signals_handled, signals_taken, state_of, took_and_interrupted, unless_in_barrier, unless_waiting, waiting_here, with_register}
 use Rattle.block_model.proofs.Barriers.Events.{IsFitBarriers, quiet_still, quiet_free}
 use Rattle.block_model.proofs.PlaceInvariant.{IsFit, fit_either}
 use Rattle.block_model.proofs.Invariants.Calls.Conditions.{IsApart, apart_one, apart_none}
 use Rattle.block_model.proofs.Invariants.Calls.RecordSteps.{IsKept, IsMoved, kept_moved, kept_still, moved_left, kept_signalled}
 use Rattle.block_model.proofs.Pages.{IsPaged}
-use Rattle.block_model.specs.Events.Drain.{refusal_drain, refusal_drain_of, done_drain, done_drain_of}
-use Rattle.std.proofs.lemmas.Bool.{eqb-true, ne_eqb}
-use Rattle.mach_types.specs.Registers.{with_register}
-use Rattle.mach_types.specs.declared.events.Why.TheVariants.{Targets, NotReady, NotAllowed, NoRequest}
-use Rattle.block_model.specs.Events.Finish.{done_done, done_done_by, refusal_done, refusal_done_by, refusal_return}
-use Rattle.mach_types.specs.declared.events.Why.{Why}
-use Rattle.block_model.specs.Events.Preempt.{refusal_preempt, refusal_preempt_by, done_preempt, done_preempt_by, unless_in_barrier, unless_waiting}
-use Rattle.block_model.specs.Kernel.{left, ran}
-use Rattle.mach_types.specs.declared.sequences.Outcome.{Outcome}
+use Rattle.block_model.specs.Events.Drain.{refusal_drain, done_drain}
+use Rattle.block_model.specs.Events.Finish.{refusal_done}
+use Rattle.block_model.specs.Events.Preempt.{refusal_preempt, done_preempt}
+use Rattle.block_model.specs.Kernel.{ran}
 use Rattle.mach_types.specs.declared.sequences.Outcome.TheVariants as comes_to
-use Rattle.mach_types.specs.declared.threads.ThreadState.TheVariants.{Ready}
-use Rattle.mach_types.specs.Kernel.Scheduling.{Scheduling, has_hart, affinity_of}
-use Rattle.block_model.specs.Events.Run.{refusal_run, refusal_run_by, done_killed, done_run, done_running, lives_on}
-use Rattle.block_model.specs.Sequences.{files_interrupted, interruption_here}
-use Rattle.block_model.specs.Tables.{IsTables, on}
 use Rattle.block_model.proofs.AllowedHarts.{same_live}
 use Rattle.block_model.proofs.KernelTables.{ready_state, running_is, tables_ran, ran_runs, ran_others}
 use Rattle.block_model.proofs.ThreadRecords.{held_ran}
 use Rattle.block_model.proofs.Ids.{fewer_than_harts}
-use Rattle.mach_types.specs.Kernel.SignalFrames.{handler_file}
-use Rattle.mach_types.specs.Kernel.Signals.{action_of, next_for}
-use Rattle.mach_types.specs.declared.threads.Saved.{Saved}
-use Rattle.block_model.specs.Events.Signal.{done_next, done_signal, done_signal_by, file_interrupted, handled_unless_killed, kills, refusal_delivery, refusal_signal, refusal_signal_by, signals_handled, signals_taken}
 use Rattle.block_model.proofs.SignalTables.{handled_keeps, taken_keeps}
-use Rattle.block_model.specs.Events.Take.{done_take, done_take_by, only_took, refusal_take, took_and_interrupted}
 
 module _ (here : Here) (d : Done) (good : IsGoodHere here) (no_store : d.executed ≡ [])
     (no_drain : d.drained ≡ 0) (one : d.instructions ≤ 1)
@@ -160,11 +140,9 @@ ready_apart harts t k u ts sc tables ready runs same =
 
 -- an interruption sets at most the file of its thread
 apart_interrupted : (here : Here) (t : ℕ) (o : Outcome) → IsGoodHere here → is_ready t here.kernel.threads ≡ true → IsApart here (files_interrupted here t o)
-apart_interrupted here t comes_to.Nothing good ready k u f ne runs = refl
-apart_interrupted here t comes_to.Cleared good ready k u f ne runs = refl
 apart_interrupted here t (comes_to.Aborted at) good ready k u f ne runs =
     rw (ne_eqb t u (ready_apart here.setting.limits.harts t k u here.kernel.threads here.kernel.scheduling good.kernel.tables ready runs)) refl
-apart_interrupted here t (comes_to.Killed why) good ready k u f ne runs = refl
+apart_interrupted here t outcome good ready k u f ne runs = refl
 
 -- no barrier is waited in on an idle hart
 idle_free : (here : Here) → IsGoodHere here → runs here ≡ None → here.awaits ≡ None
@@ -210,10 +188,8 @@ good_run here t good free =
 
 -- an interruption sets at most the file of its thread, which runs on the hart
 pub apart_own_interrupted : (here : Here) (t : ℕ) (o : Outcome) → IsGoodHere here → runs here ≡ Some t → IsApart here (files_interrupted here t o)
-apart_own_interrupted here t comes_to.Nothing good at = apart_none here
-apart_own_interrupted here t comes_to.Cleared good at = apart_none here
 apart_own_interrupted here t (comes_to.Aborted to) good at = apart_one here t (record (here.file t) { pc = to }) good at
-apart_own_interrupted here t (comes_to.Killed why) good at = apart_none here
+apart_own_interrupted here t outcome good at = apart_none here
 
 -- the handler is entered, or the process is killed
 good_delivery : (here : Here) (t signal : ℕ) (o : Outcome) (killer : Option ℕ) → IsGoodHere here → runs here ≡ Some t → here.awaits ≡ None
@@ -280,6 +256,5 @@ pub good_take : (here : Here) → IsGoodHere here → refusal_take here ≡ None
 good_take here good free = go here.restart (runs here) refl (takes_where here free).1
   where
     go : (restart : Bool) (o : Option ℕ) → runs here ≡ o → waiting_here here ≡ [] → IsFit here (done_take_by here restart o)
-    go false o at none = took_alone here good none
-    go true None at none = took_alone here good none
     go true (Some t) at none = took_both here t (interruption_here here t) good at none
+    go restart o at none = took_alone here good none

@@ -1,29 +1,12 @@
 -- An instruction.
 use Rattle.std.proofs.Common.{◌≡◌, ℕ, ◌+◌, ◌≤◌, List, [], ◌∷◌, refl, sym, ◌∙◌, arith, Bool, true, false, not, cond, ◌&&◌, ◌||◌, leb, ltb, Option, Some, None, length, is_some}
-use Rattle.std.specs.List.{AllByRecursion}
-use Rattle.std.specs.Option.{option_or}
-use Rattle.std.proofs.lemmas.Bool.{leb-false, lt-ltb}
-use Rattle.mach_types.specs.Bytes.{each_byte}
-use Rattle.mach_types.specs.Kernel.Pages.{Pages, permission_at, can_write}
-use Rattle.mach_types.specs.Kernel.Signals.{with_pending}
-use Rattle.mach_types.specs.declared.events.Why.{Why}
-use Rattle.mach_types.specs.declared.events.Why.TheVariants.{Waiting, FullBuffer, Others}
-use Rattle.mach_types.specs.declared.registers.Regs.{Regs}
-use Rattle.mach_types.specs.declared.user_memory.Store.{Store}
+use Rattle.block_model.proofs.Common.{AllByRecursion, Effect, FullBuffer, Here, IsGoodHere, MayEnter, Neighbour, Others, Pages, Regs, Store, Why, by_call, by_effect, by_outcome, call_number, called, called_here, can_write, done_exec, done_exec_by, each_byte, fault_by, fault_in, fetched, has_handler, instruction_gate, is_call, is_held, is_inside_here, is_reserved, is_storable, killed_in_call, leb-false, lies_waiting_on, lt-ltb, next_effect, next_fault, option_or, or_in_segment, others_gate, outcome, outcome_of, permission_at, reached, refusal_exec, refusal_exec_by, runs, taken_by, unless_allowed, view_of_all, waiting_here, with_pending}
+use Rattle.mach_types.specs.declared.events.Why.TheVariants.{Waiting}
 use Rattle.mach_types.specs.declared.user_memory.TheConstants.{STORE_BUFFER_CAPACITY}
-use Rattle.rv_inst.specs.declared.effects.Effect.{Effect}
 use Rattle.rv_inst.specs.declared.effects.Effect.TheVariants as effect
-use Rattle.rv_inst.specs.Class.{is_call, is_plain_store, wants_empty}
-use Rattle.rv_inst.specs.Execution.{Outcome, outcome, fault_in, instruction_gate, is_reserved, unless_allowed}
-use Rattle.block_model.specs.Beside.{Neighbour, or_in_segment}
-use Rattle.block_model.specs.Here.{Here, is_storable, reached, runs, view_of_all, waiting_here}
-use Rattle.block_model.specs.Instruction.{fault_by, fetched}
-use Rattle.block_model.specs.Calls.{called}
-use Rattle.block_model.specs.Calls.Answers.{call_number, killed_in_call}
-use Rattle.block_model.specs.Calls.Memory.{lies_waiting_on, taken_by}
-use Rattle.block_model.specs.Events.Exec.{refusal_exec, refusal_exec_by, done_exec, done_exec_by, by_fault, by_call, called_here, by_effect, by_outcome, outcome_of, next_effect, next_fault, has_handler, is_held, others_gate}
-use Rattle.block_model.specs.Sequences.{is_inside_here}
-use Rattle.block_model.specs.Standing.{IsGoodHere, MayEnter}
+use Rattle.rv_inst.specs.Class.{is_plain_store, wants_empty}
+use Rattle.rv_inst.specs.Execution.{Outcome}
+use Rattle.block_model.specs.Events.Exec.{by_fault}
 use Rattle.block_model.proofs.Barriers.Events.{quiet_free}
 use Rattle.block_model.proofs.PlaceInvariant.{IsFit, fit_either}
 use Rattle.block_model.proofs.Invariants.Calls.Conditions.{fit_by_call, own_apart, apart_none}
@@ -50,25 +33,16 @@ allowed_true false e = cc
 
 executed_by : (beside : Option Neighbour) (p : Pages) (byte seen : ℕ → Option ℕ) (regs : Regs) (pc : ℕ) (r : Option ℕ) (e : Effect)
     → fault_in byte (or_in_segment beside (λ a. can_write (permission_at p a))) e ≡ None → IsExecuted beside p e (outcome seen regs pc r e)
-executed_by beside p byte seen regs pc r (effect.Next rd value to) fine = none_executed beside p (effect.Next rd value to) _ refl
-executed_by beside p byte seen regs pc r (effect.Load at size is_signed rd) fine = none_executed beside p (effect.Load at size is_signed rd) _ refl
 executed_by beside p byte seen regs pc r (effect.Store at size value) fine = record { may = (allowed_true (each_byte (or_in_segment beside (λ a. can_write (permission_at p a))) at size) fine, tt); one = omega arith }
-executed_by beside p byte seen regs pc r (effect.Amo op at size value rd) fine = none_executed beside p (effect.Amo op at size value rd) _ refl
-executed_by beside p byte seen regs pc r (effect.Lr at size rd) fine = none_executed beside p (effect.Lr at size rd) _ refl
 executed_by beside p byte seen regs pc r (effect.Sc at size value rd) fine = none_executed beside p (effect.Sc at size value rd) _ (either_outcome (is_reserved r at) _ _ refl refl)
-executed_by beside p byte seen regs pc r (effect.Fence full) fine = none_executed beside p (effect.Fence full) _ refl
-executed_by beside p byte seen regs pc r effect.FenceI fine = none_executed beside p effect.FenceI _ refl
-executed_by beside p byte seen regs pc r effect.Call fine = none_executed beside p effect.Call _ refl
-executed_by beside p byte seen regs pc r effect.Break fine = none_executed beside p effect.Break _ refl
-executed_by beside p byte seen regs pc r effect.Misaligned fine = none_executed beside p effect.Misaligned _ refl
+executed_by beside p byte seen regs pc r e fine = none_executed beside p e _ refl
 
 -- the gate leaves room for a plain store
 room_by : (a b c : Bool) (n : ℕ) → (leb STORE_BUFFER_CAPACITY n ≡ b) → n ≤ STORE_BUFFER_CAPACITY → cond a (Some Waiting) (cond (b && c) (Some FullBuffer) None) ≡ None → n + cond c 1 0 ≤ STORE_BUFFER_CAPACITY
-room_by true b c n is few e = cc
-room_by false true true n is few e = cc
 room_by false true false n is few e = omega arith
 room_by false false true n is few e = let lt = leb-false STORE_BUFFER_CAPACITY n is in omega arith
 room_by false false false n is few e = omega arith
+room_by a b c n is few e = cc
 
 gate_room : (n : ℕ) (e : Effect) (faults : Bool) → n ≤ STORE_BUFFER_CAPACITY → instruction_gate n (Some e) faults ≡ None → n + cond (is_plain_store e) 1 0 ≤ STORE_BUFFER_CAPACITY
 gate_room n e faults few free = room_by _ (leb STORE_BUFFER_CAPACITY n) (is_plain_store e) n refl few free
@@ -115,9 +89,8 @@ none_waits (w ∷ ws) e is free = absurd (gate_waiting (length ws) (ltb 0 (lengt
 
 -- and where no waiting store lies on a page that it would take
 call_held : (call held : Bool) → cond (call && held) (Some Others) None ≡ None → call ≡ true → held ≡ false
-call_held true true free is = cc
 call_held true false free is = refl
-call_held false held free is = cc
+call_held b held free is = cc
 
 pub gates : (a b : Option Why) → option_or a b ≡ None → (a ≡ None) × (b ≡ None)
 gates None b free = (refl, free)

@@ -1,15 +1,6 @@
 -- Two plain events of different harts, of which neither touches the other's bytes, may be made in either order.
 use Rattle.std.proofs.Common.{◌≡◌, ◌≢◌, ℕ, ◌+◌, List, ◌++◌, drop, refl, sym, ap, ◌∙◌, Bool, true, false, cond, eqb, ◌&&◌, ◌||◌, Option, Some, inl, inr, ◌⊎◌, suc}
-use Rattle.std.proofs.lemmas.Bool.{eqb-true, ne_eqb}
-use Rattle.mach_types.specs.Bytes.{written}
-use Rattle.mach_types.specs.declared.threads.Saved.{Saved}
-use Rattle.mach_types.specs.declared.user_memory.Store.{Store}
-use Rattle.block_model.specs.Here.{Here, runs}
-use Rattle.block_model.specs.History.{file_among, lost_after}
-use Rattle.block_model.specs.Plain.{Plain, apply, here_in_plain}
-use Rattle.block_model.specs.Record.{Kernel}
-use Rattle.block_model.specs.Requests.{awaits_after, requests_after, restart_after}
-use Rattle.block_model.specs.Setting.{Setting}
+use Rattle.block_model.proofs.Common.{Here, Kernel, Plain, Saved, Setting, Store, apply, awaits_after, eqb-true, file_among, here_in_plain, lost_after, ne_eqb, requests_after, restart_after, runs, written}
 use Rattle.block_model.proofs.Swaps.PlainDone.{PlainDone, as_done}
 use Rattle.block_model.proofs.Swaps.PlainEvents.{Around, IsPassed, with_lost, passed}
 use Rattle.block_model.proofs.Swaps.Untouched.{lost_swaps, untouched}
@@ -22,25 +13,13 @@ after h x m = apply h (as_done m.kernel x) m
 
 -- it takes no request and begins no barrier
 requests_same : (k h : ℕ) (c : Kernel) (x : PlainDone) (set : ℕ) → requests_after k h (as_done c x) set ≡ set
-requests_same k h c x set = go (eqb h k)
-  where
-    go : (b : Bool) → cond (b && false) 0 (cond false set set) ≡ set
-    go true = refl
-    go false = refl
+requests_same k h c x set = elim (eqb h k) as (λ b. cond (b && false) 0 (cond false set set) ≡ set) [ true ↦ refl | false ↦ refl ]
 
 restart_same : (k h : ℕ) (c : Kernel) (x : PlainDone) (r : Bool) → restart_after k h (as_done c x) r ≡ r
-restart_same k h c x r = go (eqb h k)
-  where
-    go : (b : Bool) → cond (b && false) false (false || r) ≡ r
-    go true = refl
-    go false = refl
+restart_same k h c x r = elim (eqb h k) as (λ b. cond (b && false) false (false || r) ≡ r) [ true ↦ refl | false ↦ refl ]
 
 awaits_same : (k h : ℕ) (c : Kernel) (x : PlainDone) (w : Option ℕ) → awaits_after k h (as_done c x) w ≡ w
-awaits_same k h c x w = go (eqb h k)
-  where
-    go : (b : Bool) → cond b w w ≡ w
-    go true = refl
-    go false = refl
+awaits_same k h c x w = elim (eqb h k) as (λ b. cond b w w ≡ w) [ true ↦ refl | false ↦ refl ]
 
 -- what is around another hart then
 abbrev pub around : ℕ → ℕ → PlainDone → Plain → Around
@@ -87,8 +66,7 @@ own_swaps {A = A} h k j f g x ne = go (eqb h j) (eqb k j) refl refl
   where
     go : (b c : Bool) → eqb h j ≡ b → eqb k j ≡ c → cond c (g (cond b (f x) x)) (cond b (f x) x) ≡ cond b (f (cond c (g x) x)) (cond c (g x) x)
     go true true p q = absurd (ne (eqb-true h j p ∙ sym (eqb-true k j q)))
-    go true false p q = refl
-    go false c p q = refl
+    go b c p q = refl
 
 reserved_swaps : (h k j : ℕ) (x y : PlainDone) (r : Option ℕ) → h ≢ k
     → cond (eqb k j) (lost_after x.entered y.reserved) (lost_after y.entered (cond (eqb h j) x.reserved (lost_after x.entered r)))
@@ -99,9 +77,8 @@ reserved_swaps h k j x y r ne = go (eqb h j) (eqb k j) refl refl
         → cond c (lost_after x.entered y.reserved) (lost_after y.entered (cond b x.reserved (lost_after x.entered r)))
         ≡ cond b (lost_after y.entered x.reserved) (lost_after x.entered (cond c y.reserved (lost_after y.entered r)))
     go true true p q = absurd (ne (eqb-true h j p ∙ sym (eqb-true k j q)))
-    go true false p q = refl
-    go false true p q = refl
     go false false p q = lost_swaps x.entered y.entered r
+    go b c p q = refl
 
 pub commutes : (h k : ℕ) (x y : PlainDone) (m : Plain) → h ≢ k → AreBeside x y
     → after k (with_lost x.entered y) (after h x m) ≡ after h (with_lost y.entered x) (after k y m)

@@ -1,20 +1,8 @@
 -- Two neighbouring entries of a block run may be exchanged, if they are plain events of different harts of which neither touches the
 -- other's bytes.
 use Rattle.std.proofs.Common.{◌≡◌, ℕ, ◌+◌, ◌<◌, List, [], ◌∷◌, ◌++◌, length, refl, sym, ap, ◌∙◌, subst, append-nil, append_assoc, length-append, None, Ok}
-use Rattle.std.specs.List.{fold}
-use Rattle.std.proofs.lemmas.List.Sums.{fold-append}
-use Rattle.mach_types.specs.Events.{choice_of}
-use Rattle.mach_types.specs.declared.events.Choice.{Choice}
-use Rattle.mach_types.specs.declared.events.Entry.{Entry}
+use Rattle.block_model.proofs.Common.{AreApart, Choice, Entry, IsBlockRun, IsRunHistory, Kernel, Seen, Setting, choice_of, decide, decide_in, done_of, entry_in, event, final, fold, fold-append, here_in_plain, here_of, history, plain_after, plain_next, plain_over, plain_start, refusal_of, running_on, unless}
 use Rattle.block_model.proofs.Laws.{IsFit, at_kind, decided, history-append, next_event, run_before, run_on, same_here, same_state}
-use Rattle.mach_types.specs.Kernel.Threads.{running_on}
-use Rattle.block_model.specs.Record.{Kernel}
-use Rattle.block_model.specs.Deciding.{decide, decide_in, entry_in, event, final, history, unless}
-use Rattle.block_model.specs.Events.{done_of, refusal_of}
-use Rattle.block_model.specs.Plain.{here_in_plain, here_of, plain_after, plain_next, plain_over, plain_start}
-use Rattle.block_model.specs.Run.{IsBlockRun, IsRunHistory}
-use Rattle.block_model.specs.Setting.{Seen, Setting}
-use Rattle.block_model.specs.Footprints.{AreApart}
 use Rattle.block_model.specs.PlainEvents.{footprint, is_plain}
 use Rattle.block_model.specs.Swaps.{IsEquivalentRun, MaySwap, footprint_after}
 use Rattle.block_model.proofs.Swaps.Pairs.{ArePair, exchanged, kernel_stays, next}
@@ -69,34 +57,6 @@ pub record IsSwapped (s : Setting) (earlier : List Entry) (e f : Entry) : Type 0
   pub both : IsBlockRun s ((earlier ++ f ∷ []) ++ e ∷ [])
   pub same : plain_after s ((earlier ++ f ∷ []) ++ e ∷ []) ≡ plain_after s ((earlier ++ e ∷ []) ++ f ∷ [])
 
-pub pair_at : (s : Setting) (earlier : List Entry) (e f : Entry) → IsBlockRun s ((earlier ++ e ∷ []) ++ f ∷ []) → MaySwap s earlier e f
-    → ArePair s e.hart.0 f.hart.0 (choice_of e) (choice_of f) (plain_after s earlier)
-pair_at s earlier e f run may =
-    let run_one = run_before s (earlier ++ e ∷ []) (f ∷ []) run in
-    let run_none = run_before s earlier (e ∷ []) run_one in
-    let h = e.hart.0 in
-    let k = f.hart.0 in
-    let c = choice_of e in
-    let d = choice_of f in
-    let v = seen s earlier in
-    let w = seen s (earlier ++ e ∷ []) in
-    let m = plain_after s earlier in
-    let a = next_event v e (done_of c (here_of v h)) run_none (last_decided s earlier e run_one) refl in
-    let b = next_event w f (done_of d (here_of w k)) run_one (last_decided s (earlier ++ e ∷ []) f run) refl in
-    let is_e = same_here v h run_none in
-    let is_f = same_here w k run_one in
-    let there : here_of w k ≡ here_in_plain s (next s h c m) k = ap (λ n. here_in_plain s n k) a.next in
-    let plain_e = ap (is_plain c) is_e ∙ may.first in
-    let fit_f = subst (λ z. IsFit z (done_of d z)) there b.fit in
-    record {
-      harts = may.harts;
-      first = plain_e;
-      second = ap (is_plain d) (sym there ∙ is_f) ∙ may.second;
-      apart = subst (λ z. AreApart (footprint c (here_of v h)) (footprint d z)) (sym is_f ∙ there) (subst (λ z. AreApart (footprint c z) (footprint_after s (earlier ++ e ∷ []) f)) (sym is_e) may.apart);
-      first_file = λ t x at. a.fit.apart k t x (λ q. may.harts (sym q)) at;
-      second_file = λ t x at. fit_f.apart h t x may.harts (ap (λ (q : Kernel). running_on h q.threads) (kernel_stays s h c m plain_e) ∙ at);
-    }
-
 pub swapped_ends : (s : Setting) (earlier : List Entry) (e f : Entry) → IsBlockRun s ((earlier ++ e ∷ []) ++ f ∷ []) → MaySwap s earlier e f → IsSwapped s earlier e f
 swapped_ends s earlier e f run may =
     let run_one = run_before s (earlier ++ e ∷ []) (f ∷ []) run in
@@ -112,7 +72,18 @@ swapped_ends s earlier e f run may =
     let b = next_event w f (done_of d (here_of w k)) run_one (last_decided s (earlier ++ e ∷ []) f run) refl in
     let on : plain_after s (earlier ++ e ∷ []) ≡ next s h c m = a.next in
     let there : here_of w k ≡ here_in_plain s (next s h c m) k = ap (λ n. here_in_plain s n k) on in
-    let pair = pair_at s earlier e f run may in
+    let is_e = same_here v h run_none in
+    let is_f = same_here w k run_one in
+    let plain_e = ap (is_plain c) is_e ∙ may.first in
+    let fit_f = subst (λ z. IsFit z (done_of d z)) there b.fit in
+    let pair : ArePair s h k c d m = record {
+      harts = may.harts;
+      first = plain_e;
+      second = ap (is_plain d) (sym there ∙ is_f) ∙ may.second;
+      apart = subst (λ z. AreApart (footprint c (here_of v h)) (footprint d z)) (sym is_f ∙ there) (subst (λ z. AreApart (footprint c z) (footprint_after s (earlier ++ e ∷ []) f)) (sym is_e) may.apart);
+      first_file = λ t x at. a.fit.apart k t x (λ q. may.harts (sym q)) at;
+      second_file = λ t x at. fit_f.apart h t x may.harts (ap (λ (q : Kernel). running_on h q.threads) (kernel_stays s h c m plain_e) ∙ at);
+    } in
     let x = exchanged s h k c d m pair in
     let u = seen s (earlier ++ f ∷ []) in
     let free_f = sym x.second_first.refusal ∙ ap (refusal_of d) (sym there) ∙ b.free in

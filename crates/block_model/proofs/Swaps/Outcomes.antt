@@ -1,19 +1,13 @@
 -- What an instruction does is the same where what it reads and writes wasn't written by others meanwhile; but its hart's reservation
 -- is lost, or not, as it would be after it.
 use Rattle.std.proofs.Common.{◌≡◌, ℕ, ◌+◌, ◌≤◌, ◌%◌, List, [], ◌∷◌, refl, sym, ap, ◌∙◌, arith, Bool, true, false, cond, ◌||◌, eqb, leb, ltb, Option, Some, None, unwrap_or, inl, inr, ◌⊎◌}
-use Rattle.std.proofs.lemmas.Bool.{cases_eq, or_cases, ltb-true, leb-true, and_parts, lt-ltb, le-leb, false≢true, eqb-true, ne_eqb}
-use Rattle.mach_types.specs.Bytes.{IsAccessSize, all_stored}
-use Rattle.mach_types.specs.declared.registers.Regs.{Regs}
-use Rattle.mach_types.specs.declared.user_memory.Store.{Store}
-use Rattle.mach_types.specs.declared.user_memory.Write.{Write}
-use Rattle.rv_inst.specs.Execution.{Outcome, fault_in, is_allowed, is_reserved, outcome, reserved_at, unless_aligned, unless_allowed, word_seen}
+use Rattle.block_model.proofs.Common.{Bytes, Effect, Regs, Store, Write, all_stored, and_parts, bytes, bytes_of_all, cases_eq, cond_both, eqb-true, false≢true, fault_in, has_byte, have_byte, is_reserved, le-leb, leb-true, lost_after, lt-ltb, ltb-true, ne_eqb, or_cases, or_parts, outcome, read_by, unless_allowed}
+use Rattle.mach_types.specs.Bytes.{IsAccessSize}
+use Rattle.rv_inst.specs.Execution.{Outcome, is_allowed, reserved_at, unless_aligned, word_seen}
 use Rattle.rv_inst.specs.Class.{reserving_read, conditional_write}
 use Rattle.rv_inst.specs.Sizes.{HasAccessSizes}
-use Rattle.rv_inst.specs.declared.effects.Effect.{Effect}
 use Rattle.rv_inst.specs.declared.effects.Effect.TheVariants as effect
-use Rattle.block_model.specs.History.{lost_after}
-use Rattle.rv_inst.specs.Accesses.{Bytes, bytes, read_by, written_by}
-use Rattle.block_model.specs.Footprints.{bytes_of_all, has_byte, have_byte}
+use Rattle.rv_inst.specs.Accesses.{written_by}
 use Rattle.block_model.proofs.Swaps.Untouched.{lost_apart, lost_none, lost_or_kept, word_same}
 
 -- the bytes of an access that is aligned are among the aligned 8
@@ -67,41 +61,27 @@ read_same : (f g : ℕ → Option ℕ) (x : Bytes) (at size : ℕ) → x.at ≤ 
 read_same f g x at size from to same =
     ap (λ w. unwrap_or w 0) (word_same f g at size (λ a over under. same a (simp (le-leb x.at a (omega arith), lt-ltb a (x.at + x.count) (omega arith)))))
 
-first_is : (b : Bool) → (b || false) ≡ false → b ≡ false
-first_is true is = is
-first_is false is = refl
-
 none_left : (ws : List Write) (b : Bool) (x y : Outcome) → x.reserved ≡ None → y.reserved ≡ None → cond b x y ≡ lost_outcome ws (cond b x y)
 none_left ws true x y p q = ap (as_reserved x) (p ∙ sym (lost_none ws) ∙ ap (lost_after ws) (sym p))
 none_left ws false x y p q = ap (as_reserved y) (q ∙ sym (lost_none ws) ∙ ap (lost_after ws) (sym q))
 
 pub outcome_same : (ws : List Write) (f g : ℕ → Option ℕ) (regs : Regs) (pc : ℕ) (r : Option ℕ) (e : Effect) → IsFine e → IsUnseen ws f g e
     → outcome g regs pc (lost_after ws r) e ≡ lost_outcome ws (outcome f regs pc r e)
-outcome_same ws f g regs pc r (effect.Next rd value to) fine un = refl
 outcome_same ws f g regs pc r (effect.Load at size is_signed rd) fine un =
     rw (← read_same f g (bytes at size) at size (omega arith) (omega arith) un.same) refl
-outcome_same ws f g regs pc r (effect.Store at size value) fine un = refl
 outcome_same ws f g regs pc r (effect.Amo op at size value rd) fine un =
     rw (← read_same f g (bytes at size) at size (omega arith) (omega arith) un.same) refl
 outcome_same ws f g regs pc r (effect.Lr at size rd) fine un =
     let al = aligned_if at size (unless_allowed (is_allowed fine.byte fine.can_write (reserving_read at size))) fine.none in
     let eight = within_eight at size fine.sized al in
-    let kept = lost_apart ws (reserved_at at) (λ a is. first_is (has_byte (bytes (reserved_at at) 8) a) (un.unread a is)) in
+    let kept = lost_apart ws (reserved_at at) (λ a is. (or_parts (has_byte (bytes (reserved_at at) 8) a) false (un.unread a is)).0) in
     rw (← read_same f g (bytes (reserved_at at) 8) at size eight.0 eight.1 un.same, kept) refl
 outcome_same ws f g regs pc r (effect.Sc at size value rd) fine un =
-    let same = reserved_same ws at r (λ a is. first_is (has_byte (bytes (reserved_at at) 8) a) (un.unwritten a is)) in
+    let same = reserved_same ws at r (λ a is. (or_parts (has_byte (bytes (reserved_at at) 8) a) false (un.unwritten a is)).0) in
     rw same (none_left ws (is_reserved r at) _ _ refl refl)
-outcome_same ws f g regs pc r (effect.Fence full) fine un = refl
-outcome_same ws f g regs pc r effect.FenceI fine un = refl
-outcome_same ws f g regs pc r effect.Call fine un = refl
-outcome_same ws f g regs pc r effect.Break fine un = refl
-outcome_same ws f g regs pc r effect.Misaligned fine un = refl
+outcome_same ws f g regs pc r e fine un = refl
 
 -- what enters memory at once is among what the instruction writes
-either_entered : (b : Bool) (x y : Outcome) (P : List Store → Type 0) → P x.entered → P y.entered → P (cond b x y).entered
-either_entered true x y P p q = p
-either_entered false x y P p q = q
-
 wider : (x y : Bytes) (a : ℕ) → y.at ≤ x.at → x.at + x.count ≤ y.at + y.count → (has_byte x a || false) ≡ true → (has_byte y a || false) ≡ true
 wider x y a from to is = go (or_cases (has_byte x a) false is)
   where
@@ -117,17 +97,10 @@ abbrev AreWritten : List Bytes → List Store → Type 0
 AreWritten xs entered = (a : ℕ) → have_byte (bytes_of_all (all_stored entered)) a ≡ true → have_byte xs a ≡ true
 
 pub entered_within : (f : ℕ → Option ℕ) (regs : Regs) (pc : ℕ) (r : Option ℕ) (e : Effect) → IsFine e → AreWritten (written_by e) (outcome f regs pc r e).entered
-entered_within f regs pc r (effect.Next rd value to) fine = λ a is. absurd (false≢true is)
-entered_within f regs pc r (effect.Load at size is_signed rd) fine = λ a is. absurd (false≢true is)
-entered_within f regs pc r (effect.Store at size value) fine = λ a is. absurd (false≢true is)
 entered_within f regs pc r (effect.Amo op at size value rd) fine = λ a is. is
-entered_within f regs pc r (effect.Lr at size rd) fine = λ a is. absurd (false≢true is)
 entered_within f regs pc r (effect.Sc at size value rd) fine =
     let al = aligned_if at size (unless_allowed (is_allowed fine.byte fine.can_write (conditional_write at size))) fine.none in
     let eight = within_eight at size fine.sized al in
-    either_entered (is_reserved r at) _ _ (AreWritten (bytes (reserved_at at) 8 ∷ [])) (λ a is. wider (bytes at size) (bytes (reserved_at at) 8) a eight.0 eight.1 is) (λ a is. absurd (false≢true is))
-entered_within f regs pc r (effect.Fence full) fine = λ a is. absurd (false≢true is)
-entered_within f regs pc r effect.FenceI fine = λ a is. absurd (false≢true is)
-entered_within f regs pc r effect.Call fine = λ a is. absurd (false≢true is)
-entered_within f regs pc r effect.Break fine = λ a is. absurd (false≢true is)
-entered_within f regs pc r effect.Misaligned fine = λ a is. absurd (false≢true is)
+    cond_both (is_reserved r at) _ _ (λ (o : Outcome). AreWritten (bytes (reserved_at at) 8 ∷ []) o.entered)
+    (λ same a is. wider (bytes at size) (bytes (reserved_at at) 8) a eight.0 eight.1 is) (λ other a is. absurd (false≢true is))
+entered_within f regs pc r e fine = λ a is. absurd (false≢true is)

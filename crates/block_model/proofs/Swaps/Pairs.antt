@@ -1,21 +1,8 @@
 -- Two plain events of different harts, one after the other, at a state of the plain machine.
 use Rattle.std.proofs.Common.{◌≡◌, ◌≢◌, ℕ, List, [], ◌∷◌, refl, sym, ap, ◌∙◌, subst, true, Option, Some, None, inl, inr, ◌⊎◌}
-use Rattle.std.proofs.lemmas.Bool.{cases_Bool, cases_eq, ne_eqb}
-use Rattle.mach_types.specs.Bytes.{written}
-use Rattle.mach_types.specs.declared.events.Choice.{Choice}
+use Rattle.block_model.proofs.Common.{AreApart, Choice, Done, Effect, Footprint, Here, Plain, Saved, Setting, Store, Write, apply, bytes_of_all, cases_eq, done_of, entry_in, file_among, have_byte, here_in_plain, ne_eqb, next_effect, refusal_of, runs, waiting_here, written}
+use Rattle.std.proofs.lemmas.Bool.{cases_Bool}
 use Rattle.mach_types.specs.declared.events.Choice.TheVariants as asked
-use Rattle.mach_types.specs.declared.threads.Saved.{Saved}
-use Rattle.mach_types.specs.declared.user_memory.Store.{Store}
-use Rattle.mach_types.specs.declared.user_memory.Write.{Write}
-use Rattle.rv_inst.specs.declared.effects.Effect.{Effect}
-use Rattle.block_model.specs.Deciding.{entry_in}
-use Rattle.block_model.specs.Events.{done_of, refusal_of}
-use Rattle.block_model.specs.Events.Exec.{next_effect}
-use Rattle.block_model.specs.Here.{Done, Here, runs, waiting_here}
-use Rattle.block_model.specs.History.{file_among}
-use Rattle.block_model.specs.Plain.{Plain, apply, here_in_plain}
-use Rattle.block_model.specs.Setting.{Setting}
-use Rattle.block_model.specs.Footprints.{AreApart, Footprint, bytes_of_all, have_byte}
 use Rattle.block_model.specs.PlainEvents.{footprint, is_plain}
 use Rattle.block_model.proofs.Swaps.PlainDone.{PlainDone, as_done, plain_drain, plain_effect, plain_exec, plain_done}
 use Rattle.block_model.proofs.Swaps.Commuting.{AreBeside, SetsNone, after, around, commutes, here_after, is_passed}
@@ -62,11 +49,7 @@ own_files asked.Exec here t = go (runs here)
     go None = inr (λ f. refl)
     go (Some u) = files_effect here u (next_effect here u) t
 own_files asked.Drain here t = inr (files_drain here.reserved (waiting_here here) t)
-own_files asked.Take here t = inr (λ f. refl)
-own_files asked.Done here t = inr (λ f. refl)
-own_files asked.Preempt here t = inr (λ f. refl)
-own_files (asked.Run u) here t = inr (λ f. refl)
-own_files asked.Signal here t = inr (λ f. refl)
+own_files c here t = inr (λ f. refl)
 
 -- TWO EVENTS
 

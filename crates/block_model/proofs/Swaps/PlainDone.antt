@@ -1,17 +1,8 @@
 -- What a plain event does, by the few things that it can do.
-use Rattle.std.specs.Prelude.{ℕ, false, List, [], ◌∷◌, Option, Some, None}
-use Rattle.mach_types.specs.Bytes.{all_stored}
-use Rattle.mach_types.specs.declared.events.Choice.{Choice}
+use Rattle.block_model.proofs.Common.{Choice, Done, Effect, Here, Kernel, List, Saved, Store, Stored, Write, all_stored, next_effect, outcome_of, runs, waiting_here}
+use Rattle.std.specs.Prelude.{ℕ, false, [], ◌∷◌, Option, Some, None}
 use Rattle.mach_types.specs.declared.events.Choice.TheVariants as asked
-use Rattle.mach_types.specs.declared.threads.Saved.{Saved}
-use Rattle.mach_types.specs.declared.user_memory.Store.{Store}
-use Rattle.mach_types.specs.declared.user_memory.Write.{Write}
-use Rattle.mach_types.specs.declared.user_memory.Write.TheVariants.{Stored}
 use Rattle.rv_inst.specs.Execution.{Outcome}
-use Rattle.rv_inst.specs.declared.effects.Effect.{Effect}
-use Rattle.block_model.specs.Events.Exec.{next_effect, outcome_of}
-use Rattle.block_model.specs.Here.{Here, Done, runs, waiting_here}
-use Rattle.block_model.specs.Record.{Kernel}
 
 -- the files that it set, the plain store that it executed, how many waiting stores entered memory, what was written, its hart's
 -- reservation after it, and how many instructions were executed
@@ -73,8 +64,4 @@ plain_exec here (Some t) = plain_effect here t (next_effect here t)
 abbrev pub plain_done : Choice → Here → PlainDone
 plain_done asked.Exec here = plain_exec here (runs here)
 plain_done asked.Drain here = plain_drain here.reserved (waiting_here here)
-plain_done asked.Take here = plain_nothing here.reserved
-plain_done asked.Done here = plain_nothing here.reserved
-plain_done asked.Preempt here = plain_nothing here.reserved
-plain_done (asked.Run t) here = plain_nothing here.reserved
-plain_done asked.Signal here = plain_nothing here.reserved
+plain_done c here = plain_nothing here.reserved

@@ -1,35 +1,12 @@
 -- A plain event is the same after a plain event of another hart that touched nothing which it reads or writes.
 use Rattle.std.proofs.Common.{◌≡◌, ℕ, List, [], ◌∷◌, length, refl, sym, ap, ◌∙◌, subst, Bool, true, false, not, cond, if◌then◌else◌, Option, Some, None, is_none, is_some}
-use Rattle.std.specs.Option.{option_and_then, option_map, option_or}
-use Rattle.std.proofs.lemmas.Bool.{and_parts, false≢true, not-true}
-use Rattle.mach_types.specs.declared.events.Choice.{Choice}
+use Rattle.block_model.proofs.Common.{Choice, Effect, Entry, Footprint, Here, Regs, Saved, Store, Write, and_parts, by_call, by_effect, by_outcome, bytes_of_all, called_here, can_read, done_drain_of, done_exec_by, done_of, entry_in, false≢true, fault_by, fetched, have_byte, instruction_gate, instruction_of, is_call, is_held, is_storable, lost_after, meaning, memory, memory_in, next_effect, next_fault, not-true, option_and_then, option_map, option_or, others_gate, outcome, outcome_of, overlay, pc_in, permission_at, reached, read_by, refusal_drain_of, refusal_exec_by, refusal_of, runs, unless_in_barrier, view, view_of_all, waiting_here, with_segment}
 use Rattle.mach_types.specs.declared.events.Choice.TheVariants as asked
-use Rattle.mach_types.specs.Bytes.{overlay}
-use Rattle.mach_types.specs.declared.events.Entry.{Entry}
-use Rattle.mach_types.specs.declared.registers.Regs.{Regs}
-use Rattle.mach_types.specs.declared.threads.Saved.{Saved}
-use Rattle.mach_types.specs.declared.user_memory.Store.{Store}
-use Rattle.mach_types.specs.declared.user_memory.Write.{Write}
-use Rattle.mach_types.specs.Kernel.Pages.{permission_at, can_read}
 use Rattle.rv_inst.proofs.Laws.{meaning-sized}
-use Rattle.rv_inst.specs.Class.{is_call}
-use Rattle.rv_inst.specs.Execution.{instruction_gate, outcome}
-use Rattle.rv_inst.specs.Meaning.{meaning}
 use Rattle.rv_inst.specs.Sizes.{HasAccessSizes}
-use Rattle.rv_inst.specs.declared.effects.Effect.{Effect}
 use Rattle.rv_inst.specs.declared.instruction.Inst.{Inst}
-use Rattle.block_model.specs.Deciding.{entry_in, pc_in}
-use Rattle.block_model.specs.Events.{done_of, refusal_of}
-use Rattle.block_model.specs.Events.Exec.{by_call, by_effect, by_outcome, called_here, done_exec_by, is_held, next_effect, next_fault, others_gate, outcome_of, refusal_exec_by}
-use Rattle.block_model.specs.Events.Drain.{done_drain_of, refusal_drain_of}
-use Rattle.block_model.specs.Events.Preempt.{unless_in_barrier}
-use Rattle.block_model.specs.Beside.{with_segment}
-use Rattle.block_model.specs.Here.{Here, is_storable, memory, memory_in, reached, runs, view, view_of_all, waiting_here}
-use Rattle.block_model.specs.History.{lost_after}
-use Rattle.block_model.specs.Instruction.{fault_by, fetched, instruction_of}
 use Rattle.block_model.specs.Instruction as instruction
-use Rattle.rv_inst.specs.Accesses.{read_by, reserved_by}
-use Rattle.block_model.specs.Footprints.{Footprint, bytes_of_all, have_byte}
+use Rattle.rv_inst.specs.Accesses.{reserved_by}
 use Rattle.block_model.specs.PlainEvents.{footprint, footprint_drain, footprint_exec, footprint_of, is_plain, is_plain_exec_by, is_plain_exec_of, reserved_exec, reserved_of}
 use Rattle.block_model.proofs.Swaps.PlainDone.{PlainDone, as_done, plain_drain, plain_effect, plain_exec, plain_done, plain_outcome}
 use Rattle.block_model.proofs.Swaps.Outcomes.{IsFine, IsUnseen, entered_within, lost_outcome, outcome_same}
@@ -97,12 +74,7 @@ plain_exec_passes here a (Some t) same =
 
 pub plain_passes : (c : Choice) (here : Here) (a : Around) → IsPassed here a → is_plain c (passed here a) ≡ is_plain c here
 plain_passes asked.Exec here a by = plain_exec_passes here a (runs here) by.file
-plain_passes asked.Drain here a by = refl
-plain_passes asked.Take here a by = refl
-plain_passes asked.Done here a by = refl
-plain_passes asked.Preempt here a by = refl
-plain_passes (asked.Run t) here a by = refl
-plain_passes asked.Signal here a by = refl
+plain_passes c here a by = refl
 
 footprint_exec_passes : (here : Here) (a : Around) (o : Option ℕ) → RunsAs here a o → footprint_exec (passed here a) o ≡ footprint_exec here o
 footprint_exec_passes here a None same = refl
@@ -111,11 +83,7 @@ footprint_exec_passes here a (Some t) same = ap footprint_of (effect_passes here
 pub footprint_passes : (c : Choice) (here : Here) (a : Around) → IsPassed here a → footprint c (passed here a) ≡ footprint c here
 footprint_passes asked.Exec here a by = footprint_exec_passes here a (runs here) by.file
 footprint_passes asked.Drain here a by = ap footprint_drain by.waiting
-footprint_passes asked.Take here a by = refl
-footprint_passes asked.Done here a by = refl
-footprint_passes asked.Preempt here a by = refl
-footprint_passes (asked.Run t) here a by = refl
-footprint_passes asked.Signal here a by = refl
+footprint_passes c here a by = refl
 
 reserved_exec_passes : (here : Here) (a : Around) (o : Option ℕ) → RunsAs here a o → reserved_exec (passed here a) o ≡ reserved_exec here o
 reserved_exec_passes here a None same = refl
@@ -123,12 +91,7 @@ reserved_exec_passes here a (Some t) same = ap (option_and_then reserved_by) (ef
 
 pub reserved_passes : (c : Choice) (here : Here) (a : Around) → IsPassed here a → reserved_of c (passed here a) ≡ reserved_of c here
 reserved_passes asked.Exec here a by = reserved_exec_passes here a (runs here) by.file
-reserved_passes asked.Drain here a by = refl
-reserved_passes asked.Take here a by = refl
-reserved_passes asked.Done here a by = refl
-reserved_passes asked.Preempt here a by = refl
-reserved_passes (asked.Run t) here a by = refl
-reserved_passes asked.Signal here a by = refl
+reserved_passes c here a by = refl
 
 -- ITS ENTRY
 
@@ -139,11 +102,7 @@ pc_passes here a (Some t) same = ap (λ (f : Saved). f.pc) (same t refl)
 pub entry_passes : (c : Choice) (here : Here) (a : Around) → IsPassed here a → is_plain c here ≡ true → entry_in c (passed here a) ≡ entry_in c here
 entry_passes asked.Exec here a by plain = ap (λ pc. let e : Entry = record (entry_in asked.Exec here) { pc = pc } in e) (pc_passes here a (runs here) by.file)
 entry_passes asked.Drain here a by plain = ap (λ pc. let e : Entry = record (entry_in asked.Drain here) { pc = pc } in e) (pc_passes here a (runs here) by.file)
-entry_passes asked.Take here a by plain = absurd (false≢true plain)
-entry_passes asked.Done here a by plain = absurd (false≢true plain)
-entry_passes asked.Preempt here a by plain = absurd (false≢true plain)
-entry_passes (asked.Run t) here a by plain = absurd (false≢true plain)
-entry_passes asked.Signal here a by plain = absurd (false≢true plain)
+entry_passes c here a by plain = absurd (false≢true plain)
 
 -- WHETHER IT IS REFUSED
 
@@ -188,11 +147,7 @@ refusal_exec_passes here a (Some t) same by plain =
 pub refusal_passes : (c : Choice) (here : Here) (a : Around) → IsPassed here a → is_plain c here ≡ true → refusal_of c (passed here a) ≡ refusal_of c here
 refusal_passes asked.Exec here a by plain = refusal_exec_passes here a (runs here) by.file by plain
 refusal_passes asked.Drain here a by plain = ap refusal_drain_of by.waiting
-refusal_passes asked.Take here a by plain = absurd (false≢true plain)
-refusal_passes asked.Done here a by plain = absurd (false≢true plain)
-refusal_passes asked.Preempt here a by plain = absurd (false≢true plain)
-refusal_passes (asked.Run t) here a by plain = absurd (false≢true plain)
-refusal_passes asked.Signal here a by plain = absurd (false≢true plain)
+refusal_passes c here a by plain = absurd (false≢true plain)
 
 -- WHAT IT DOES
 
@@ -268,11 +223,7 @@ pub done_passes : (c : Choice) (here : Here) (a : Around) → IsPassed here a �
 done_passes asked.Exec here a by plain clear = exec_done_passes here a (runs here) by.file by plain clear
 done_passes asked.Drain here a by plain clear =
     ap (plain_drain (lost_after a.lost here.reserved)) by.waiting ∙ drain_done_passes a.lost here.reserved (waiting_here here)
-done_passes asked.Take here a by plain clear = absurd (false≢true plain)
-done_passes asked.Done here a by plain clear = absurd (false≢true plain)
-done_passes asked.Preempt here a by plain clear = absurd (false≢true plain)
-done_passes (asked.Run t) here a by plain clear = absurd (false≢true plain)
-done_passes asked.Signal here a by plain clear = absurd (false≢true plain)
+done_passes c here a by plain clear = absurd (false≢true plain)
 
 -- and that is all that it does
 by_no_call : (here : Here) (t : ℕ) (e : Effect) (b : Bool) → b ≡ false → cond b (by_call here (called_here here t)) (by_outcome here t (outcome_of here t e)) ≡ as_done here.kernel (plain_outcome t (outcome_of here t e))
@@ -294,11 +245,7 @@ drain_is_plain here (w ∷ ws) = refl
 pub done_is_plain : (c : Choice) (here : Here) → is_plain c here ≡ true → done_of c here ≡ as_done here.kernel (plain_done c here)
 done_is_plain asked.Exec here plain = exec_is_plain here (runs here) plain
 done_is_plain asked.Drain here plain = drain_is_plain here (waiting_here here)
-done_is_plain asked.Take here plain = absurd (false≢true plain)
-done_is_plain asked.Done here plain = absurd (false≢true plain)
-done_is_plain asked.Preempt here plain = absurd (false≢true plain)
-done_is_plain (asked.Run t) here plain = absurd (false≢true plain)
-done_is_plain asked.Signal here plain = absurd (false≢true plain)
+done_is_plain c here plain = absurd (false≢true plain)
 
 -- what enters memory is among what its access writes
 abbrev pub EntersWithin : PlainDone → Footprint → Type 0
@@ -318,8 +265,4 @@ drain_enters r (w ∷ ws) = λ a is. is
 pub done_enters : (c : Choice) (here : Here) → is_plain c here ≡ true → EntersWithin (plain_done c here) (footprint c here)
 done_enters asked.Exec here plain = exec_enters here (runs here) plain
 done_enters asked.Drain here plain = drain_enters here.reserved (waiting_here here)
-done_enters asked.Take here plain = absurd (false≢true plain)
-done_enters asked.Done here plain = absurd (false≢true plain)
-done_enters asked.Preempt here plain = absurd (false≢true plain)
-done_enters (asked.Run t) here plain = absurd (false≢true plain)
-done_enters asked.Signal here plain = absurd (false≢true plain)
+done_enters c here plain = absurd (false≢true plain)

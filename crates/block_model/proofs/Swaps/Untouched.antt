@@ -1,21 +1,12 @@
 -- What isn't touched stays as it is: bytes, words, faults and reservations.
 use Rattle.std.proofs.Common.{◌≡◌, ℕ, ◌+◌, ◌≤◌, ◌<◌, List, [], ◌∷◌, refl, sym, ap, ◌∙◌, arith, Bool, true, false, cond, ◌&&◌, leb, ltb, Option, Some, None, zero, suc, is_some, inl, inr, ◌⊎◌}
-use Rattle.std.specs.Option.{option_or, option_and_then}
-use Rattle.std.proofs.lemmas.Bool.{and_from, and_parts, cases_lt, false≢true, le-leb, lt-ltb, ltb-true, or_parts, or_right}
-use Rattle.mach_types.specs.Bytes.{byte_after, joined, word_at, written}
-use Rattle.mach_types.specs.declared.user_memory.Write.{Write}
-use Rattle.mach_types.specs.declared.user_memory.Write.TheVariants.{Stored, Zeroed}
-use Rattle.mach_types.specs.Kernel.Pages.{permission_at, can_read}
+use Rattle.block_model.proofs.Common.{Effect, Kernel, Neighbour, Stored, Write, Zeroed, and_from, and_parts, byte_after, bytes, bytes_of_all, can_read, cases_lt, false≢true, fault_in, has_byte, have_byte, is_in_segment, le-leb, lost_after, lt-ltb, ltb-true, memory_in, option_and_then, option_or, or_parts, or_right, permission_at, with_segment, word_at, written}
+use Rattle.mach_types.specs.Bytes.{joined}
 use Rattle.rv_inst.specs.Class.{asks}
-use Rattle.rv_inst.specs.Execution.{access_fault, fault_in, has_reserved}
+use Rattle.rv_inst.specs.Execution.{access_fault, has_reserved}
 use Rattle.rv_inst.specs.declared.class.Access.{Access}
-use Rattle.rv_inst.specs.declared.effects.Effect.{Effect}
-use Rattle.block_model.specs.Beside.{Neighbour, is_in_segment, with_segment}
-use Rattle.block_model.specs.Here.{memory_in}
-use Rattle.block_model.specs.History.{lost_after, lost_to}
-use Rattle.block_model.specs.Record.{Kernel}
-use Rattle.rv_inst.specs.Accesses.{bytes}
-use Rattle.block_model.specs.Footprints.{bytes_of, bytes_of_all, has_byte, have_byte}
+use Rattle.block_model.specs.History.{lost_to}
+use Rattle.block_model.specs.Footprints.{bytes_of}
 
 -- a byte that a write doesn't have stays as it is
 untouched_one : (w : Write) (a b : ℕ) → has_byte (bytes_of w) a ≡ false → byte_after w a b ≡ b

@@ -1,6 +1,6 @@
 //! What is read of a machine: each of its harts, the kernel's tables, and what it would answer to a choice.
 
-ghost use Rattle.std.specs.Prelude.{◌≡◌, ◌<◌, ℕ, None, Ok, Err};
+ghost use Rattle.std.specs.Prelude.{◌≡◌, ◌<◌, ℕ, [], None, Ok, Err};
 ghost use Rattle.mach_types.specs.Bytes.{IsAccessSize, word_at};
 ghost use Rattle.mach_types.specs.Kernel.Signals as signals;
 ghost use Rattle.mach_types.specs.Kernel.Threads.{is_live};
@@ -16,6 +16,7 @@ ghost use Rattle.block_model.specs.Here.{memory, runs, view};
 ghost use Rattle.block_model.specs.History.{events, file, here_in_history, kernel, ran};
 ghost use Rattle.block_model.specs.declared.refusals.Refused.{Refused};
 ghost use Rattle.block_model.specs.Sights.{effect_here, fault_here, is_deliverable_on, sight_in};
+ghost use Rattle.process.specs.Foresight.{foreseen_writes};
 ghost use Rattle.process.specs.Harts.{hart_in};
 ghost use Rattle.process.specs.Sequences.{area_on, looked_at_on};
 ghost use Rattle.machine_core.specs.Free.{goes_freely};
@@ -24,7 +25,7 @@ use crate::machine::Machine;
 use block_model::Refused;
 use hart_state::HartState;
 use mach_types::{Area, Choice, Entry, Hart, Named, Outcome, Sight, UserMem};
-use process::{effect_of_next, is_all_taken, is_free, is_local, next_of};
+use process::{KernelWrites, effect_of_next, is_all_taken, is_free, is_local, next_of};
 use rseq_area::Lookups;
 use rv_inst::Effect;
 use sys_calls::Kernel;
@@ -226,6 +227,24 @@ impl Machine {
         match self.answer(hart, choice) {
             Ok(_) => self.parts.foreseen(hart, choice),
             Err(_) => None,
+        }
+    }
+
+    /// The writes to memory that the kernel would make by the event of this choice, in order: what an interruption writes (rseq(2)), the
+    /// words of the area of a thread that begins to run, and the frame of a handler (sigaction(2)). None where the choice is refused at
+    /// this place of the log, and by an `exec` or a `drain`: what a call writes is answered by [`Machine::step_call`]. Nothing changes.
+    pub fn foreseen_writes(&self, hart: Hart, choice: Choice) -> KernelWrites
+        ensures allowed { (e : Entry)
+            → decide self.now.setting (history self.now.setting self.now.log) hart.0 choice ≡ Ok e
+            → result.items ≡ foreseen_writes choice
+            (here_in_history self.now.setting (history self.now.setting self.now.log) hart.0) }
+        ensures refused { (why : Refused)
+            → decide self.now.setting (history self.now.setting self.now.log) hart.0 choice ≡ Err why
+            → result.items ≡ [] }
+    {
+        match self.answer(hart, choice) {
+            Ok(_) => self.parts.foreseen_writes(hart, choice),
+            Err(_) => KernelWrites::new(),
         }
     }
 }

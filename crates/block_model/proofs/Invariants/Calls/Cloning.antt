@@ -1,24 +1,12 @@
 -- clone(2).
-use Rattle.std.proofs.Common.{List, ◌≡◌, ◌≢◌, ℕ, [], ◌∷◌, refl, sym, ap, ◌∙◌, arith, Bool, true, false, cond, Option, Some, None}
-use Rattle.std.specs.Option.{option_map}
-use Rattle.std.proofs.lemmas.Bool.{ne_eqb}
-use Rattle.mach_types.specs.declared.threads.Saved.{Saved}
-use Rattle.mach_types.specs.declared.user_memory.Write.{Write}
-use Rattle.block_model.specs.Record.{Kernel}
-use Rattle.mach_types.specs.Kernel.Threads.{Thread, is_full, running_on, state_of}
-use Rattle.block_model.specs.Setting.{Setting}
-use Rattle.block_model.specs.Here.{Here, runs}
-use Rattle.block_model.specs.Kernel.{cleared, had_child, next_number}
-use Rattle.block_model.specs.Calls.Answers.{CallDone, argument, returned}
-use Rattle.block_model.specs.Calls.Cloning.{child_file, clone_child_cleartid, has_flag, with_new_child}
-use Rattle.block_model.specs.Standing.{IsGoodHere, IsSound}
+use Rattle.std.proofs.Common.{List, ◌≡◌, ◌≢◌, ℕ, [], ◌∷◌, refl, sym, ap, ◌∙◌, subst, arith, Bool, true, false, cond, Option, Some, None}
+use Rattle.block_model.proofs.Common.{CallDone, Here, IsGoodHere, IsSound, Kernel, PageRun, Saved, Setting, Thread, Write, argument, child_file, cleared, clone_child_cleartid, had_child, has_flag, is_full, ne_eqb, next_is_new, next_number, on, option_map, returned, running_on, runs, state_of, with_new_child}
 use Rattle.block_model.proofs.AllowedHarts.{child_allowed, running_live}
-use Rattle.block_model.specs.Tables.{on}
 use Rattle.block_model.proofs.KernelTables.{running_is}
 use Rattle.block_model.proofs.KernelCalls.{child_not_held, child_same, tables_child}
-use Rattle.mach_types.proofs.Laws.{next_is_new}
+use Rattle.block_model.proofs.Pages.{IsPaged}
 use Rattle.block_model.proofs.ThreadRecords.{held_child}
-use Rattle.block_model.proofs.Invariants.Calls.Conditions.{IsFitCall, IsApart, apart_own}
+use Rattle.block_model.proofs.Invariants.Calls.Conditions.{IsFitTaking, IsApart, apart_own, pages_stay}
 use Rattle.block_model.proofs.Invariants.Calls.RecordSteps.{IsKept, kept_cleared, kept_still}
 
 -- a thread that runs has another number than the next
@@ -78,10 +66,10 @@ child_made here t entered =
       ended = None;
     }
 
-pub fit_child : (here : Here) (t : ℕ) (entered : List Write) → IsGoodHere here → runs here ≡ Some t
+pub fit_child : (here : Here) (t : ℕ) (entered : List Write) (r : PageRun) → IsGoodHere here → runs here ≡ Some t
     → is_full here.kernel.threads ≡ false
-    → IsFitCall here (child_made here t entered)
-fit_child here t entered good at free =
+    → IsFitTaking here r (child_made here t entered)
+fit_child here t entered r good at free =
     let s = here.setting in
     let child = next_number here.kernel in
     let kept = kept_child here t (sound_child s here.hart t here.kernel good.kernel at free) in
@@ -89,7 +77,8 @@ fit_child here t entered good at free =
     record {
       others = λ k ne. kept.running k ∙ running_child s here.hart t here.kernel good.kernel at free k;
       apart = apart_own here t (returned child (here.file t)) ((child, child_file here t) ∷ []) good at other;
-      pages = kept.pages;
+      pages = pages_stay here.kernel.pages (with_new_child here t).pages r kept.pages;
+      paged = λ is. subst (IsPaged here.setting) (sym kept.pages) is;
       given = let same = kept.given in omega arith;
       barrier = λ b is. absurd cc;
       kernel = kept.sound;

@@ -1,21 +1,8 @@
 -- What a call does that is fit, and what makes one fit: a step of the record, beside files that are the caller's own or of threads that
 -- don't run.
 use Rattle.std.proofs.Common.{◌≡◌, ◌≢◌, ℕ, zero, suc, ◌+◌, ◌/◌, ◌≤◌, ◌<◌, inl, inr, List, [], ◌∷◌, ◌++◌, refl, sym, ap, ◌∙◌, subst, arith, Bool, true, false, not, ◌||◌, Option, Some, None}
-use Rattle.std.proofs.lemmas.Bool.{and_parts, cases_eq, cases_lt, ne_eqb, not-false, not-true, or_parts}
-use Rattle.std.specs.List.{AllByRecursion, list_any}
-use Rattle.mach_types.specs.Bytes.{each_byte}
-use Rattle.mach_types.specs.Kernel.Pages.{PageRun, Pages, can_write, is_in, permission_at, permission_of}
-use Rattle.mach_types.specs.declared.threads.Saved.{Saved}
-use Rattle.mach_types.specs.declared.user_memory.Store.{Store}
-use Rattle.mach_types.specs.Kernel.Threads.{Threads, running_on}
-use Rattle.block_model.specs.Beside.{Neighbour, is_in_segment, or_in_segment}
-use Rattle.block_model.specs.Here.{Barrier, Here, runs, waiting_here}
-use Rattle.block_model.specs.History.{file_among}
-use Rattle.block_model.specs.Calls.Answers.{CallDone}
-use Rattle.block_model.specs.Calls.Memory.{lies_on, lies_waiting_on}
-use Rattle.block_model.specs.Events.Exec.{by_call}
-use Rattle.block_model.specs.Tables.{IsHeld, IsTables}
-use Rattle.block_model.specs.Standing.{IsGoodHere, IsSound, MayEnter}
+use Rattle.block_model.proofs.Common.{AllByRecursion, Barrier, CallDone, Here, IsGoodHere, IsHeld, IsSound, IsTables, MayEnter, Neighbour, PageRun, Pages, Saved, Store, Threads, and_parts, by_call, can_write, cases_eq, cases_lt, each_byte, file_among, is_in, is_in_segment, lies_waiting_on, list_any, ne_eqb, not-false, not-true, or_in_segment, or_parts, permission_at, permission_of, running_on, runs, waiting_here}
+use Rattle.block_model.specs.Calls.Memory.{lies_on}
 use Rattle.block_model.proofs.KernelTables.{running_is, runs_once}
 use Rattle.block_model.proofs.Pages.{IsPaged}
 use Rattle.block_model.proofs.Barriers.Events.{IsAtOthers, IsFitBarriers}
@@ -27,16 +14,6 @@ pub record IsBegunByCall (here : Here) (c : CallDone) (b : Barrier) : Type 0 whe
   pub others : IsAtOthers here b
   pub running : running_on here.hart c.kernel.threads ≢ None
   pub stays : running_on here.hart c.kernel.threads ≡ runs here
-
--- threads of other harts stay where they are and keep their files, and the record stays sound
-pub record IsFitCall (here : Here) (c : CallDone) : Type 0 where
-  pub others : (k : ℕ) → k ≢ here.hart → running_on k c.kernel.threads ≡ running_on k here.kernel.threads
-  pub apart : (k u : ℕ) (f : Saved) → k ≢ here.hart → running_on k here.kernel.threads ≡ Some u → file_among c.files u f ≡ f
-  pub pages : c.kernel.pages ≡ here.kernel.pages
-  pub given : c.kernel.threads.given ≤ here.kernel.threads.given + 1
-  pub barrier : (b : Barrier) → c.barrier ≡ Some b → IsBegunByCall here c b
-  pub kernel : IsSound here.setting c.kernel
-  pub held : IsHeld here.setting.limits.harts here.kernel → IsHeld here.setting.limits.harts c.kernel
 
 -- a thread that runs on one hart isn't that of another
 pub runs_apart : (harts h k t u : ℕ) (ts : Threads) (sc : _) → IsTables harts ts sc → running_on h ts ≡ Some t → k ≢ h → running_on k ts ≡ Some u → t ≢ u
@@ -53,7 +30,8 @@ abbrev pub StaysWritable : Pages → PageRun → Pages → Type 0
 StaysWritable before r after =
     (n : ℕ) → is_in r n ≡ false → can_write (permission_of before.runs n) ≡ true → can_write (permission_of after.runs n) ≡ true
 
--- the same of a call that takes the pages of a run
+-- threads of other harts stay where they are and keep their files, no page changes but those of a run that it takes, and the record
+-- stays sound
 pub record IsFitTaking (here : Here) (r : PageRun) (c : CallDone) : Type 0 where
   pub others : (k : ℕ) → k ≢ here.hart → running_on k c.kernel.threads ≡ running_on k here.kernel.threads
   pub apart : (k u : ℕ) (f : Saved) → k ≢ here.hart → running_on k here.kernel.threads ≡ Some u → file_among c.files u f ≡ f
@@ -63,19 +41,6 @@ pub record IsFitTaking (here : Here) (r : PageRun) (c : CallDone) : Type 0 where
   pub barrier : (b : Barrier) → c.barrier ≡ Some b → IsBegunByCall here c b
   pub kernel : IsSound here.setting c.kernel
   pub held : IsHeld here.setting.limits.harts here.kernel → IsHeld here.setting.limits.harts c.kernel
-
--- a call that changes no page takes none
-pub takes_none : (here : Here) (r : PageRun) (c : CallDone) → IsFitCall here c → IsFitTaking here r c
-takes_none here r c fit = record {
-  others = fit.others;
-  apart = fit.apart;
-  pages = λ n outside may. subst (λ (p : Pages). can_write (permission_of p.runs n) ≡ true) (sym fit.pages) may;
-  paged = λ is. subst (IsPaged here.setting) (sym fit.pages) is;
-  given = fit.given;
-  barrier = fit.barrier;
-  kernel = fit.kernel;
-  held = fit.held;
-}
 
 -- a byte that passes a test or lies in the segment passes another one or lies there, where it passes a third or lies there
 or_passes : (segment a b c : Bool) → (a ≡ true → b ≡ true → c ≡ true) → (segment || a) ≡ true → (segment || b) ≡ true → (segment || c) ≡ true
@@ -184,23 +149,28 @@ IsApart here files =
     (k u : ℕ) (f : Saved) → k ≢ here.hart → running_on k here.kernel.threads ≡ Some u
     → file_among files u f ≡ f
 
--- no barrier begins by such a call
-pub fit_moved : (here : Here) (c : CallDone) → c.barrier ≡ None → IsApart here c.files
-    → IsMoved here.setting here.hart here.kernel c.kernel → IsFitCall here c
-fit_moved here c quiet apart moved = record {
+-- where no page changes, whatever is taken
+pub pages_stay : (before after : Pages) (r : PageRun) → after ≡ before → StaysWritable before r after
+pages_stay before after r same n outside may = subst (λ (p : Pages). can_write (permission_of p.runs n) ≡ true) (sym same) may
+
+-- no barrier begins by such a call, and it takes no page
+pub fit_moved : (here : Here) (r : PageRun) (c : CallDone) → c.barrier ≡ None → IsApart here c.files
+    → IsMoved here.setting here.hart here.kernel c.kernel → IsFitTaking here r c
+fit_moved here r c quiet apart moved = record {
   others = moved.others;
   apart = apart;
-  pages = moved.pages;
+  pages = pages_stay here.kernel.pages c.kernel.pages r moved.pages;
+  paged = λ is. subst (IsPaged here.setting) (sym moved.pages) is;
   given = let same = moved.given in omega arith;
   barrier = λ b is. let bad : None ≡ Some b = sym quiet ∙ is in absurd cc;
   kernel = moved.sound;
   held = moved.held;
 }
 
-pub fit_kept : (here : Here) (c : CallDone) → c.barrier ≡ None → IsApart here c.files
-    → IsKept here.setting here.kernel c.kernel → IsFitCall here c
-fit_kept here c quiet apart kept =
-    fit_moved here c quiet apart (kept_moved here.setting here.hart here.kernel c.kernel kept)
+pub fit_kept : (here : Here) (r : PageRun) (c : CallDone) → c.barrier ≡ None → IsApart here c.files
+    → IsKept here.setting here.kernel c.kernel → IsFitTaking here r c
+fit_kept here r c quiet apart kept =
+    fit_moved here r c quiet apart (kept_moved here.setting here.hart here.kernel c.kernel kept)
 
 pub apart_own : (here : Here) (t : ℕ) (x : Saved) (rest : List (ℕ × Saved)) → IsGoodHere here
     → runs here ≡ Some t → IsApart here rest → IsApart here ((t, x) ∷ rest)

@@ -1,31 +1,15 @@
 -- Each call of the table is fit.
 use Rattle.std.proofs.Common.{◌≡◌, ℕ, List, [], ◌∷◌, length, map, cond, refl, sym, ap, ◌∙◌, subst, arith, is_some, true, Option, Some, None}
-use Rattle.std.proofs.lemmas.Bool.{ne_eqb}
-use Rattle.mach_types.specs.Kernel.Pages.{PageRun}
+use Rattle.block_model.proofs.Common.{CallDone, Here, IsGoodHere, Kernel, PageRun, Setting, ThreadState, Write, answered_wait, broken_wait, call_number, called, clear_of, clears, gone, left, ne_eqb, registered, restricted, returned, runs, said, signalled, sum_64, taken_by, unregistered, waits, wake, woken}
 use Rattle.mach_types.specs.Kernel.SignalFrames as frame
-use Rattle.mach_types.specs.Kernel.Threads.{clear_of, waits}
-use Rattle.mach_types.specs.declared.threads.ThreadState.{ThreadState}
-use Rattle.mach_types.specs.declared.user_memory.Write.{Write}
-use Rattle.rv_inst.specs.Words.{sum_64}
-use Rattle.block_model.specs.Calls.{called}
-use Rattle.block_model.specs.Calls.Answers.{CallDone, call_number, returned, said}
-use Rattle.block_model.specs.Calls.Ending.{clears}
-use Rattle.block_model.specs.Calls.Futexes.{answered_wait, wake}
-use Rattle.block_model.specs.Calls.Memory.{taken_by}
-use Rattle.block_model.specs.Calls.Signals.{broken_wait}
-use Rattle.block_model.specs.Here.{Here, runs}
-use Rattle.block_model.specs.Kernel.{gone, left, restricted, signalled, woken, registered, unregistered}
-use Rattle.block_model.specs.Record.{Kernel}
-use Rattle.block_model.specs.Setting.{Setting}
-use Rattle.block_model.specs.Standing.{IsGoodHere}
 use Rattle.block_model.proofs.Barriers.Events.{IsAtOthers}
 use Rattle.block_model.proofs.CallEffects.{Answers, Bears, Begins, Breaks, CallDeed, Clears, Ends, EnrolsFor, Exits, Leaves, MovesOff, Prints, Registers, Remaps, Resumes, Same, Says, Signalled, Stays, TableStep, Unregisters, Waits, Wakes}
 use Rattle.block_model.proofs.CallEffects.EachCall.{deed_called}
 use Rattle.block_model.proofs.Invariants.Calls.Cloning.{fit_child}
-use Rattle.block_model.proofs.Invariants.Calls.Conditions.{IsFitTaking, takes_none, IsApart, apart_none, apart_one, apart_own, fit_kept, fit_moved}
+use Rattle.block_model.proofs.Invariants.Calls.Conditions.{IsFitTaking, IsApart, apart_none, apart_one, apart_own, fit_kept, fit_moved}
 use Rattle.block_model.proofs.Invariants.Calls.Futexes.{apart_woken, kept_wake}
-use Rattle.block_model.proofs.Invariants.Calls.RecordSteps.{IsKept, IsMoved, kept_cleared, kept_for_barriers, kept_moved, kept_printed, kept_restricted, kept_signalled, kept_still, kept_twice, kept_woken, moved_after, moved_gone, moved_left, moved_waited, kept_tables}
-use Rattle.block_model.proofs.ThreadRecords.{has_state, held_paged, held_registered, held_unregistered}
+use Rattle.block_model.proofs.Invariants.Calls.RecordSteps.{IsKept, IsMoved, kept_cleared, kept_moved, kept_printed, kept_restricted, kept_signalled, kept_still, kept_twice, kept_woken, moved_after, moved_gone, moved_left, moved_waited, kept_tables}
+use Rattle.block_model.proofs.ThreadRecords.{has_state, held_beside, held_registered, held_unregistered}
 use Rattle.block_model.proofs.KernelTables.{running_is, waits_elsewhere}
 use Rattle.block_model.proofs.SignalTables.{returned_keeps}
 
@@ -53,7 +37,7 @@ module _ (here : Here) (t number : ℕ) (good : IsGoodHere here) (at : runs here
 
   -- an answer, with a step of the record that moves no other thread
   moving : (n : ℕ) (entered : List Write) (k : Kernel) → IsMoved s h now k → IsFitTaking here taken (record (said here t n) { entered = entered; kernel = k })
-  moving n entered k moved = takes_none here taken _ (fit_moved here _ refl (apart_one here t (returned n (here.file t)) good at) moved)
+  moving n entered k moved = fit_moved here taken _ refl (apart_one here t (returned n (here.file t)) good at) moved
 
   keeping : (n : ℕ) (entered : List Write) (k : Kernel) → IsKept s now k → IsFitTaking here taken (record (said here t n) { entered = entered; kernel = k })
   keeping n entered k kept = moving n entered k (kept_moved s h now k kept)
@@ -73,7 +57,7 @@ module _ (here : Here) (t number : ℕ) (good : IsGoodHere here) (at : runs here
       keeping n entered _ (kept_tables s now (registered t area now) good.kernel refl refl refl refl (held_registered s.limits.harts t area now (running_lives here t good at) none))
   fit_step n entered Unregisters = keeping n entered _ (kept_tables s now (unregistered t now) good.kernel refl refl refl refl (held_unregistered s.limits.harts t now))
   fit_step n entered (Signalled g keeps stand heeds calm) = keeping n entered _ (kept_signalled s g now good.kernel keeps)
-  fit_step n entered (EnrolsFor r) = keeping n entered _ (kept_for_barriers s r now good.kernel)
+  fit_step n entered (EnrolsFor r) = keeping n entered _ (kept_tables s now _ good.kernel refl refl refl refl (held_beside s.limits.harts now _ refl refl refl refl))
   fit_step n entered (Remaps pages stays paged) = record {
     others = λ k ne. refl;
     apart = apart_one here t (returned n (here.file t)) good at;
@@ -82,25 +66,21 @@ module _ (here : Here) (t number : ℕ) (good : IsGoodHere here) (at : runs here
     given = omega arith;
     barrier = λ b is. absurd cc;
     kernel = record { tables = good.kernel.tables; allowed = good.kernel.allowed; console = good.kernel.console };
-    held = held_paged s.limits.harts pages now;
+    held = held_beside s.limits.harts now _ refl refl refl refl;
   }
-
-  -- the deeds that take no page
-  fit_kept_by : (c : CallDone) → c.barrier ≡ None → IsApart here c.files → IsKept s now c.kernel → IsFitTaking here taken c
-  fit_kept_by c quiet apart kept = takes_none here taken c (fit_kept here c quiet apart kept)
 
   fit_deed : {c : CallDone} → CallDeed here t number c → IsFitTaking here taken c
   fit_deed (Says n) = keeping n [] now (kept_still s now good.kernel)
   fit_deed (Answers n entered k no_error writes step) = fit_step n entered step
   fit_deed (Wakes n p small) =
       let done = wake n p now in
-      fit_kept_by _ refl
+      fit_kept here taken _ refl
       (apart_own here t (returned (length done.threads) (here.file t)) (map (answered_wait here) done.threads) good at (apart_woken here n p good))
       (kept_wake s n p now good.kernel)
   fit_deed (Breaks u g waiting keeps stand heeds calm) =
       let k = signalled g now in
       let kept = kept_signalled s g now good.kernel keeps in
-      fit_kept_by _ refl (apart_own here t (returned 0 (here.file t)) (broken_wait here u ∷ []) good at (apart_broken here u good waiting))
+      fit_kept here taken _ refl (apart_own here t (returned 0 (here.file t)) (broken_wait here u ∷ []) good at (apart_broken here u good waiting))
       (kept_twice s now k (woken u k) kept (kept_woken s u k kept.sound waiting))
   fit_deed (Exits more) =
       let n : ℕ = cond (clears here t) 1 0 in
@@ -108,12 +88,13 @@ module _ (here : Here) (t number : ℕ) (good : IsGoodHere here) (at : runs here
       let then = (wake n address now).kernel in
       let kept = kept_wake s n address now good.kernel in
       let moved = moved_gone s h t then kept.sound (kept.running h ∙ at) in
-      takes_none here taken _ (fit_moved here _ refl (apart_woken here n address good) (moved_after s h now then (gone t then) kept moved))
-  fit_deed (Bears entered writes free) = takes_none here taken _ (fit_child here t entered good at free)
-  fit_deed (Begins set restart others no_error its_number) = takes_none here taken _ (record {
+      fit_moved here taken _ refl (apart_woken here n address good) (moved_after s h now then (gone t then) kept moved)
+  fit_deed (Bears entered writes free) = fit_child here t entered taken good at free
+  fit_deed (Begins set restart others no_error its_number) = record {
     others = λ k ne. refl;
     apart = apart_one here t (record (here.file t) { pc = sum_64 (here.file t).pc 4 }) good at;
-    pages = refl;
+    pages = λ n outside may. may;
+    paged = λ is. is;
     given = omega arith;
     barrier = λ b is. record {
       others = let same : record { targets = set; restart = restart } ≡ b = cc in subst (IsAtOthers here) same (others good);
@@ -122,11 +103,11 @@ module _ (here : Here) (t number : ℕ) (good : IsGoodHere here) (at : runs here
     };
     kernel = good.kernel;
     held = λ is. is;
-  })
+  }
   fit_deed (Resumes words is its) =
-      fit_kept_by _ refl (apart_one here t (frame.restored words) good at)
+      fit_kept here taken _ refl (apart_one here t (frame.restored words) good at)
       (kept_signalled s (frame.returned t (Some words) now.signals) now good.kernel (returned_keeps t (Some words) now.signals))
-  fit_deed (Ends entered e writes over) = fit_kept_by _ refl (apart_none here) (kept_still s now good.kernel)
+  fit_deed (Ends entered e writes over) = fit_kept here taken _ refl (apart_none here) (kept_still s now good.kernel)
 
 pub fit_called : (here : Here) (t : ℕ) → IsGoodHere here → runs here ≡ Some t
     → IsFitTaking here (taken_by (call_number here t) here t) (called here t)

@@ -1,18 +1,8 @@
 -- futex(2).
 use Rattle.std.proofs.Common.{◌≡◌, ℕ, [], map, refl, ◌∙◌, true, Option, Some, None, zero, suc}
-use Rattle.std.specs.Option.{option_map_or}
-use Rattle.std.proofs.lemmas.Bool.{ne_eqb, false≢true}
-use Rattle.mach_types.specs.declared.threads.Saved.{Saved}
-use Rattle.mach_types.specs.declared.threads.ThreadState.{ThreadState}
-use Rattle.mach_types.specs.declared.threads.ThreadState.TheVariants.{Ready, Running, Waiting}
-use Rattle.block_model.specs.Record.{Kernel}
-use Rattle.mach_types.specs.Kernel.Threads.{Threads, is_waiting_at, longest_waiter, running_on, state_of, waits}
-use Rattle.block_model.specs.Setting.{Setting}
-use Rattle.block_model.specs.Here.{Here}
-use Rattle.block_model.specs.History.{file_among}
-use Rattle.block_model.specs.Kernel.{woken}
-use Rattle.block_model.specs.Calls.Futexes.{Woken, answered_wait, wake, woken_first}
-use Rattle.block_model.specs.Standing.{IsGoodHere, IsSound}
+use Rattle.block_model.proofs.Common.{Here, IsGoodHere, IsSound, Kernel, Saved, Setting, ThreadState, Threads, Waiting, answered_wait, false≢true, file_among, ne_eqb, option_map_or, running_on, state_of, waits, wake, woken}
+use Rattle.mach_types.specs.Kernel.Threads.{is_waiting_at, longest_waiter}
+use Rattle.block_model.specs.Calls.Futexes.{Woken, woken_first}
 use Rattle.block_model.proofs.KernelTables.{found_passes, waits_elsewhere}
 use Rattle.block_model.proofs.Invariants.Calls.Conditions.{IsApart}
 use Rattle.block_model.proofs.Invariants.Calls.RecordSteps.{IsKept, kept_still, kept_twice, kept_woken}
@@ -20,10 +10,8 @@ use Rattle.block_model.proofs.Invariants.Calls.RecordSteps.{IsKept, kept_still, 
 -- the longest waiter at an address waits
 waits_there : (at : ℕ) (ts : Threads) (t : ℕ) (o : Option ThreadState) → state_of t ts ≡ o
     → is_waiting_at at o ≡ true → waits ts t
-waits_there at ts t None was e = absurd (false≢true e)
-waits_there at ts t (Some Ready) was e = absurd (false≢true e)
-waits_there at ts t (Some (Running h)) was e = absurd (false≢true e)
 waits_there at ts t (Some (Waiting b)) was e = (b, was)
+waits_there at ts t o was e = absurd (false≢true e)
 
 pub longest_waits : (at : ℕ) (ts : Threads) (t : ℕ) → longest_waiter at ts ≡ Some t → waits ts t
 longest_waits at ts t e =

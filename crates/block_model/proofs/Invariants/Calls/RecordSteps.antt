@@ -1,20 +1,11 @@
 -- Steps of the kernel's record that calls are made of: what each keeps.
 use Rattle.std.proofs.Common.{◌≡◌, ◌≢◌, ℕ, ◌+◌, ◌≤◌, ◌<◌, ◌^◌, List, refl, ◌∙◌, arith, Some, length, length-append, sym, ap, subst}
-use Rattle.mach_types.specs.declared.barriers.Registered.{Registered}
-use Rattle.mach_types.specs.declared.kernel_words.TheConstants.{CONSOLE_ROOM}
-use Rattle.block_model.specs.Record.{Kernel}
-use Rattle.mach_types.specs.Kernel.Signals.{Signalling}
-use Rattle.mach_types.specs.Kernel.Threads.{running_on, waits, Threads}
-use Rattle.block_model.specs.Setting.{Setting}
-use Rattle.block_model.specs.Kernel.{cleared, for_barriers, gone, left, printed, restricted, signalled, waited, woken}
-use Rattle.block_model.specs.Standing.{IsSound}
+use Rattle.block_model.proofs.Common.{CONSOLE_ROOM, IsHeld, IsSound, IsTables, Kernel, Scheduling, Setting, Signalling, Threads, cleared, gone, left, printed, restricted, running_on, signalled, waited, waits, woken}
 use Rattle.block_model.proofs.AllowedHarts.{kept_allowed, restricted_allowed, ended_allowed}
-use Rattle.block_model.specs.Tables.{IsHeld, IsTables}
 use Rattle.block_model.proofs.KernelTables.{tables_cleared, cleared_same, tables_left, left_others}
 use Rattle.block_model.proofs.KernelCalls.{tables_allowed, tables_woken, woken_same, tables_waited, waited_others, tables_ended, ended_others}
 use Rattle.block_model.proofs.SignalTables.{KeepsThreads}
-use Rattle.block_model.proofs.ThreadRecords.{held_cleared, held_for_barriers, held_gone, held_left, held_printed, held_restricted, held_signalled, held_waited, held_woken}
-use Rattle.mach_types.specs.Kernel.Scheduling.{Scheduling}
+use Rattle.block_model.proofs.ThreadRecords.{held_beside, held_cleared, held_gone, held_left, held_signalled, held_waited, held_woken}
 
 -- each hart runs the thread that it ran, the pages stay, no number is given, and the record stays sound
 pub record IsKept (s : Setting) (before after : Kernel) : Type 0 where
@@ -89,7 +80,7 @@ kept_printed s bytes k sound room = record {
     allowed = sound.allowed;
     console = omega (arith, length-append k.console bytes);
   };
-  held = held_printed s.limits.harts bytes k;
+  held = held_beside s.limits.harts k _ refl refl refl refl;
 }
 
 pub kept_cleared : (s : Setting) (t at : ℕ) (k : Kernel) → IsSound s k → IsKept s k (cleared t at k)
@@ -123,16 +114,12 @@ kept_restricted s t set k sound below some =
         allowed = restricted_allowed harts t set k.threads k.scheduling sound.tables below some sound.allowed;
         console = sound.console;
       };
-      held = held_restricted s.limits.harts t set k;
+      held = held_beside s.limits.harts k _ refl refl refl refl;
     }
 
 -- actions, masks or pending signals that are of the same threads
 pub kept_signalled : (s : Setting) (g : Signalling) (k : Kernel) → IsSound s k → KeepsThreads k.signals g → IsKept s k (signalled g k)
 kept_signalled s g k sound keeps = kept_tables s k (signalled g k) sound refl refl refl refl (held_signalled s.limits.harts g k keeps)
-
--- what the process is registered for
-pub kept_for_barriers : (s : Setting) (r : Registered) (k : Kernel) → IsSound s k → IsKept s k (for_barriers r k)
-kept_for_barriers s r k sound = kept_tables s k (for_barriers r k) sound refl refl refl refl (held_for_barriers s.limits.harts r k)
 
 -- the thread on hart h leaves it: it is ready, it waits, or it is gone
 pub moved_left : (s : Setting) (h t : ℕ) (k : Kernel) → IsSound s k → running_on h k.threads ≡ Some t

@@ -52,7 +52,7 @@ loop-entry-preserved c =
     let entry = get_or log i no_entry in
     let m = c.make_again.new.machine in
     let k = kept_in c.loop-entry.ledger in
-    subst (λ (kept : Kept). HasMade s (take (i + 1) log) m kept) (sym c.in_ok-note.ensures)
+    subst (λ (kept : Kept). HasMade s (take (i + 1) log) m kept) (sym c.in_ok-_turn.ensures.noted)
     (subst (λ (entries : List Entry). HasMade s entries m (noted c.in-Some.passed k)) (sym (take_more log i no_entry c.loop-entry-test.true))
     (made_more s (take i log) c.loop-entry.machine m k entry c.in-Some.passed c.loop-entry.invariant c.in-Some.ensures.made))
 
@@ -62,4 +62,4 @@ returns-clause-acts c =
     let log = c.args.log.now in
     let whole : take c.loop-entry.entry-index log ≡ log = take_all c.loop-entry.entry-index log (omega arith) in
     are_acts s log c.loop-entry.machine (kept_in c.loop-entry.ledger) c.close.new.ledger.list.items
-    (subst (λ (entries : List Entry). HasMade s entries c.loop-entry.machine (kept_in c.loop-entry.ledger)) whole c.loop-entry.invariant) c.close.ensures
+    (subst (λ (entries : List Entry). HasMade s entries c.loop-entry.machine (kept_in c.loop-entry.ledger)) whole c.loop-entry.invariant) c.close.ensures.acts

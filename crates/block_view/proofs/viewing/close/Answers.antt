@@ -37,8 +37,8 @@ loop-hart-preserved c =
     ∙ ap (closed n c.is_some.result) c.loop-hart.invariant
     ∙ one_closed s all k c.requires.tied n c.is_some.result inside
 
-pub returns : goal.returns
-returns c =
+pub returns-clause-acts : goal.returns-clause-acts
+returns-clause-acts c =
     let s = c.args.machine.now.setting in
     let all = history s c.args.machine.now.log in
     let k = kept_in c.args.ledger.now in

@@ -4,7 +4,7 @@ use Rattle.clap.proofs.WalkLemmas.{first_value-rows}
 use Rattle.clap.specs.Words.{Row, found_of, first_of, rows_of}
 use Rattle.command_words.specs.Kept.{names_kept, stated, value_kept}
 use Rattle.command_words.specs.Line.{arguments_found, names_found}
-use Rattle.command_words.specs.Options.{OptionName, Harts, Frames, Steps, Seed, Policy, Calm, After, RunCount, Until, By, Jobs, long_name}
+use Rattle.command_words.specs.Options.{OptionName, Harts, Frames, Steps, Seed, Policy, Calm, After, RunCount, Until, By, Jobs, From, To, long_name}
 use Rattle.command_words.specs.declared.arguments.Arguments.{Arguments}
 use Rattle.command_words.proofs.arguments.arguments_in.Goals as goal
 
@@ -26,18 +26,22 @@ values_are : (rows : List Row) (kept : Arguments) → option_copied kept.harts �
     → option_copied kept.until ≡ first_of (codes "until") rows
     → option_copied kept.by ≡ first_of (codes "by") rows
     → option_copied kept.jobs ≡ first_of (codes "jobs") rows
+    → option_copied kept.from ≡ first_of (codes "from") rows
+    → option_copied kept.to ≡ first_of (codes "to") rows
     → (option : OptionName) → value_kept kept option ≡ first_of (long_name option) rows
-values_are rows kept harts frames steps seed policy calm after run_count until by jobs Harts = harts
-values_are rows kept harts frames steps seed policy calm after run_count until by jobs Frames = frames
-values_are rows kept harts frames steps seed policy calm after run_count until by jobs Steps = steps
-values_are rows kept harts frames steps seed policy calm after run_count until by jobs Seed = seed
-values_are rows kept harts frames steps seed policy calm after run_count until by jobs Policy = policy
-values_are rows kept harts frames steps seed policy calm after run_count until by jobs Calm = calm
-values_are rows kept harts frames steps seed policy calm after run_count until by jobs After = after
-values_are rows kept harts frames steps seed policy calm after run_count until by jobs RunCount = run_count
-values_are rows kept harts frames steps seed policy calm after run_count until by jobs Until = until
-values_are rows kept harts frames steps seed policy calm after run_count until by jobs By = by
-values_are rows kept harts frames steps seed policy calm after run_count until by jobs Jobs = jobs
+values_are rows kept harts frames steps seed policy calm after run_count until by jobs from to Harts = harts
+values_are rows kept harts frames steps seed policy calm after run_count until by jobs from to Frames = frames
+values_are rows kept harts frames steps seed policy calm after run_count until by jobs from to Steps = steps
+values_are rows kept harts frames steps seed policy calm after run_count until by jobs from to Seed = seed
+values_are rows kept harts frames steps seed policy calm after run_count until by jobs from to Policy = policy
+values_are rows kept harts frames steps seed policy calm after run_count until by jobs from to Calm = calm
+values_are rows kept harts frames steps seed policy calm after run_count until by jobs from to After = after
+values_are rows kept harts frames steps seed policy calm after run_count until by jobs from to RunCount = run_count
+values_are rows kept harts frames steps seed policy calm after run_count until by jobs from to Until = until
+values_are rows kept harts frames steps seed policy calm after run_count until by jobs from to By = by
+values_are rows kept harts frames steps seed policy calm after run_count until by jobs from to Jobs = jobs
+values_are rows kept harts frames steps seed policy calm after run_count until by jobs from to From = from
+values_are rows kept harts frames steps seed policy calm after run_count until by jobs from to To = to
 
 pub returns : goal.returns
 returns c =
@@ -56,6 +60,8 @@ returns c =
       until = c.get_str-12.result;
       by = c.get_str-13.result;
       jobs = c.get_str-14.result;
+      from = c.get_str-15.result;
+      to = c.get_str-16.result;
     } in
     let one = c.get_str.ensures ∙ at (codes "first") in
     let two = c.get_str-2.ensures ∙ at (codes "second") in
@@ -72,4 +78,6 @@ returns c =
     (c.get_str-11.ensures ∙ at (codes "runs"))
     (c.get_str-12.ensures ∙ at (codes "until"))
     (c.get_str-13.ensures ∙ at (codes "by"))
-    (c.get_str-14.ensures ∙ at (codes "jobs")))
+    (c.get_str-14.ensures ∙ at (codes "jobs"))
+    (c.get_str-15.ensures ∙ at (codes "from"))
+    (c.get_str-16.ensures ∙ at (codes "to")))

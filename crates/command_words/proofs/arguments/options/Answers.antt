@@ -17,6 +17,8 @@ returns c =
     let eight = c.in_ok-arg-8.ensures.shape c.option-8.ensures.own ∙ ap₂ with_rule seven c.option-8.ensures.rule in
     let nine = c.in_ok-arg-9.ensures.shape c.option-9.ensures.own ∙ ap₂ with_rule eight c.option-9.ensures.rule in
     let ten = c.in_ok-arg-10.ensures.shape c.option-10.ensures.own ∙ ap₂ with_rule nine c.option-10.ensures.rule in
-    IfOk-weaker c.arg-11.result _ _ (λ parser added. added.shape c.option-11.ensures.own
-    ∙ ap₂ with_rule ten c.option-11.ensures.rule)
-    c.arg-11.ensures
+    let eleven = c.in_ok-arg-11.ensures.shape c.option-11.ensures.own ∙ ap₂ with_rule ten c.option-11.ensures.rule in
+    let twelve = c.in_ok-arg-12.ensures.shape c.option-12.ensures.own ∙ ap₂ with_rule eleven c.option-12.ensures.rule in
+    IfOk-weaker c.arg-13.result _ _ (λ parser added. added.shape c.option-13.ensures.own
+    ∙ ap₂ with_rule twelve c.option-13.ensures.rule)
+    c.arg-13.ensures

@@ -1,8 +1,10 @@
 use Rattle.std.proofs.Common.{◌+◌, ◌<◌, ◌++◌, ◌∙◌, List, ap, arith, length, subst, sym}
 use Rattle.mach_types.specs.declared.events.Entry.{Entry}
 use Rattle.block_model.specs.Setting.{Seen}
+use Rattle.event_facts.specs.Telling.{past_of}
 use Rattle.event_facts.specs.declared.facts.Fact.{Fact}
 use Rattle.event_facts.proofs.Due.{due, few_lines, line_is}
+use Rattle.event_facts.proofs.LinesOfBytes.{is_latest}
 use Rattle.event_facts.proofs.Lists.{two_pieces}
 use Rattle.event_facts.proofs.ToldFacts.{all_facts, lines_after}
 use Rattle.event_facts.proofs.telling.tell.Goals as goal
@@ -37,6 +39,12 @@ push_changed-requires c =
 pub note-requires-clause-hart : goal.note-requires-clause-hart
 note-requires-clause-hart c =
     subst (λ n. c.args.entry.hart.0 < n) (sym c.requires.lines.harts) (due c.args.machine.now c.args.entry c.requires.run c.requires.decided).lt
+
+pub note-requires-clause-lines : goal.note-requires-clause-lines
+note-requires-clause-lines c =
+    let m = c.args.machine.now in
+    let line = ap (λ (l : List Entry). length l + 1) c.log.ensures ∙ line_is m in
+    is_latest m.setting m.setting.limits.harts (past_of m) c.args.lines.now _ c.requires.lines line
 
 pub returns-clause-facts : goal.returns-clause-facts
 returns-clause-facts c =

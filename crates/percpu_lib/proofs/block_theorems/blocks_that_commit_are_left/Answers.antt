@@ -1,22 +1,9 @@
-use Rattle.std.proofs.Common.{[], ◌∷◌, subst}
-use Rattle.block_model.specs.Deciding.{event, history}
-use Rattle.block_model.specs.History.{Event, History}
-use Rattle.block_model.proofs.Laws.{history-append, run_before}
-use Rattle.percpu_lib.specs.Forms.{HoldsBlock}
-use Rattle.percpu_lib.specs.Kinds.{form_of}
 use Rattle.percpu_lib.proofs.KindLaws.{course_of_kind}
-use Rattle.percpu_lib.proofs.UsesLaw.{ends_before, left_at_end}
+use Rattle.percpu_lib.proofs.RunLaws.{left_last, left_next}
 use Rattle.percpu_lib.proofs.block_theorems.blocks_that_commit_are_left.Goals as goal
 
 pub returns : goal.returns
 returns c = record {
-  followed = λ k s log entry p at area h q run held own is inside.
-      let before = history s log in
-      let e : Event = event s before entry in
-      let earlier = run_before s log (entry ∷ []) run in
-      let there = subst (λ (x : History). HoldsBlock s x (form_of k p) at area q.thread) (history-append s log entry) held in
-      ends_before s e before (form_of k p) at area (course_of_kind k p) h q earlier.allowed earlier.whole there is inside;
-  last = λ k s log p at area h q run held is inside stands.
-      left_at_end s (history s log) (form_of k p) at area (course_of_kind k p) h q run.allowed run.whole held is inside
-      stands;
+  followed = λ k s log entry p. left_next (course_of_kind k p) s log entry;
+  last = λ k s log p. left_last (course_of_kind k p) s log;
 }

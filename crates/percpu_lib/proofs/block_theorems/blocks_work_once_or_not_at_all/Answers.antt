@@ -1,13 +1,9 @@
-use Rattle.block_model.specs.Deciding.{history}
-use Rattle.percpu_lib.specs.Kinds.{form_of}
 use Rattle.percpu_lib.proofs.KindLaws.{course_of_kind}
-use Rattle.percpu_lib.proofs.UsesLaw.{once}
+use Rattle.percpu_lib.proofs.RunLaws.{partial_in, whole_in}
 use Rattle.percpu_lib.proofs.block_theorems.blocks_work_once_or_not_at_all.Goals as goal
 
 pub returns : goal.returns
 returns c = record {
-  whole = λ k s log p at area h q run held is inside.
-      (once s (history s log) (form_of k p) at area (course_of_kind k p) h q run.allowed run.whole held is inside).0;
-  not_whole = λ k s log p at area h q run held is inside.
-      (once s (history s log) (form_of k p) at area (course_of_kind k p) h q run.allowed run.whole held is inside).1;
+  whole = λ k s log p. whole_in (course_of_kind k p) s log;
+  not_whole = λ k s log p. partial_in (course_of_kind k p) s log;
 }

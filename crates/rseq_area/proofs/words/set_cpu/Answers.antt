@@ -6,7 +6,7 @@ pub put_word-requires-4 : goal.put_word-requires-4
 put_word-requires-4 g c =
     mm_cid_writable (g.M.UserMem.can_write c.args.mem.now) (g.M.UserMem.can_write c.put_word-3.new.mem) c.args.area.now
     (λ a. c.put_word-3.ensures.permissions a ∙ c.put_word-2.ensures.permissions a ∙ c.put_word.ensures.permissions a)
-    c.if-not-can_write_words.ensures.answer
+    c.if-not-can_set_cpu.ensures.answer
 
 pub returns-clause-alike : goal.returns-clause-alike
 returns-clause-alike g c =

@@ -1,8 +1,7 @@
 -- A hart whose stores have entered memory holds nothing.
-use Rattle.std.proofs.Common.{List, Some, None, set, refl, sym, ap, ◌∙◌}
 use Rattle.std.specs.Vec.{with_item}
 use Rattle.std.proofs.lemmas.Option.{slice_get-get_or}
-use Rattle.shared_procs.proofs.Common.{Store}
+use Rattle.shared_procs.proofs.Common.{List, Some, None, set, refl, sym, ap, ◌∙◌, Store}
 use Rattle.shared_procs.proofs.PairClosings.{emptied_next, may_still}
 use Rattle.shared_procs.proofs.ending.empty.Goals as goal
 

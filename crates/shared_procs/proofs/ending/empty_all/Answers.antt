@@ -1,6 +1,5 @@
 -- One hart more holds nothing.
-use Rattle.std.proofs.Common.{◌≡◌, ◌+◌, suc, length, arith, sym, ◌∙◌, subst}
-use Rattle.shared_procs.proofs.Common.{AreEmptied}
+use Rattle.shared_procs.proofs.Common.{◌≡◌, ◌+◌, suc, length, arith, sym, ◌∙◌, subst, AreEmptied}
 use Rattle.shared_procs.proofs.ending.empty_all.Goals as goal
 
 pub loop-hart-preserved : goal.loop-hart-preserved

@@ -1,6 +1,5 @@
 -- So far the harts before this one hold nothing.
-use Rattle.std.proofs.Common.{◌≡◌, ℕ, Bool, length}
-use Rattle.shared_procs.proofs.Common.{AreEmptied, MayEmpty, PairSetting, Plain}
+use Rattle.shared_procs.proofs.Common.{◌≡◌, ℕ, Bool, length, AreEmptied, MayEmpty, PairSetting, Plain}
 use Rattle.shared_procs.proofs.ending.empty_all.Given as goal
 
 abbrev pub invariant-loop-hart : goal.invariant-loop-hart

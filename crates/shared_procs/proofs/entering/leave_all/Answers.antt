@@ -1,6 +1,5 @@
 -- One store after the other enters memory.
-use Rattle.std.proofs.Common.{◌≡◌, ◌<◌, None, Some, List, drop, length, slice_get, sym, ap, ◌∙◌, subst}
-use Rattle.shared_procs.proofs.Common.{AreEntering, Store}
+use Rattle.shared_procs.proofs.Common.{◌≡◌, ◌<◌, None, Some, List, drop, length, slice_get, sym, ap, ◌∙◌, subst, AreEntering, Store}
 use Rattle.shared_procs.proofs.Entered.{entering_end, entering_more, entering_start, fewer_left, none_left, oldest_may}
 use Rattle.shared_procs.proofs.entering.leave_all.Goals as goal
 

@@ -1,6 +1,5 @@
 -- Some of the stores have entered memory.
-use Rattle.std.proofs.Common.{length}
-use Rattle.shared_procs.proofs.Common.{AreEntering}
+use Rattle.shared_procs.proofs.Common.{length, AreEntering}
 use Rattle.shared_procs.proofs.entering.leave_all.Given as goal
 
 abbrev pub invariant-stores : goal.invariant-stores

@@ -1,6 +1,5 @@
 -- A store that lies in the segment is shown, and another one isn't.
-use Rattle.std.proofs.Common.{Bool, [], ◌∷◌, cond, sym, ◌∙◌, subst}
-use Rattle.shared_procs.proofs.Common.{aside, IsTied, Stored}
+use Rattle.shared_procs.proofs.Common.{Bool, [], ◌∷◌, cond, sym, ◌∙◌, subst, aside, IsTied, Stored}
 use Rattle.shared_procs.proofs.entering.show.Goals as goal
 
 pub returns-then-is_in_segment : goal.returns-then-is_in_segment

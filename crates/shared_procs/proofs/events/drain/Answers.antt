@@ -1,8 +1,7 @@
 -- The oldest store enters memory.
-use Rattle.std.proofs.Common.{arith, ◌≡◌, ◌+◌, not, List, [], ◌∷◌, set, eqb, slice_get, option_map, refl, sym, ap, ◌∙◌, subst}
 use Rattle.mach_types.specs.declared.events.Choice.TheVariants as asked
 use Rattle.process.proofs.PairLaws.{drain_own, goes_on, oldest}
-use Rattle.shared_procs.proofs.Common.{all_stored, AreStorable, aside, counted, done_drain_of, eighth, filter, half, hart_is, HartState, HaveEntered, here_two, in_list, is_shared, IsTied, lost_unless, quietly, setting, stand, Store, stores, was_not_stuck}
+use Rattle.shared_procs.proofs.Common.{arith, ◌≡◌, ◌+◌, not, List, [], ◌∷◌, set, eqb, slice_get, option_map, refl, sym, ap, ◌∙◌, subst, all_stored, AreStorable, aside, counted, done_drain_of, eighth, filter, half, hart_is, HartState, HaveEntered, here_two, in_list, is_shared, IsTied, lost_unless, quietly, setting, stand, Store, stores, was_not_stuck}
 use Rattle.shared_procs.proofs.Entered.{oldest_may, readable_kept}
 use Rattle.shared_procs.proofs.PairEvents.{made_as}
 use Rattle.shared_procs.proofs.PairMemory.{waiting_may}

@@ -1,6 +1,5 @@
 -- The next instruction is the one that was read.
-use Rattle.std.proofs.Common.{ℕ, List, sym, subst}
-use Rattle.shared_procs.proofs.Common.{Half, HasNext, IsPerformedAt}
+use Rattle.shared_procs.proofs.Common.{ℕ, List, sym, subst, Half, HasNext, IsPerformedAt}
 use Rattle.shared_procs.proofs.PairInstructions.{step_of}
 use Rattle.shared_procs.proofs.events.execute.Goals as goal
 

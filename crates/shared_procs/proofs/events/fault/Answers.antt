@@ -1,7 +1,5 @@
 -- A fault is seen by nobody but its thread.
-use Rattle.std.proofs.Common.{List, not, sym, ap}
-use Rattle.mach_types.specs.declared.events.Choice.TheVariants as asked
-use Rattle.shared_procs.proofs.Common.{done_of, eighth, filter, half, here_two, is_shared, setting, stand, Write}
+use Rattle.shared_procs.proofs.Common.{List, not, sym, ap, done_of, eighth, filter, half, here_two, is_shared, setting, stand, Write, Exec}
 use Rattle.shared_procs.proofs.PairEvents.{unshared}
 use Rattle.shared_procs.proofs.PairInstructions.{fault_planned, fault_quiet}
 use Rattle.shared_procs.proofs.events.fault.Goals as goal
@@ -26,7 +24,7 @@ pub returns : goal.returns
 returns c effect s m p step =
     let h = c.args.hart.0 in
     let quiet = fault_quiet (here_two s m p h) step.thread c.args.signal step.at (sym step.fault) in
-    unshared s m p h (done_of asked.Exec (here_two s m p h)) c.args.mine.now c.fault.new.self c.unseen.new.other
+    unshared s m p h (done_of Exec (here_two s m p h)) c.args.mine.now c.fault.new.self c.unseen.new.other
     (c.fault.ensures effect (stand s m p) step.place (fault_planned s m p h effect c.args.signal c.args.mine.now c.args.other.now step))
     (ap (λ (ws : List Write). filter is_shared ws) quiet.none_written)
-    (c.unseen.ensures (setting s (not p)) (half (not p) m) (done_of asked.Exec (here_two s m p h)) step.beside quiet.untaken quiet.none_begun)
+    (c.unseen.ensures (setting s (not p)) (half (not p) m) (done_of Exec (here_two s m p h)) step.beside quiet.untaken quiet.none_begun)

@@ -1,5 +1,4 @@
-use Rattle.std.proofs.Common.{refl}
-use Rattle.shared_procs.proofs.Common.{done_of, here_two}
+use Rattle.shared_procs.proofs.Common.{refl, done_of, here_two}
 use Rattle.shared_procs.proofs.PairEvents.{made_unshared}
 use Rattle.shared_procs.proofs.events.made.Goals as goal
 

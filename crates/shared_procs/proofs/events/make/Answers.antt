@@ -1,6 +1,5 @@
 -- The event, its count, and what waits where it ends the process.
-use Rattle.std.proofs.Common.{ap}
-use Rattle.shared_procs.proofs.Common.{AreMade, done_of, Half, here_two, IsCounted}
+use Rattle.shared_procs.proofs.Common.{ap, AreMade, done_of, Half, here_two, IsCounted}
 use Rattle.shared_procs.proofs.PairClosings.{after_any, few_then, may_then}
 use Rattle.shared_procs.proofs.events.make.Goals as goal
 use Rattle.shared_procs.proofs.events.make.Goals.{After-made, After-count}

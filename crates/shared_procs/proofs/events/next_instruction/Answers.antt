@@ -1,7 +1,6 @@
 -- The next instruction, over the pages and the segment.
-use Rattle.std.proofs.Common.{arith}
 use Rattle.process.proofs.Laws.{next_at}
-use Rattle.shared_procs.proofs.Common.{credit_of, half, hart_tied, here_two, in_list, reached_in, setting, stand, storable_in}
+use Rattle.shared_procs.proofs.Common.{arith, credit_of, half, hart_tied, here_two, in_list, reached_in, setting, stand, storable_in}
 use Rattle.shared_procs.proofs.PairMemory.{reached_is, storable_is}
 use Rattle.shared_procs.proofs.events.next_instruction.Goals as goal
 

@@ -1,7 +1,6 @@
 -- A fault, a call, or another instruction.
-use Rattle.std.proofs.Common.{rules, ◌≡◌, Some, subst}
 use Rattle.rv_inst.specs.declared.effects.Effect.TheVariants as effect
-use Rattle.shared_procs.proofs.Common.{call_next, HasNext, Next, plain_next}
+use Rattle.shared_procs.proofs.Common.{rules, ◌≡◌, Some, subst, call_next, HasNext, Next, plain_next}
 use Rattle.shared_procs.proofs.PairInstructions.{none_there, performed_as, step_as, step_there}
 use Rattle.shared_procs.proofs.events.perform.Goals as goal
 

@@ -1,10 +1,8 @@
 -- An instruction over the pages and the segment.
-use Rattle.std.proofs.Common.{◌≡◌, ◌+◌, not, List, set, eqb, slice_get, option_map, arith, refl, sym, ap, ◌∙◌, subst}
-use Rattle.mach_types.specs.declared.events.Choice.TheVariants as asked
 use Rattle.hart_state.specs.State.{hart_after}
 use Rattle.process.proofs.Laws.{plain_own, runs_there, saved_plain}
 use Rattle.process.proofs.PairLaws.{no_call, ran_fits}
-use Rattle.shared_procs.proofs.Common.{all_stored, aside, by_outcome, counted, eighth, filter, half, HartState, HaveEntered, here_two, in_list, is_shared, IsTied, lost_unless, Outcome, quietly, setting, stand, Store, stores}
+use Rattle.shared_procs.proofs.Common.{◌≡◌, ◌+◌, not, List, set, eqb, slice_get, option_map, arith, refl, sym, ap, ◌∙◌, subst, all_stored, aside, by_outcome, counted, eighth, filter, half, HartState, HaveEntered, here_two, in_list, is_shared, IsTied, lost_unless, Outcome, quietly, setting, stand, Store, stores, Exec}
 use Rattle.shared_procs.proofs.Entered.{readable_kept}
 use Rattle.shared_procs.proofs.PairEvents.{made_as}
 use Rattle.shared_procs.proofs.PairInstructions.{performing}
@@ -63,7 +61,7 @@ returns c s m p acting step =
     let entered : HaveEntered is.outcome.entered mine.parts.pages segment c.enter.new.pages c.enter.new.segment =
     subst (λ (ws : List Store). HaveEntered ws mine.parts.pages segment c.enter.new.pages c.enter.new.segment) made c.enter.ensures in
     let y : HartState = record c.execute-made.new.self { ran = c.execute-made.new.self.ran + 1 } in
-    made_as s m p h asked.Exec d mine other _ _ _ y place step.free is.done
+    made_as s m p h Exec d mine other _ _ _ y place step.free is.done
     (record {
       own =
           plain_own _ v.setting q h t is.outcome x (counted y) is.own step.at

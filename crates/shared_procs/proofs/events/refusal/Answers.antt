@@ -1,6 +1,5 @@
 -- The first condition of a choice of a process that fails.
-use Rattle.std.proofs.Common.{sym, ap, ◌∙◌, subst}
-use Rattle.shared_procs.proofs.Common.{Choice, Half, half, here_two, in_list, IsTied, neighbour, refusal_of, setting, stand}
+use Rattle.shared_procs.proofs.Common.{sym, ap, ◌∙◌, subst, Choice, Half, half, here_two, in_list, IsTied, neighbour, refusal_of, setting, stand}
 use Rattle.shared_procs.proofs.PairMemory.{segment_pages}
 use Rattle.shared_procs.proofs.events.refusal.Goals as goal
 

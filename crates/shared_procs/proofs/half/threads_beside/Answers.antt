@@ -1,5 +1,4 @@
-use Rattle.std.proofs.Common.{cond, sym, ap, ◌∙◌}
-use Rattle.shared_procs.proofs.Common.{running_harts}
+use Rattle.shared_procs.proofs.Common.{cond, sym, ap, ◌∙◌, running_harts}
 use Rattle.shared_procs.proofs.half.threads_beside.Goals as goal
 
 pub returns-then-goes_on : goal.returns-then-goes_on

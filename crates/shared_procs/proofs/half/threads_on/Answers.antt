@@ -1,8 +1,7 @@
-use Rattle.std.proofs.Common.{List, ap, ◌∙◌}
 use Rattle.mach_types.specs.Kernel.Barriers.{harts_that}
 use Rattle.process.specs.Barriers.{is_busy}
 use Rattle.process.proofs.PairLaws.{running_tied}
-use Rattle.shared_procs.proofs.Common.{HartState}
+use Rattle.shared_procs.proofs.Common.{List, ap, ◌∙◌, HartState}
 use Rattle.shared_procs.proofs.half.threads_on.Goals as goal
 
 pub returns : goal.returns

@@ -1,8 +1,6 @@
 -- What is answered is the entry, or the first condition that fails; and the event is the one that is due.
-use Rattle.std.proofs.Common.{◌≡◌, ℕ, List, Option, None, Ok, sym, ap, ◌∙◌, subst}
 use Rattle.process.specs.Refinement.{MayMake, answered}
-use Rattle.shared_procs.specs.PairPlaces.{MayAct}
-use Rattle.shared_procs.proofs.Common.{entry_as, Half, IsActing, IsPlace, refusal_as, stand, Why}
+use Rattle.shared_procs.proofs.Common.{◌≡◌, ℕ, List, Option, None, Ok, sym, ap, ◌∙◌, subst, entry_as, Half, IsActing, IsPlace, refusal_as, stand, Why, MayAct}
 use Rattle.shared_procs.proofs.Refusals.{free_as}
 use Rattle.shared_procs.proofs.pair.attempt.Goals as goal
 

@@ -1,6 +1,5 @@
 -- The entry, by the number of the thread in logs.
-use Rattle.std.proofs.Common.{◌≡◌, ◌+◌, arith, sym, ap, ◌∙◌}
-use Rattle.shared_procs.proofs.Common.{Entry, here_at, number_of, stand, thread_in}
+use Rattle.shared_procs.proofs.Common.{◌≡◌, ◌+◌, arith, sym, ap, ◌∙◌, Entry, here_at, number_of, stand, thread_in}
 use Rattle.shared_procs.proofs.PairEntries.{entry_first, entry_none, entry_second, named_small}
 use Rattle.shared_procs.proofs.pair.entry_of.Goals as goal
 

@@ -1,7 +1,6 @@
 -- A thread begins to run where no thread of the other process does, and where its own process goes on.
-use Rattle.std.proofs.Common.{◌≡◌, not, true, false, refl, sym, ap, ◌∙◌}
 use Rattle.mach_types.specs.declared.events.Choice.TheVariants as asked
-use Rattle.shared_procs.proofs.Common.{Choice, goes_on, half, here_two, refusal_as, refusal_of, setting}
+use Rattle.shared_procs.proofs.Common.{◌≡◌, not, true, false, refl, sym, ap, ◌∙◌, Choice, goes_on, half, here_two, refusal_as, refusal_of, setting}
 use Rattle.shared_procs.proofs.Refusals.{begins_with, else_as}
 use Rattle.shared_procs.proofs.pair.refusal_beside.Goals as goal
 use Rattle.shared_procs.proofs.pair.refusal_beside.Goals.{in-Run+else-runs_on+else-not-goes_on, in_default}

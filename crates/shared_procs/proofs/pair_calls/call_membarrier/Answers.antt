@@ -1,7 +1,5 @@
 -- membarrier(2) as the definitions answer it beside another process.
-use Rattle.std.proofs.Common.{not, sym, ap, ◌∙◌}
-use Rattle.mach_types.specs.declared.events.Choice.TheVariants as asked
-use Rattle.shared_procs.proofs.Common.{answers, Done, done_of, eighth, half, here_two, setting, stand}
+use Rattle.shared_procs.proofs.Common.{not, sym, ap, ◌∙◌, answers, Done, done_of, eighth, half, here_two, setting, stand, Exec}
 use Rattle.shared_procs.proofs.PairCalls.{barrier_called, barrier_hidden}
 use Rattle.shared_procs.proofs.PairEvents.{unshared}
 use Rattle.shared_procs.proofs.pair_calls.call_membarrier.Goals as goal
@@ -18,9 +16,10 @@ finish_call-requires c =
       before = c.args.mine.now;
       done = answers (here_two s m p c.args.hart.0) has.step.thread c.command_two-outcome.result;
       called =
-          barrier_called s m p c.args.hart c.args.mine.now c.args.other.now has.step c.index.result.now c.saved_of-saved.result c.signed_argument-cmd.result
-          c.signed_argument-cpu.result c.int_argument-flags.result c.threads_on-running.result c.threads_beside-beside.result c.len-harts.result c.index.ensures
-          c.saved_of-saved.ensures c.signed_argument-cmd.ensures c.int_argument-flags.ensures c.signed_argument-cpu.ensures
+          barrier_called s m p c.args.hart c.args.mine.now c.args.other.now has.step c.saved_of-saved.result c.signed_argument-cmd.result
+          c.signed_argument-cpu.result c.int_argument-flags.result c.threads_on-running.result c.threads_beside-beside.result c.len-harts.result
+          (c.saved_of-saved.ensures (stand s m p) has.step.thread has.step.place has.step.at) c.signed_argument-cmd.ensures
+          c.int_argument-flags.ensures c.signed_argument-cpu.ensures
           (c.threads_on-running.ensures (setting s p) (half p m) has.step.place.tied few)
           (c.threads_beside-beside.ensures (setting s (not p)) (half (not p) m) has.step.beside few)
           (c.len-harts.ensures ∙ c.args.mine.now.harts.ok.0 ∙ has.step.place.tied.all_harts) c.requires.number c.command_two-outcome.result c.command_two-outcome.new.mine
@@ -39,11 +38,12 @@ returns c s m p step =
     let few = step.place.limits.eight_harts in
     let h = c.args.hart.0 in
     let a = c.command_two-outcome.result in
-    let d = done_of asked.Exec (here_two s m p h) in
+    let d = done_of Exec (here_two s m p h) in
     let called =
-    barrier_called s m p c.args.hart c.args.mine.now c.args.other.now step c.index.result.now c.saved_of-saved.result c.signed_argument-cmd.result
-    c.signed_argument-cpu.result c.int_argument-flags.result c.threads_on-running.result c.threads_beside-beside.result c.len-harts.result c.index.ensures
-    c.saved_of-saved.ensures c.signed_argument-cmd.ensures c.int_argument-flags.ensures c.signed_argument-cpu.ensures
+    barrier_called s m p c.args.hart c.args.mine.now c.args.other.now step c.saved_of-saved.result c.signed_argument-cmd.result
+    c.signed_argument-cpu.result c.int_argument-flags.result c.threads_on-running.result c.threads_beside-beside.result c.len-harts.result
+    (c.saved_of-saved.ensures (stand s m p) step.thread step.place step.at) c.signed_argument-cmd.ensures c.int_argument-flags.ensures
+    c.signed_argument-cpu.ensures
     (c.threads_on-running.ensures (setting s p) (half p m) step.place.tied few)
     (c.threads_beside-beside.ensures (setting s (not p)) (half (not p) m) step.beside few)
     (c.len-harts.ensures ∙ c.args.mine.now.harts.ok.0 ∙ step.place.tied.all_harts) c.requires.number a c.command_two-outcome.new.mine c.end_command-end.new.saved

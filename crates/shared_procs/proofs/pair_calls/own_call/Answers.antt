@@ -1,7 +1,5 @@
 -- A call that the process makes as where it is alone.
-use Rattle.std.proofs.Common.{not}
-use Rattle.mach_types.specs.declared.events.Choice.TheVariants as asked
-use Rattle.shared_procs.proofs.Common.{done_of, eighth, half, here_two, setting, stand}
+use Rattle.shared_procs.proofs.Common.{not, done_of, eighth, half, here_two, setting, stand, Exec}
 use Rattle.shared_procs.proofs.EventFacts.{does_so}
 use Rattle.shared_procs.proofs.PairCalls.{call_planned, own_begins_none, own_hidden}
 use Rattle.shared_procs.proofs.PairEvents.{unshared}
@@ -29,8 +27,8 @@ returns c s m p step =
     let mine = c.args.mine.now in
     let v = stand s m p in
     let own = c.requires.own v step.thread step.place step.at in
-    unshared s m p h (done_of asked.Exec (here_two s m p h)) mine c.call.new.self c.unseen.new.other
+    unshared s m p h (done_of Exec (here_two s m p h)) mine c.call.new.self c.unseen.new.other
     (c.call.ensures v step.place (call_planned s m p c.args.hart mine c.args.other.now step own))
     (own_hidden s m p c.args.hart mine c.args.other.now step c.keeps.ensures.gap)
-    (c.unseen.ensures (setting s (not p)) (half (not p) m) (done_of asked.Exec (here_two s m p h)) step.beside
-    (does_so (here_two s m p h) asked.Exec).took_is (own_begins_none s m p c.args.hart mine c.args.other.now step own))
+    (c.unseen.ensures (setting s (not p)) (half (not p) m) (done_of Exec (here_two s m p h)) step.beside
+    (does_so (here_two s m p h) Exec).took_is (own_begins_none s m p c.args.hart mine c.args.other.now step own))

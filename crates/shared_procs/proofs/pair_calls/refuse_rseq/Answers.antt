@@ -1,7 +1,5 @@
 -- rseq(2) is refused.
-use Rattle.std.proofs.Common.{not, ap}
-use Rattle.mach_types.specs.declared.events.Choice.TheVariants as asked
-use Rattle.shared_procs.proofs.Common.{Done, done_of, eighth, ENOSYS, filter, half, here_two, is_shared, refused, setting, stand}
+use Rattle.shared_procs.proofs.Common.{not, ap, Done, done_of, eighth, ENOSYS, filter, half, here_two, is_shared, refused, setting, stand, Exec}
 use Rattle.shared_procs.proofs.PairCalls.{rseq_called}
 use Rattle.shared_procs.proofs.PairEvents.{unshared}
 use Rattle.shared_procs.proofs.pair_calls.refuse_rseq.Goals as goal
@@ -14,9 +12,10 @@ finish_call-requires c =
       before = c.args.mine.now;
       done = refused (here_two has.setting has.pair has.process c.args.hart.0) has.step.thread ENOSYS;
       called =
-          rseq_called has.setting has.pair has.process c.args.hart c.args.mine.now c.args.other.now has.step c.requires.number c.index.result.now c.saved_of-saved.result
-          c.go_on-end.new.saved c.go_on-end.result c.index.ensures c.saved_of-saved.ensures c.go_on-end.ensures.saved c.go_on-end.ensures.stays c.go_on-end.ensures.runs_on
-          c.go_on-end.ensures.waits_in_none c.go_on-end.ensures.ends c.go_on-end.ensures.answer;
+          rseq_called has.setting has.pair has.process c.args.hart c.args.mine.now c.args.other.now has.step c.requires.number c.saved_of-saved.result
+          c.go_on-end.new.saved c.go_on-end.result
+          (c.saved_of-saved.ensures (stand has.setting has.pair has.process) has.step.thread has.step.place has.step.at) c.go_on-end.ensures.saved
+          c.go_on-end.ensures.stays c.go_on-end.ensures.runs_on c.go_on-end.ensures.waits_in_none c.go_on-end.ensures.ends c.go_on-end.ensures.answer;
     }
 
 pub unseen-requires : goal.unseen-requires
@@ -27,11 +26,11 @@ unseen-requires c =
 pub returns : goal.returns
 returns c s m p step =
     let h = c.args.hart.0 in
-    let d = done_of asked.Exec (here_two s m p h) in
+    let d = done_of Exec (here_two s m p h) in
     let called =
-    rseq_called s m p c.args.hart c.args.mine.now c.args.other.now step c.requires.number c.index.result.now c.saved_of-saved.result c.go_on-end.new.saved
-    c.go_on-end.result c.index.ensures c.saved_of-saved.ensures c.go_on-end.ensures.saved c.go_on-end.ensures.stays c.go_on-end.ensures.runs_on
-    c.go_on-end.ensures.waits_in_none c.go_on-end.ensures.ends c.go_on-end.ensures.answer in
+    rseq_called s m p c.args.hart c.args.mine.now c.args.other.now step c.requires.number c.saved_of-saved.result c.go_on-end.new.saved c.go_on-end.result
+    (c.saved_of-saved.ensures (stand s m p) step.thread step.place step.at) c.go_on-end.ensures.saved c.go_on-end.ensures.stays
+    c.go_on-end.ensures.runs_on c.go_on-end.ensures.waits_in_none c.go_on-end.ensures.ends c.go_on-end.ensures.answer in
     unshared s m p h d c.args.mine.now c.finish_call.new.self c.unseen.new.other
     (c.finish_call.ensures (stand s m p) c.args.mine.now (refused (here_two s m p h) step.thread ENOSYS) called)
     (ap (λ (e : Done). filter is_shared e.entered) called.done)

@@ -1,8 +1,6 @@
-use Rattle.std.proofs.Common.{sym, ap, ◌∙◌}
-use Rattle.shared_procs.proofs.Common.{after_write, held_in}
-use Rattle.shared_procs.proofs.PairWrites.{entered_inside, entered_outside}
+use Rattle.shared_procs.proofs.Common.{sym, ap, ◌∙◌, after_write, held_in}
+use Rattle.shared_procs.proofs.Windows.{entered_inside, entered_outside, writable_inside, writable_outside, written_inside, written_outside}
 use Rattle.shared_procs.proofs.Segments.{outside}
-use Rattle.shared_procs.proofs.Windows.{writable_inside, writable_outside, written_inside, written_outside}
 use Rattle.shared_procs.proofs.window.set_in.Goals as goal
 
 pub returns-else-is_within-clause-answer : goal.returns-else-is_within-clause-answer

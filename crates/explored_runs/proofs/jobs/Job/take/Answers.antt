@@ -1,4 +1,4 @@
-use Rattle.std.proofs.Common.{◌≡◌, ◌==◌, ◌∙◌, Some, ap, List, Bool, true, position, sym, slice_index_or}
+use Rattle.std.proofs.Common.{◌≡◌, ◌==◌, ◌∙◌, Some, ap, Bool, true, position, sym, slice_index_or}
 use Rattle.std.proofs.lemmas.Bool.{eqb-true}
 use Rattle.std.proofs.lemmas.List.Quantifiers.{position-Some}
 use Rattle.explored_runs.specs.declared.jobs.Batch.{Batch}

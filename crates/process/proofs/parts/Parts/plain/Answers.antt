@@ -9,14 +9,14 @@ use Rattle.process.proofs.Events.{quietly}
 use Rattle.process.proofs.HartEvents.{plain_own}
 use Rattle.process.proofs.SavedFiles.{saved_plain}
 use Rattle.process.proofs.Memory.{pages_written, readable_written}
-use Rattle.process.proofs.PlainInstructions.{may_perform, performing}
+use Rattle.process.proofs.PlainInstructions.{performing}
 use Rattle.process.proofs.Places.{ran_fits, runs_there}
 use Rattle.process.proofs.parts.Parts.plain.Goals as goal
 
 pub execute-made-requires-clause-no_fault : goal.execute-made-requires-clause-no_fault
 execute-made-requires-clause-no_fault c =
     let plan = c.requires.plan in
-    (may_perform plan.stand c.args.self.now c.args.hart.0 c.index_mut-state.result.now c.args.effect.now plan.place plan.plan c.requires.no_call c.index_mut-state.ensures.value).no_fault
+    (performing plan.stand c.args.self.now c.args.hart.0 c.index_mut-state.result.now c.args.effect.now plan.place plan.plan c.requires.no_call c.index_mut-state.ensures.value).no_fault
 
 pub overflow_add-state : goal.overflow_add-state
 overflow_add-state c =

@@ -1,6 +1,5 @@
-use Rattle.std.proofs.Common.{◌∙◌, List, ap}
 use Rattle.elf_load.specs.declared.image.ImagePage.{ImagePage}
-use Rattle.shared_procs.proofs.Common.{Program}
+use Rattle.shared_procs.proofs.Common.{◌∙◌, List, ap, Program}
 use Rattle.shared_procs.proofs.half.Half.boot.Goals as goal
 
 pub returns-clause-program : goal.returns-clause-program

@@ -1,6 +1,5 @@
 -- The refusal of every choice of a hart.
-use Rattle.std.proofs.Common.{◌≡◌, leb, refl, sym, ◌∙◌, true, false}
-use Rattle.shared_procs.proofs.Common.{le-leb, leb-false, pair_seen}
+use Rattle.shared_procs.proofs.Common.{◌≡◌, leb, refl, sym, ◌∙◌, true, false, le-leb, leb-false, pair_seen}
 use Rattle.shared_procs.proofs.Refusals.{decided_as}
 use Rattle.shared_procs.proofs.pair.Pair.common_refusal.Goals as goal
 

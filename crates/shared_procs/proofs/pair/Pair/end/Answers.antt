@@ -1,7 +1,6 @@
 -- How the pair ends, by what is kept of both processes, and by the length of its log.
-use Rattle.std.proofs.Common.{◌≡◌, ◌&&◌, cond, is_some, ◌∙◌}
 use Rattle.shared_procs.specs.declared.outcomes.PairEnd.TheVariants.{Done, Stuck, Limit, Unended}
-use Rattle.shared_procs.proofs.Common.{pair_history, pair_seen, seen, setting_of}
+use Rattle.shared_procs.proofs.Common.{◌≡◌, ◌&&◌, cond, is_some, ◌∙◌, pair_history, pair_seen, seen, setting_of}
 use Rattle.shared_procs.proofs.PairEnds.{both_tell, never_stuck}
 use Rattle.shared_procs.proofs.pair.Pair.end.Goals as goal
 

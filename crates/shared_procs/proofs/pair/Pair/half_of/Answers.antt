@@ -1,5 +1,4 @@
-use Rattle.std.proofs.Common.{◌≡◌, ◌==◌, Bool, true, false, sym, ◌∙◌, subst}
-use Rattle.shared_procs.proofs.Common.{half, IsTied, pair_seen, seen, setting, setting_of}
+use Rattle.shared_procs.proofs.Common.{◌≡◌, ◌==◌, Bool, true, false, sym, ◌∙◌, subst, half, IsTied, pair_seen, seen, setting, setting_of}
 use Rattle.shared_procs.proofs.pair.Pair.half_of.Goals as goal
 
 pub returns-then-is_second : goal.returns-then-is_second

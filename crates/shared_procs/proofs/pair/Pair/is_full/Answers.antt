@@ -1,5 +1,4 @@
-use Rattle.std.proofs.Common.{leb, ap, ◌∙◌}
-use Rattle.shared_procs.proofs.Common.{setting_of}
+use Rattle.shared_procs.proofs.Common.{leb, ap, ◌∙◌, setting_of}
 use Rattle.shared_procs.proofs.SameRequests.{made_is}
 use Rattle.shared_procs.proofs.pair.Pair.is_full.Goals as goal
 

@@ -1,5 +1,4 @@
-use Rattle.std.proofs.Common.{◌≡◌, cond, true, false, not, ◌∙◌}
-use Rattle.shared_procs.proofs.Common.{goes_on, pair_seen, seen, setting, setting_of}
+use Rattle.shared_procs.proofs.Common.{◌≡◌, cond, true, false, not, ◌∙◌, goes_on, pair_seen, seen, setting, setting_of}
 use Rattle.shared_procs.proofs.pair.Pair.is_over.Goals as goal
 
 pub returns : goal.returns

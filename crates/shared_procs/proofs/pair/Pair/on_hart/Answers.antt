@@ -1,5 +1,4 @@
-use Rattle.std.proofs.Common.{◌≡◌, ◌<◌, cond, true, false, not, is_some, arith, ◌∙◌}
-use Rattle.shared_procs.proofs.Common.{goes_on, pair_seen, runs_in, seen, setting, setting_of}
+use Rattle.shared_procs.proofs.Common.{◌≡◌, ◌<◌, cond, true, false, not, is_some, arith, ◌∙◌, goes_on, pair_seen, runs_in, seen, setting, setting_of}
 use Rattle.shared_procs.proofs.pair.Pair.on_hart.Goals as goal
 
 pub runs_on-second-requires : goal.runs_on-second-requires

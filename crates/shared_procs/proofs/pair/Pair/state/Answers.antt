@@ -1,5 +1,4 @@
-use Rattle.std.proofs.Common.{◌==◌, ap, ◌∙◌}
-use Rattle.shared_procs.proofs.Common.{half, pair_seen, state_of_end}
+use Rattle.shared_procs.proofs.Common.{◌==◌, ap, ◌∙◌, half, pair_seen, state_of_end}
 use Rattle.shared_procs.proofs.PairEnds.{state_read}
 use Rattle.shared_procs.proofs.pair.Pair.state.Goals as goal
 

@@ -1,7 +1,6 @@
 -- A step of the process that acts.
-use Rattle.std.proofs.Common.{arith, true, false, sym, ◌∙◌}
-use Rattle.shared_procs.proofs.Common.{Inside, pair_seen, program_in, seen, setting_of}
-use Rattle.shared_procs.proofs.PairStepped.{HasStepped, room_left, stepping}
+use Rattle.shared_procs.proofs.Common.{arith, true, false, sym, ◌∙◌, Inside, pair_seen, program_in, seen, setting_of}
+use Rattle.shared_procs.proofs.PairSteps.{HasStepped, room_left, stepping}
 use Rattle.shared_procs.proofs.pair.Pair.step.Goals as goal
 use Rattle.shared_procs.proofs.pair.Pair.step.Goals.{After-step_of, After-step_of-2}
 

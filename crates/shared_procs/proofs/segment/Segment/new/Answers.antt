@@ -1,5 +1,4 @@
-use Rattle.std.proofs.Common.{◌-◌, ◌%◌, ap}
-use Rattle.shared_procs.proofs.Common.{SEGMENT_AT}
+use Rattle.shared_procs.proofs.Common.{◌-◌, ◌%◌, ap, SEGMENT_AT}
 use Rattle.shared_procs.proofs.segment.Segment.new.Goals as goal
 
 pub returns : goal.returns

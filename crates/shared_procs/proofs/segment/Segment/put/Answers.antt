@@ -1,7 +1,6 @@
-use Rattle.std.proofs.Common.{◌≡◌, ◌-◌, length, sym, ap, ◌∙◌, true, arith}
 use Rattle.std.proofs.lemmas.Bool.{OnTrue_at}
 use Rattle.std.proofs.lemmas.List.{with_items_is}
-use Rattle.shared_procs.proofs.Common.{byte_over, SEGMENT_AT, SEGMENT_SIZE, shared_in, with_word}
+use Rattle.shared_procs.proofs.Common.{◌≡◌, ◌-◌, length, sym, ap, ◌∙◌, true, arith, byte_over, SEGMENT_AT, SEGMENT_SIZE, shared_in, with_word}
 use Rattle.shared_procs.proofs.Segments.{shared-stored}
 use Rattle.shared_procs.proofs.segment.Segment.put.Goals as goal
 

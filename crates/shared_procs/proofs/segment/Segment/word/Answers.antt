@@ -1,7 +1,6 @@
-use Rattle.std.proofs.Common.{◌≡◌, ℕ, ◌+◌, ◌-◌, ◌<◌, Some, List, length, slice_index, sym, ap, ◌∙◌, arith}
 use Rattle.byte_views.specs.Words.{word_at as number_at}
 use Rattle.page_map.proofs.Laws.{some_where, word_of_bytes}
-use Rattle.shared_procs.proofs.Common.{SEGMENT_AT, SEGMENT_SIZE, shared_in}
+use Rattle.shared_procs.proofs.Common.{◌≡◌, ℕ, ◌+◌, ◌-◌, ◌<◌, Some, List, length, slice_index, sym, ap, ◌∙◌, arith, SEGMENT_AT, SEGMENT_SIZE, shared_in}
 use Rattle.shared_procs.proofs.Segments.{small_byte}
 use Rattle.shared_procs.proofs.segment.Segment.word.Goals as goal
 

@@ -1,0 +1,118 @@
+-- A log is made again, entry by entry, and told.
+use Rattle.std.proofs.Common.{◌≡◌, ℕ, ◌+◌, ◌<◌, List, [], ◌∷◌, ◌++◌, length, take, drop, get_or, ◌≤◌, refl, sym, ap, ◌∙◌, subst, arith, cond, Ok, append_assoc, append-nil, length-append}
+use Rattle.std.specs.Prelude.{codes}
+use Rattle.std.proofs.lemmas.List.{drop_all, drop_more, take-append-drop, take_more}
+use Rattle.mach_types.specs.Events.{choice_of}
+use Rattle.mach_types.specs.Limits.{InRange}
+use Rattle.mach_types.specs.declared.events.Entry.{Entry}
+use Rattle.block_model.specs.Deciding.{decide, event, history}
+use Rattle.block_model.specs.Events.{done_of}
+use Rattle.block_model.specs.History.{History}
+use Rattle.block_model.specs.Plain.{here_of}
+use Rattle.block_model.specs.Run.{IsBlockRun}
+use Rattle.block_model.specs.Setting.{Seen, Setting}
+use Rattle.block_model.proofs.Laws.{history-append, history-nil, length-history, next_event, run_before, start_run}
+use Rattle.block_model.proofs.Swaps.Logs.{last_decided}
+use Rattle.command_words.specs.declared.commands.LineSpan.{LineSpan}
+use Rattle.event_facts.specs.Lines.{next_line}
+use Rattle.event_facts.specs.Telling.{IsDecided, past_of}
+use Rattle.event_facts.specs.Tied.{AreLinesOf}
+use Rattle.event_facts.specs.Trace.{trace_of}
+use Rattle.event_facts.specs.declared.facts.Fact.{Fact}
+use Rattle.event_facts.specs.declared.lines.Lines.{Lines}
+use Rattle.fact_text.specs.Lines.{facts_text}
+use Rattle.place_text.specs.Ends.{number_line}
+use Rattle.step_log.specs.Text.{entry_text}
+use Rattle.outcomes.specs.Traces.{event_text, events_text, is_within}
+use Rattle.command_runs.specs.Tracing.{HasTold}
+
+-- ONE ENTRY
+
+-- the number of its line
+pub line_is : (m m' : Seen) (e : Entry) (n : ℕ) → m' ≡ record m { log = m.log ++ e ∷ [] } → n ≡ length m'.log → n ≡ next_line (past_of m)
+line_is m m' e n made is =
+    let grown = ap (λ (z : Seen). length z.log) made in
+    omega (arith, is, grown, length-append m.log (e ∷ []), length-history m.setting m.log)
+
+-- what is told of it, where its line is
+pub event_told : (span : LineSpan) (s : Setting) (before : History) (e : Entry) (n : ℕ) (facts : List Fact) → n ≡ next_line before → facts ≡ trace_of s before e
+    → cond (is_within span n) (entry_text e ++ number_line (codes "  line") n ++ facts_text facts) [] ≡ cond (is_within span (next_line before)) (event_text s before e) []
+unfolding event_text
+event_told span s before e n facts line told =
+    λ i. cond (is_within span (line i)) (entry_text e ++ number_line (codes "  line") (line i) ++ facts_text (told i)) []
+
+-- its hart is one digit
+pub its_hart : (m : Seen) (e : Entry) → IsBlockRun m.setting m.log → IsDecided m e → InRange m.setting.limits → e.hart.0 < 8
+its_hart m e run decided limits =
+    let next = next_event m e (done_of (choice_of e) (here_of m e.hart.0)) run decided refl in
+    let lt = next.lt in
+    let most = limits.eight_harts in
+    omega arith
+
+-- A LOG
+
+-- before the first entry
+pub told_none : (s : Setting) (m : Seen) (x : Lines) → m.setting ≡ s → m.log ≡ [] → AreLinesOf m.setting.limits.harts [] x → HasTold s [] m x
+told_none s m x setting none lines = record {
+  setting = setting;
+  made = none;
+  run = subst (λ (log : List Entry). IsBlockRun m.setting log) (sym none) (start_run m.setting);
+  lines = subst (λ past. AreLinesOf m.setting.limits.harts past x) (sym (ap (history m.setting) none ∙ history-nil m.setting)) lines;
+}
+
+module _ (s : Setting) (all : List Entry) (i : ℕ) (m : Seen) (x : Lines) (d : Entry) (was : HasTold s (take i all) m x) (lt : i < length all) where
+  -- the next entry, and the log with it
+  abbrev e : Entry
+  e = get_or all i d
+
+  next : take (i + 1) all ≡ take i all ++ e ∷ []
+  next = take_more all i d lt
+
+  -- which is the one that is decided there
+  pub next_decided : IsBlockRun s all → IsDecided m e
+  next_decided run =
+      let longer : IsBlockRun s (take i all ++ e ∷ []) =
+      subst (IsBlockRun s) next (run_before s (take (i + 1) all) (drop (i + 1) all) (subst (IsBlockRun s) (sym (take-append-drop (i + 1) all)) run)) in
+      let decided = last_decided s (take i all) e longer in
+      subst (λ (st : Setting). decide st (history st m.log) e.hart.0 (choice_of e) ≡ Ok e) (sym was.setting)
+      (subst (λ (log : List Entry). decide s (history s log) e.hart.0 (choice_of e) ≡ Ok e) (sym was.made) decided)
+
+  -- once it is made
+  pub told_next : (n : Seen) (y : Lines) → n ≡ record m { log = m.log ++ e ∷ [] } → IsBlockRun n.setting n.log → AreLinesOf n.setting.limits.harts (past_of n) y
+      → HasTold s (take (i + 1) all) n y
+  told_next n y made run lines = record {
+    setting = ap (λ (z : Seen). z.setting) made ∙ was.setting;
+    made = ap (λ (z : Seen). z.log) made ∙ ap (λ (log : List Entry). log ++ e ∷ []) was.made ∙ sym next;
+    run = run;
+    lines = lines;
+  }
+
+  -- what is left to tell
+  left : (span : LineSpan) → events_text span s (history s (take i all)) (drop i all)
+      ≡ cond (is_within span (next_line (past_of m))) (event_text m.setting (past_of m) e) [] ++ events_text span s (history s (take (i + 1) all)) (drop (i + 1) all)
+  left span =
+      let before = history s (take i all) in
+      let rest = drop (i + 1) all in
+      let past : past_of m ≡ before = λ j. history (was.setting j) (was.made j) in
+      let longer : history s (take (i + 1) all) ≡ event s before e ∷ before = ap (history s) next ∙ history-append s (take i all) e in
+      ap (events_text span s before) (drop_more all i d lt)
+      ∙ sym (λ j. cond (is_within span (next_line (past j))) (event_text (was.setting j) (past j) e) [] ++ events_text span s (longer j) rest)
+
+  pub text_next : (span : LineSpan) (start text0 text1 : List ℕ)
+      → text0 ++ events_text span s (history s (take i all)) (drop i all) ≡ start ++ events_text span s [] all
+      → text1 ≡ text0 ++ cond (is_within span (next_line (past_of m))) (event_text m.setting (past_of m) e) []
+      → text1 ++ events_text span s (history s (take (i + 1) all)) (drop (i + 1) all) ≡ start ++ events_text span s [] all
+  text_next span start text0 text1 so_far pushed =
+      ap (λ (l : List ℕ). l ++ events_text span s (history s (take (i + 1) all)) (drop (i + 1) all)) pushed
+      ∙ append_assoc text0 _ _
+      ∙ ap (λ (l : List ℕ). text0 ++ l) (sym (left span))
+      ∙ so_far
+
+-- behind the last entry
+pub text_end : (span : LineSpan) (s : Setting) (all : List Entry) (i : ℕ) (start text : List ℕ) → length all ≤ i
+    → text ++ events_text span s (history s (take i all)) (drop i all) ≡ start ++ events_text span s [] all
+    → text ≡ start ++ events_text span s [] all
+text_end span s all i start text past so_far =
+    sym (append-nil text)
+    ∙ sym (ap (λ (l : List Entry). text ++ events_text span s (history s (take i all)) l) (drop_all i all past))
+    ∙ so_far

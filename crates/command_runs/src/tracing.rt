@@ -1,0 +1,211 @@
+//! A trace: the lines of a run's log, below each what came of its event, and the run's end.
+
+ghost use Rattle.std.specs.Prelude.{◌≡◌, ◌<◌, ◌++◌, ◌∷◌, [], IfOk, OnOk, codes, if◌then◌else◌};
+ghost use Rattle.mach_types.specs.Limits.{InRange};
+ghost use Rattle.elf_load.specs.Images.{IsBootable};
+ghost use Rattle.block_model.specs.Deciding.{end_of, history};
+ghost use Rattle.block_model.specs.History.{kernel};
+ghost use Rattle.block_model.specs.Run.{IsBlockRun};
+ghost use Rattle.block_model.specs.Setting.{setting_of};
+ghost use Rattle.event_facts.specs.Lines.{next_line};
+ghost use Rattle.event_facts.specs.Telling.{IsDecided, past_of};
+ghost use Rattle.event_facts.specs.Tied.{AreLinesOf};
+ghost use Rattle.fact_text.specs.Lines.{facts_text};
+ghost use Rattle.place_text.specs.Ends.{number_line};
+ghost use Rattle.step_log.specs.Text.{entry_text};
+ghost use Rattle.outcomes.specs.Traces as spec;
+ghost use Rattle.outcomes.specs.Traces.{event_text, events_text, stuck_text, trace_tail, waiting_line, waiting_text};
+
+use command_words::LineSpan;
+use elf_load::Image;
+use event_facts::{Fact, Lines, trace};
+use fact_text::push_facts;
+use log_lines::push_lines;
+use mach_types::{End, Entry, Limits, ThreadState, Tid};
+use machine_core::Machine;
+use place_text::fields::{begin_line, push_named_value};
+use place_text::{push_end, push_number_line};
+use std::alloc::{AllocError, Global};
+
+/// The seed of a machine that draws no choice.
+const NO_SEED: u64 = 0;
+
+/// Whether the line of a number is told.
+fn is_within(span: &LineSpan, number: usize) -> bool
+    ensures { result ≡ spec.is_within span.now number }
+{
+    let ends = match span.to {
+        Some(last) => number <= last as usize,
+        None => true,
+    };
+    span.from as usize <= number && ends
+}
+
+/// Appends what is told of an entry: its line, the number of that, and the lines of what came of it.
+fn push_event(
+    text: &mut Vec<u8>,
+    entry: Entry,
+    number: usize,
+    facts: &[Fact],
+) -> Result<(), AllocError>
+    requires { entry.hart.0 < 8 }
+    ensures { OnOk result (text.new.items ≡ text.old.items
+        ++ (entry_text entry ++ number_line (codes "  line") number ++ facts_text facts.now)) }
+{
+    push_lines(text, &[entry])?;
+    push_number_line(text, b"  line", number)?;
+    push_facts(text, facts)?;
+    Ok(())
+}
+
+/// Appends what is told of an entry, where the line of its number is told.
+fn push_within(
+    text: &mut Vec<u8>,
+    span: &LineSpan,
+    entry: Entry,
+    number: usize,
+    facts: &[Fact],
+) -> Result<(), AllocError>
+    requires { entry.hart.0 < 8 }
+    ensures { OnOk result (text.new.items ≡ text.old.items ++ (if spec.is_within span.now number
+        then entry_text entry ++ number_line (codes "  line") number ++ facts_text facts.now else [])) }
+{
+    if !is_within(span, number) {
+        return Ok(());
+    }
+    push_event(text, entry, number, facts)?;
+    Ok(())
+}
+
+/// Makes the next entry of a log again, and appends what is told of it, where its line is told.
+fn push_next(
+    alloc: Global,
+    text: &mut Vec<u8>,
+    span: &LineSpan,
+    machine: &mut Machine,
+    lines: &mut Lines,
+    facts: &mut Vec<Fact>,
+    entry: Entry,
+) -> Result<(), AllocError>
+    requires limits { InRange machine.old.setting.limits }
+    requires run { IsBlockRun machine.old.setting machine.old.log }
+    requires decided { IsDecided machine.old entry }
+    requires lines { AreLinesOf machine.old.setting.limits.harts (past_of machine.old) lines.old }
+    ensures machine { OnOk result
+        (machine.new ≡ record machine.old { log = machine.old.log ++ entry ∷ [] }) }
+    ensures run { OnOk result (IsBlockRun machine.new.setting machine.new.log) }
+    ensures lines { OnOk result
+        (AreLinesOf machine.new.setting.limits.harts (past_of machine.new) lines.new) }
+    ensures text { OnOk result (text.new.items ≡ text.old.items
+        ++ (if spec.is_within span.now (next_line (past_of machine.old))
+        then event_text machine.old.setting (past_of machine.old) entry else [])) }
+{
+    facts.clear();
+    trace(alloc, facts, machine, lines, entry)?;
+    push_within(text, span, entry, machine.log().len(), facts)?;
+    Ok(())
+}
+
+/// Makes the entries of a log on a machine that has done nothing, and appends what is told of those whose lines are told.
+fn push_events(
+    alloc: Global,
+    text: &mut Vec<u8>,
+    span: &LineSpan,
+    machine: &mut Machine,
+    lines: &mut Lines,
+    log: &[Entry],
+) -> Result<(), AllocError>
+    requires limits { InRange machine.old.setting.limits }
+    requires start { machine.old.log ≡ [] }
+    requires lines { AreLinesOf machine.old.setting.limits.harts [] lines.old }
+    requires run { IsBlockRun machine.old.setting log.now }
+    ensures { OnOk result (text.new.items ≡ text.old.items
+        ++ events_text span.now machine.old.setting [] log.now) }
+{
+    let mut facts = Vec::new(alloc);
+    for entry in log {
+        push_next(alloc, text, span, machine, lines, &mut facts, *entry)?;
+    }
+    Ok(())
+}
+
+/// Appends the line of a thread that is in this state, where it waits.
+fn push_waiting(
+    text: &mut Vec<u8>,
+    number: u32,
+    state: Option<ThreadState>,
+) -> Result<(), AllocError>
+    ensures { OnOk result (text.new.items ≡ text.old.items ++ waiting_line number state) }
+{
+    if let Some(ThreadState::Waiting(at)) = state {
+        begin_line(text, b"thread", u64::from(number))?;
+        push_named_value(text, b"waiting", at)?;
+        text.push(b'\n')?;
+    }
+    Ok(())
+}
+
+/// Appends the lines of the threads of a machine that wait, in rising order of number.
+#[tactic(auto, unfolding(outcomes::specs::Traces::waiting_text))]
+fn push_all_waiting(text: &mut Vec<u8>, machine: &Machine) -> Result<(), AllocError>
+    ensures { let s = machine.now.setting in OnOk result (text.new.items ≡ text.old.items
+        ++ waiting_text (kernel s (history s machine.now.log)).threads) }
+{
+    let threads = &machine.kernel().threads;
+    for earlier in 0..threads.numbers_given() {
+        push_waiting(text, earlier + 1, threads.state(Tid(earlier + 1)))?;
+    }
+    Ok(())
+}
+
+/// Appends the lines of the threads that wait, where the run is stuck at which a machine is.
+fn push_stuck(text: &mut Vec<u8>, machine: &Machine) -> Result<(), AllocError>
+    ensures { let s = machine.now.setting in let before = history s machine.now.log in
+        OnOk result (text.new.items ≡ text.old.items ++ stuck_text (end_of s before) (kernel s before).threads) }
+{
+    match machine.end() {
+        End::Stuck => push_all_waiting(text, machine),
+        End::Exit(_) | End::Killed(_) | End::Limit | End::Unended => Ok(()),
+    }
+}
+
+/// Appends the end of a run, at which a machine is, behind the threads that wait, where it is stuck.
+fn push_tail(text: &mut Vec<u8>, machine: &Machine) -> Result<(), AllocError>
+    ensures { let s = machine.now.setting in OnOk result (text.new.items ≡ text.old.items
+        ++ trace_tail s (history s machine.now.log)) }
+{
+    push_stuck(text, machine)?;
+    push_end(text, machine.end())
+}
+
+/// The trace of a run of this image, at whose end a machine is, with the lines of a span. It errs only for want of
+/// memory.
+#[tactic(auto, unfolding(outcomes::specs::Traces::trace_text))]
+pub(crate) fn trace_text(
+    alloc: Global,
+    image: &Image,
+    limits: &Limits,
+    span: &LineSpan,
+    machine: &Machine,
+) -> Result<Vec<u8>, AllocError>
+    requires image { IsBootable limits.now.frames image.now }
+    requires limits { InRange limits.now }
+    requires setting { machine.now.setting ≡ setting_of image.now limits.now }
+    requires run { IsBlockRun machine.now.setting machine.now.log }
+    ensures { IfOk result
+        (λ text. text.items ≡ spec.trace_text span.now machine.now.setting machine.now.log) }
+{
+    let mut again = Machine::boot(alloc, image, *limits, NO_SEED)?;
+    let mut lines = Lines::new(alloc, limits.harts)?;
+    let mut text = Vec::new(alloc);
+    push_events(
+        alloc,
+        &mut text,
+        span,
+        &mut again,
+        &mut lines,
+        machine.log(),
+    )?;
+    push_tail(&mut text, machine)?;
+    Ok(text)
+}

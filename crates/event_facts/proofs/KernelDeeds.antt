@@ -1,0 +1,263 @@
+-- What an event does that isn't plain: it executes no store that waits, none enters memory from a hart, and what its thread's registers are.
+use Rattle.std.proofs.Common.{◌≡◌, ℕ, List, [], ◌∷◌, refl, sym, ap, ◌∙◌, subst, Bool, true, false, not, ◌&&◌, cond, Option, Some, None, is_none}
+use Rattle.std.proofs.lemmas.Bool.{false≢true}
+use Rattle.std.specs.Option.{option_map}
+use Rattle.std.specs.Prelude.{slice_get}
+use Rattle.mach_types.specs.Kernel.Signals.{next_for}
+use Rattle.mach_types.specs.Kernel.Threads.{running_on, state_of}
+use Rattle.mach_types.specs.declared.events.Choice.{Choice}
+use Rattle.mach_types.specs.declared.events.Choice.TheVariants as asked
+use Rattle.mach_types.specs.declared.registers.Regs.{Regs}
+use Rattle.mach_types.specs.declared.sequences.Outcome.{Outcome}
+use Rattle.mach_types.specs.declared.threads.Saved.{Saved}
+use Rattle.mach_types.specs.declared.user_memory.Store.{Store}
+use Rattle.mach_types.specs.declared.user_memory.Write.{Write}
+use Rattle.rv_inst.specs.Class.{is_call}
+use Rattle.rv_inst.specs.declared.effects.Effect.{Effect}
+use Rattle.rv_inst.specs.declared.effects.Effect.TheVariants as effect
+use Rattle.block_model.specs.Deciding.{number_of, thread_in}
+use Rattle.block_model.specs.Events.{done_of, refusal_of}
+use Rattle.block_model.specs.Events.Drain.{refusal_drain_of}
+use Rattle.block_model.specs.Events.Exec.{by_call, by_effect, by_outcome, called_here, done_exec_by, has_handler, next_effect, next_fault, outcome_of, refusal_exec_by}
+use Rattle.block_model.specs.Events.Finish.{done_done_by, refusal_done_by}
+use Rattle.block_model.specs.Events.Preempt.{done_preempt_by}
+use Rattle.block_model.specs.Events.Run.{done_killed, done_running, lives_on}
+use Rattle.block_model.specs.Events.Signal.{done_next, done_signal_by, handled_unless_killed, kills, refusal_signal_by}
+use Rattle.block_model.specs.Events.Take.{done_take_by}
+use Rattle.block_model.specs.Here.{Done, Here, runs, waiting_here}
+use Rattle.block_model.specs.History.{file_among}
+use Rattle.block_model.specs.PlainEvents.{is_plain, is_plain_exec_by, is_plain_exec_of}
+use Rattle.block_model.specs.Sequences.{interruption_here}
+use Rattle.block_model.specs.Sights.{effect_here, effect_on, fault_here, fault_on}
+use Rattle.block_model.proofs.Swaps.PlainEvents.{plain_parts}
+use Rattle.process.specs.Foresight.{foreseen_writes}
+use Rattle.process.specs.Harts.{file_on}
+use Rattle.event_facts.specs.Calls.{call_by, call_in, call_on, is_calling}
+use Rattle.event_facts.specs.Facts.{changed_registers, executed_by, own_registers, registers_seen}
+use Rattle.event_facts.specs.KernelEvents.{changed_own}
+use Rattle.event_facts.specs.Telling.{plain_event_of}
+use Rattle.event_facts.specs.declared.calls.SystemCall.{SystemCall}
+use Rattle.event_facts.specs.declared.facts.Fact.{Fact}
+use Rattle.event_facts.specs.declared.telling.PlainEvent.{PlainEvent}
+use Rattle.event_facts.specs.declared.telling.PlainEvent.TheVariants.{Instruction, Drain}
+use Rattle.event_facts.proofs.OwnRegisters.{interrupted_same, none_seen}
+
+-- WHICH EVENTS
+
+-- where code finds no plain event, there is none
+no_instruction : (here : Here) (o : Option ℕ) (b : Bool) → is_plain_exec_by here o ≡ b → option_map Instruction (cond b (effect_on here o) None) ≡ None → b ≡ false
+no_instruction here o false is none = refl
+no_instruction here None true is none = absurd (false≢true is)
+no_instruction here (Some t) true is none =
+    let parts = plain_parts (next_fault here t) (next_effect here t) is in
+    let no : option_map Instruction (Some parts.effect) ≡ None = sym (ap (option_map Instruction) parts.is) ∙ none in
+    absurd cc
+
+no_store : (ws : List Store) → refusal_drain_of ws ≡ None → option_map Drain (slice_get ws 0) ≡ None → ⊥
+no_store [] free none = cc
+no_store (w ∷ ws) free none = cc
+
+pub not_plain : (c : Choice) (here : Here) → refusal_of c here ≡ None → plain_event_of c here ≡ None → is_plain c here ≡ false
+not_plain asked.Exec here free none = no_instruction here (runs here) (is_plain_exec_by here (runs here)) refl none
+not_plain asked.Drain here free none = absurd (no_store (waiting_here here) free none)
+not_plain asked.Take here free none = refl
+not_plain asked.Done here free none = refl
+not_plain asked.Preempt here free none = refl
+not_plain (asked.Run t) here free none = refl
+not_plain asked.Signal here free none = refl
+
+-- STORES
+
+-- no store is executed, and none that waited enters memory
+pub record IsQuiet (d : Done) : Type 0 where
+  pub executed : d.executed ≡ []
+  pub drained : d.drained ≡ 0
+
+quiet_either : (b : Bool) (x y : Done) → IsQuiet x → IsQuiet y → IsQuiet (cond b x y)
+quiet_either true x y p q = p
+quiet_either false x y p q = q
+
+quiet : (d : Done) → d.executed ≡ [] → d.drained ≡ 0 → IsQuiet d
+quiet d executed drained = record { executed = executed; drained = drained }
+
+quiet_next : (here : Here) (t : ℕ) (fault : Option ℕ) (o : Option Effect) → is_plain_exec_of fault o ≡ false → IsQuiet (by_effect here t fault o)
+quiet_next here t (Some signal) o plain = quiet_either (has_handler here t signal) _ _ (quiet _ refl refl) (quiet _ refl refl)
+quiet_next here t None None plain = quiet _ refl refl
+quiet_next here t None (Some e) plain = go (is_call e) plain
+  where
+    go : (b : Bool) → not b ≡ false → IsQuiet (cond b (by_call here (called_here here t)) (by_outcome here t (outcome_of here t e)))
+    go true is = quiet _ refl refl
+    go false is = absurd (false≢true (sym is))
+
+quiet_exec : (here : Here) (o : Option ℕ) → is_plain_exec_by here o ≡ false → IsQuiet (done_exec_by here o)
+quiet_exec here None plain = quiet _ refl refl
+quiet_exec here (Some t) plain = quiet_next here t (next_fault here t) (next_effect here t) plain
+
+quiet_take : (here : Here) (restart : Bool) (o : Option ℕ) → IsQuiet (done_take_by here restart o)
+quiet_take here false o = quiet _ refl refl
+quiet_take here true None = quiet _ refl refl
+quiet_take here true (Some t) = quiet _ refl refl
+
+quiet_done : (here : Here) (o : Option ℕ) → IsQuiet (done_done_by here o)
+quiet_done here None = quiet _ refl refl
+quiet_done here (Some t) = quiet _ refl refl
+
+quiet_preempt : (here : Here) (o : Option ℕ) → IsQuiet (done_preempt_by here o)
+quiet_preempt here None = quiet _ refl refl
+quiet_preempt here (Some t) = quiet _ refl refl
+
+quiet_delivery : (here : Here) (t signal : ℕ) (o : Outcome) (killer : Option ℕ) → IsQuiet (handled_unless_killed here t signal o killer)
+quiet_delivery here t signal o None = quiet _ refl refl
+quiet_delivery here t signal o (Some killer) = quiet _ refl refl
+
+quiet_for : (here : Here) (t : ℕ) (next : Option ℕ) → IsQuiet (done_next here t next)
+quiet_for here t None = quiet _ refl refl
+quiet_for here t (Some signal) = quiet_delivery here t signal (interruption_here here t) (kills here t signal (interruption_here here t))
+
+quiet_signal : (here : Here) (o : Option ℕ) → IsQuiet (done_signal_by here o)
+quiet_signal here None = quiet _ refl refl
+quiet_signal here (Some t) = quiet_for here t (next_for t here.kernel.signals)
+
+pub is_quiet : (c : Choice) (here : Here) → is_plain c here ≡ false → IsQuiet (done_of c here)
+is_quiet asked.Exec here plain = quiet_exec here (runs here) plain
+is_quiet asked.Drain here plain = absurd (false≢true (sym plain))
+is_quiet asked.Take here plain = quiet_take here here.restart (runs here)
+is_quiet asked.Done here plain = quiet_done here (runs here)
+is_quiet asked.Preempt here plain = quiet_preempt here (runs here)
+is_quiet (asked.Run t) here plain =
+    quiet_either (lives_on here t.0 (interruption_here here t.0)) (done_running here t.0 (interruption_here here t.0)) (done_killed here t.0 (interruption_here here t.0))
+    (quiet _ refl refl) (quiet _ refl refl)
+is_quiet asked.Signal here plain = quiet_signal here (runs here)
+
+-- it executes no instruction that reads anything
+pub executes_none : (c : Choice) (here : Here) → is_plain c here ≡ false → executed_by c here ≡ None
+executes_none asked.Exec here plain = ap (λ b. cond b (effect_here here) None) plain
+executes_none asked.Drain here plain = refl
+executes_none asked.Take here plain = refl
+executes_none asked.Done here plain = refl
+executes_none asked.Preempt here plain = refl
+executes_none (asked.Run t) here plain = refl
+executes_none asked.Signal here plain = refl
+
+-- CALLS
+
+-- what code finds of the hart of a call
+pub record IsCalling (c : Choice) (here : Here) : Type 0 where
+  pub choice : c ≡ asked.Exec
+  pub effect : effect_here here ≡ Some effect.Call
+  pub fault : fault_here here ≡ None
+
+the_call : (e : Effect) → is_call e ≡ true → e ≡ effect.Call
+the_call (effect.Next rd value to) is = absurd (false≢true is)
+the_call (effect.Load at size is_signed rd) is = absurd (false≢true is)
+the_call (effect.Store at size value) is = absurd (false≢true is)
+the_call (effect.Amo op at size value rd) is = absurd (false≢true is)
+the_call (effect.Lr at size rd) is = absurd (false≢true is)
+the_call (effect.Sc at size value rd) is = absurd (false≢true is)
+the_call (effect.Fence full) is = absurd (false≢true is)
+the_call effect.FenceI is = absurd (false≢true is)
+the_call effect.Call is = refl
+the_call effect.Break is = absurd (false≢true is)
+the_call effect.Misaligned is = absurd (false≢true is)
+
+calls_next : (fault : Option ℕ) (o : Option Effect) (k call : SystemCall) → cond (is_calling fault o) (Some k) None ≡ Some call → (o ≡ Some effect.Call) × (fault ≡ None)
+calls_next fault None k call is = absurd cc
+calls_next (Some signal) (Some e) k call is = absurd cc
+calls_next None (Some e) k call is = (go (is_call e) refl is, refl)
+  where
+    go : (b : Bool) → is_call e ≡ b → cond b (Some k) None ≡ Some call → Some e ≡ Some effect.Call
+    go true calls is = ap Some (the_call e calls)
+    go false calls is = absurd cc
+
+calls_on : (here : Here) (o : Option ℕ) (call : SystemCall) → call_on here o ≡ Some call → (effect_on here o ≡ Some effect.Call) × (fault_on here o ≡ None)
+calls_on here None call is = absurd cc
+calls_on here (Some t) call is = calls_next (next_fault here t) (next_effect here t) (call_in (here.file t).file) call is
+
+pub is_calling_here : (c : Choice) (here : Here) (call : SystemCall) → call_by c here ≡ Some call → IsCalling c here
+is_calling_here asked.Exec here call is = let both = calls_on here (runs here) call is in record { choice = refl; effect = both.0; fault = both.1 }
+is_calling_here asked.Drain here call is = absurd cc
+is_calling_here asked.Take here call is = absurd cc
+is_calling_here asked.Done here call is = absurd cc
+is_calling_here asked.Preempt here call is = absurd cc
+is_calling_here (asked.Run t) here call is = absurd cc
+is_calling_here asked.Signal here call is = absurd cc
+
+-- a fault writes nothing
+fault_either : (b : Bool) (x y : Done) → x.entered ≡ [] → y.entered ≡ [] → (cond b x y).entered ≡ []
+fault_either true x y p q = p
+fault_either false x y p q = q
+
+fault_next : (here : Here) (t : ℕ) (fault : Option ℕ) (o : Option Effect) (k : SystemCall) → is_plain_exec_of fault o ≡ false → cond (is_calling fault o) (Some k) None ≡ None
+    → (by_effect here t fault o).entered ≡ []
+fault_next here t (Some signal) o k plain none = fault_either (has_handler here t signal) _ _ refl refl
+fault_next here t None None k plain none = refl
+fault_next here t None (Some e) k plain none = go (is_call e) plain none
+  where
+    go : (b : Bool) → not b ≡ false → cond b (Some k) None ≡ None → (cond b (by_call here (called_here here t)) (by_outcome here t (outcome_of here t e))).entered ≡ []
+    go true is none = absurd cc
+    go false is none = absurd (false≢true (sym is))
+
+fault_on_hart : (here : Here) (o : Option ℕ) → is_plain_exec_by here o ≡ false → call_on here o ≡ None → (done_exec_by here o).entered ≡ []
+fault_on_hart here None plain none = refl
+fault_on_hart here (Some t) plain none = fault_next here t (next_fault here t) (next_effect here t) (call_in (here.file t).file) plain none
+
+-- so what is foreseen of an event that is neither plain nor a call is all that is written in it
+pub all_foreseen : (c : Choice) (here : Here) → is_plain c here ≡ false → call_by c here ≡ None → foreseen_writes c here ≡ (done_of c here).entered
+all_foreseen asked.Exec here plain none = sym (fault_on_hart here (runs here) plain none)
+all_foreseen asked.Drain here plain none = absurd (false≢true (sym plain))
+all_foreseen asked.Take here plain none = refl
+all_foreseen asked.Done here plain none = refl
+all_foreseen asked.Preempt here plain none = refl
+all_foreseen (asked.Run t) here plain none = refl
+all_foreseen asked.Signal here plain none = refl
+
+-- THE REGISTERS OF ITS THREAD
+
+-- the thread of an instruction, of a barrier that returns, and of a signal runs on the hart
+exec_runs : (here : Here) (o : Option ℕ) (t : ℕ) → refusal_exec_by here o ≡ None → t ≡ number_of o → file_on here o ≡ here.file t
+exec_runs here None t free is = absurd cc
+exec_runs here (Some u) t free is = ap here.file (sym is)
+
+done_runs : (here : Here) (o : Option ℕ) (t : ℕ) → refusal_done_by here o ≡ None → t ≡ number_of o → file_on here o ≡ here.file t
+done_runs here None t free is = absurd cc
+done_runs here (Some u) t free is = ap here.file (sym is)
+
+signal_runs : (here : Here) (o : Option ℕ) (t : ℕ) → refusal_signal_by here o ≡ None → t ≡ number_of o → file_on here o ≡ here.file t
+signal_runs here None t free is = absurd cc
+signal_runs here (Some u) t free is = ap here.file (sym is)
+
+-- the others set no register
+same_take : (here : Here) (restart : Bool) (o : Option ℕ) (t : ℕ) → (file_among (done_take_by here restart o).files t (here.file t)).file ≡ (here.file t).file
+same_take here false o t = refl
+same_take here true None t = refl
+same_take here true (Some u) t = interrupted_same here u t (interruption_here here u)
+
+same_preempt : (here : Here) (o : Option ℕ) (t : ℕ) → (file_among (done_preempt_by here o).files t (here.file t)).file ≡ (here.file t).file
+same_preempt here None t = refl
+same_preempt here (Some u) t = refl
+
+same_run : (here : Here) (u t : ℕ) (o : Outcome) (b : Bool) → (file_among (cond b (done_running here u o) (done_killed here u o)).files t (here.file t)).file ≡ (here.file t).file
+same_run here u t o true = interrupted_same here u t o
+same_run here u t o false = interrupted_same here u t o
+
+module _ (here : Here) (t : ℕ) where
+  -- what is seen of it after an event
+  abbrev seen : Done → Option Regs
+  seen d = registers_seen (running_on here.hart d.kernel.threads) (state_of t d.kernel.threads) t (file_among d.files t (here.file t))
+
+  of_own : (x : Saved) (d : Done) → x ≡ here.file t → own_registers here t d ≡ changed_registers x.file (seen d)
+  of_own x d is = ap (λ (f : Saved). changed_registers f.file (seen d)) (sym is)
+
+  of_none : (d : Done) → (file_among d.files t (here.file t)).file ≡ (here.file t).file → own_registers here t d ≡ []
+  of_none d same = none_seen (running_on here.hart d.kernel.threads) (state_of t d.kernel.threads) t (here.file t).file (file_among d.files t (here.file t)) same
+
+  pub own_told : (c : Choice) → refusal_of c here ≡ None → t ≡ number_of (thread_in c here) → is_plain c here ≡ false
+      → own_registers here t (done_of c here) ≡ changed_own c (file_on here (runs here)).file (seen (done_of c here))
+  own_told asked.Exec free is plain = of_own (file_on here (runs here)) (done_of asked.Exec here) (exec_runs here (runs here) t free is)
+  own_told asked.Drain free is plain = absurd (false≢true (sym plain))
+  own_told asked.Take free is plain = of_none (done_of asked.Take here) (same_take here here.restart (runs here) t)
+  own_told asked.Done free is plain = of_own (file_on here (runs here)) (done_of asked.Done here) (done_runs here (runs here) t free is)
+  own_told asked.Preempt free is plain = of_none (done_of asked.Preempt here) (same_preempt here (runs here) t)
+  own_told (asked.Run u) free is plain =
+      of_none (done_of (asked.Run u) here) (same_run here u.0 t (interruption_here here u.0) (lives_on here u.0 (interruption_here here u.0)))
+  own_told asked.Signal free is plain = of_own (file_on here (runs here)) (done_of asked.Signal here) (signal_runs here (runs here) t free is)

@@ -1,0 +1,48 @@
+//! An event is made, and all that came of it is told.
+
+ghost use Rattle.std.specs.Prelude.{◌≡◌, ◌++◌, ◌∷◌, [], OnOk};
+ghost use Rattle.mach_types.specs.Limits.{InRange};
+ghost use Rattle.block_model.specs.Run.{IsBlockRun};
+ghost use Rattle.event_facts.specs.Telling.{IsDecided, past_of};
+ghost use Rattle.event_facts.specs.Tied.{AreLinesOf};
+ghost use Rattle.event_facts.specs.Trace.{trace_of};
+
+use crate::facts::Fact;
+use crate::kernel_events::tell_kernel;
+use crate::lines::Lines;
+use crate::telling::{plain_event, tell};
+use crate::theorems::plain_events_are_told_by_their_facts;
+use mach_types::Entry;
+use machine_core::Machine;
+use std::alloc::{AllocError, Global};
+
+/// Makes an entry that is due, and appends all that is told of it; the lines are then those of the longer log.
+///
+/// It errs only for want of memory.
+pub fn trace(
+    alloc: Global,
+    facts: &mut Vec<Fact>,
+    machine: &mut Machine,
+    lines: &mut Lines,
+    entry: Entry,
+) -> Result<(), AllocError>
+    requires limits { InRange machine.old.setting.limits }
+    requires run { IsBlockRun machine.old.setting machine.old.log }
+    requires decided { IsDecided machine.old entry }
+    requires lines { AreLinesOf machine.old.setting.limits.harts (past_of machine.old) lines.old }
+    ensures machine { OnOk result
+        (machine.new ≡ record machine.old { log = machine.old.log ++ entry ∷ [] }) }
+    ensures run { OnOk result (IsBlockRun machine.new.setting machine.new.log) }
+    ensures facts { OnOk result (facts.new.items
+        ≡ facts.old.items ++ trace_of machine.old.setting (past_of machine.old) entry) }
+    ensures lines { OnOk result
+        (AreLinesOf machine.new.setting.limits.harts (past_of machine.new) lines.new) }
+{
+    plain_events_are_told_by_their_facts();
+    let Some(event) = plain_event(machine, entry) else {
+        tell_kernel(alloc, facts, machine, lines, entry)?;
+        return Ok(());
+    };
+    tell(facts, machine, lines, entry, &event)?;
+    Ok(())
+}

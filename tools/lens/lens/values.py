@@ -1,0 +1,120 @@
+"""What a run read and wrote, in words: the variable of an access, its value, and where the value came from.
+"""
+from __future__ import annotations
+
+from collections.abc import Iterator
+from dataclasses import dataclass
+
+from .calls import name_of
+from .facts import MEMORY, START, Called, Fact, Read, Reservation, Waits, Wrote, Zeroed
+from .faults import LensFault
+from .history import History
+from .machine import Machine
+from .output import DRAIN, EXEC, Step
+from .trace_text import Record, Trace
+
+PAGE, WORD = 4_096, 8
+
+
+@dataclass(frozen=True)
+class Values:
+    """A run, and what its events read and wrote."""
+
+    history: History
+    trace: Trace
+
+    def record(self, step: Step) -> Record:
+        return self.trace.records[step.number - 1]
+
+    def number(self, value: int, size: int) -> str:
+        """A value of so many bytes: a small one in decimal, with a sign where that makes it small; else in
+        hexadecimal, with the variable or the function whose address it is."""
+        if value < PAGE:
+            return str(value)
+        if value >= (1 << 8 * size) - PAGE and size > 1:
+            return str(value - (1 << 8 * size))
+        name = self.history.program.target(value) if size == WORD else ''
+        return f'{value:#x}' if name in ('', f'{value:#x}') else f'&{name}'
+
+    def place(self, at: int, size: int) -> str:
+        """The variable, or the member of one, that has so many bytes: where none has just these, the bytes
+        of a variable."""
+        return self.history.program.bytes_of(at, size)
+
+    def writer(self, line: int) -> str:
+        """The event of a line that wrote into memory."""
+        step = self.history.output.steps[line - 1]
+        if step.kind == DRAIN:
+            store = self.history.drained[line]
+            return f'store of step {store.number} by thread {store.thread}'
+        if self.is_own(step):
+            return f'{self.mnemonic(step)} of step {line} by thread {step.thread}'
+        return f'kernel in step {line} ({self.event(step)})'
+
+    def is_own(self, step: Step) -> bool:
+        """Whether what a step wrote is its instruction's, and not the kernel's."""
+        instruction = self.history.instructions.get(step.number)
+        return step.kind == DRAIN or bool(instruction and not instruction.is_call)
+
+    def mnemonic(self, step: Step) -> str:
+        return self.history.instructions[step.number].text.split(' ')[0]
+
+    def event(self, step: Step) -> str:
+        """The kind of an event, or the name of the call."""
+        if step.kind != EXEC:
+            return step.kind
+        call = self.record(step).first(Called)
+        return call.name if call else name_of(None)
+
+    def source(self, read: Read) -> str:
+        """Where the value of a read came from."""
+        if read.source == START or read.line is None:
+            return 'since the start'
+        return self.writer(read.line) if read.source == MEMORY else f'own store of step {read.line}'
+
+    def words(self, step: Step) -> str:
+        """What a step read and wrote, in a few words; empty where that is nothing."""
+        return '; '.join(self.parts(step))
+
+    def parts(self, step: Step) -> Iterator[str]:
+        record = self.record(step)
+        reads = list(record.of_kind(Read))
+        if reads:
+            whole = joined(reads)
+            sources = ' and '.join(dict.fromkeys(map(self.source, reads)))
+            yield f'{self.place(whole.at, whole.size)} = {self.number(whole.value, whole.size)}, {sources}'
+        written = [words for fact in record.facts if (words := self.of_fact(fact, bool(reads)))]
+        if written:
+            yield ('' if self.is_own(step) else 'kernel: ') + ', '.join(written)
+
+    def of_fact(self, fact: Fact, is_read: bool) -> str:
+        """A write, or an SC that failed. Behind a read the place of a write isn't named again."""
+        match fact:
+            case Waits(at, size, value):
+                return f'{self.place(at, size)} = {self.number(value, size)}, waits'
+            case Wrote(at, size, value, old, _):
+                put = f'{self.place(at, size)} = {self.number(value, size)}'
+                if is_read:
+                    return f'then {self.number(value, size)}'
+                return put if old is None else f'{put} in place of {self.number(old, size)}'
+            case Zeroed(at, length):
+                return f'{length} bytes of 0 at {self.history.program.variable(at)}'
+            case Reservation('failed', at):
+                return f'{self.history.program.variable(at)}, failed'
+        return ''
+
+
+def joined(reads: list[Read]) -> Read:
+    """The facts of one read as one, which are bytes that stand side by side."""
+    first = reads[0]
+    value = sum(read.value << 8 * (read.at - first.at) for read in reads)
+    return first._replace(size=sum(read.size for read in reads), value=value)
+
+
+def read_values(history: History, machine: Machine) -> Values:
+    """Asks the program what each step of a run did; a fault where that isn't the run."""
+    steps = history.output.steps
+    trace = machine.trace([step.line() for step in steps])
+    if [record.step for record in trace.records] != steps:
+        raise LensFault(f'what {machine.program} traces isn\'t the run of {history.output.name}')
+    return Values(history, trace)
