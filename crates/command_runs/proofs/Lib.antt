@@ -1,4 +1,5 @@
 mod Chosen
+mod LineParts
 mod NextLines
 mod OutputTexts
 mod Playing

@@ -1,6 +1,8 @@
 -- A log is made again, entry by entry, and told.
-use Rattle.std.proofs.Common.{◌≡◌, ℕ, ◌+◌, ◌<◌, List, [], ◌∷◌, ◌++◌, length, take, drop, get_or, ◌≤◌, refl, sym, ap, ◌∙◌, subst, arith, cond, Ok, append_assoc, append-nil, length-append}
+use Rattle.std.proofs.Common.{◌≡◌, ℕ, ◌+◌, ◌<◌, List, [], ◌∷◌, ◌++◌, length, take, drop, get_or, ◌≤◌, refl, sym, ap, ◌∙◌, subst, arith, cond, Ok, append_assoc, append-nil, length-append, Option, Some, None, take_all}
 use Rattle.std.specs.Prelude.{codes}
+use Rattle.std.specs.List.{flat_map}
+use Rattle.std.specs.Option.{option_to_list}
 use Rattle.std.proofs.lemmas.List.{drop_all, drop_more, take-append-drop, take_more}
 use Rattle.mach_types.specs.Events.{choice_of}
 use Rattle.mach_types.specs.Limits.{InRange}
@@ -13,18 +15,20 @@ use Rattle.block_model.specs.Run.{IsBlockRun}
 use Rattle.block_model.specs.Setting.{Seen, Setting}
 use Rattle.block_model.proofs.Laws.{history-append, history-nil, length-history, next_event, run_before, start_run}
 use Rattle.block_model.proofs.Swaps.Logs.{last_decided}
+use Rattle.block_view.specs.Passing.{IsMadeBy}
+use Rattle.block_view.specs.Turns.{turns}
+use Rattle.block_view.specs.declared.turns.Turn.{Turn}
 use Rattle.command_words.specs.declared.commands.LineSpan.{LineSpan}
 use Rattle.event_facts.specs.Lines.{next_line}
 use Rattle.event_facts.specs.Telling.{IsDecided, past_of}
-use Rattle.event_facts.specs.Tied.{AreLinesOf}
 use Rattle.event_facts.specs.Trace.{trace_of}
 use Rattle.event_facts.specs.declared.facts.Fact.{Fact}
-use Rattle.event_facts.specs.declared.lines.Lines.{Lines}
 use Rattle.fact_text.specs.Lines.{facts_text}
 use Rattle.place_text.specs.Ends.{number_line}
 use Rattle.step_log.specs.Text.{entry_text}
-use Rattle.outcomes.specs.Traces.{event_text, events_text, is_within}
-use Rattle.command_runs.specs.Tracing.{HasTold}
+use Rattle.outcomes.specs.Traces.{event_text, events_text, is_within, turn_line}
+use Rattle.command_runs.specs.Tracing.{HasTold, IsFollowed, turn_text}
+use Rattle.command_runs.specs.declared.tracing.Followed.{Followed}
 
 -- ONE ENTRY
 
@@ -34,33 +38,47 @@ line_is m m' e n made is =
     let grown = ap (λ (z : Seen). length z.log) made in
     omega (arith, is, grown, length-append m.log (e ∷ []), length-history m.setting m.log)
 
--- what is told of it, where its line is
-pub event_told : (span : LineSpan) (s : Setting) (before : History) (e : Entry) (n : ℕ) (facts : List Fact) → n ≡ next_line before → facts ≡ trace_of s before e
-    → cond (is_within span n) (entry_text e ++ number_line (codes "  line") n ++ facts_text facts) [] ≡ cond (is_within span (next_line before)) (event_text s before e) []
-unfolding event_text
-event_told span s before e n facts line told =
-    λ i. cond (is_within span (line i)) (entry_text e ++ number_line (codes "  line") (line i) ++ facts_text (told i)) []
+-- what it makes of the restartable sequences
+turn_told : (turn : Option Turn) (made : List Turn) → option_to_list turn ≡ made → turn_text turn ≡ flat_map turn_line made
+turn_told None made is = ap (flat_map turn_line) is
+turn_told (Some turn) made is = sym (append-nil (turn_line turn)) ∙ ap (flat_map turn_line) is
 
--- its hart is one digit
+-- what is told of it, where its line is
+pub event_told : (span : LineSpan) (s : Setting) (before : History) (e : Entry) (n : ℕ) (facts : List Fact) (turn : Option Turn) → n ≡ next_line before
+    → facts ≡ trace_of s before e → option_to_list turn ≡ turns s (event s before e) before
+    → cond (is_within span n) (entry_text e ++ number_line (codes "  line") n ++ facts_text facts ++ turn_text turn) []
+    ≡ cond (is_within span (next_line before)) (event_text s before e) []
+unfolding event_text
+event_told span s before e n facts turn line told made =
+    let turned : turn_text turn ≡ flat_map turn_line (turns s (event s before e) before) = turn_told turn (turns s (event s before e) before) made in
+    λ i. cond (is_within span (line i)) (entry_text e ++ number_line (codes "  line") (line i) ++ facts_text (told i) ++ turned i) []
+
+-- its hart is one of the machine's, and one digit
+pub its_place : (m : Seen) (e : Entry) → IsBlockRun m.setting m.log → IsDecided m e → e.hart.0 < m.setting.limits.harts
+its_place m e run decided = (next_event m e (done_of (choice_of e) (here_of m e.hart.0)) run decided refl).lt
+
 pub its_hart : (m : Seen) (e : Entry) → IsBlockRun m.setting m.log → IsDecided m e → InRange m.setting.limits → e.hart.0 < 8
 its_hart m e run decided limits =
-    let next = next_event m e (done_of (choice_of e) (here_of m e.hart.0)) run decided refl in
-    let lt = next.lt in
+    let lt = its_place m e run decided in
     let most = limits.eight_harts in
     omega arith
+
+-- the machine has made it
+pub is_made : (m m' : Seen) (e : Entry) → IsDecided m e → m' ≡ record m { log = m.log ++ e ∷ [] } → IsBlockRun m'.setting m'.log → IsMadeBy m m' e
+is_made m m' e decided longer run = record { decided = decided; longer = longer; block_run = run }
 
 -- A LOG
 
 -- before the first entry
-pub told_none : (s : Setting) (m : Seen) (x : Lines) → m.setting ≡ s → m.log ≡ [] → AreLinesOf m.setting.limits.harts [] x → HasTold s [] m x
-told_none s m x setting none lines = record {
-  setting = setting;
+pub told_none : (m : Seen) (x : Followed) → m.log ≡ [] → IsFollowed m x → HasTold m.setting [] m x
+told_none m x none followed = record {
+  setting = refl;
   made = none;
   run = subst (λ (log : List Entry). IsBlockRun m.setting log) (sym none) (start_run m.setting);
-  lines = subst (λ past. AreLinesOf m.setting.limits.harts past x) (sym (ap (history m.setting) none ∙ history-nil m.setting)) lines;
+  followed = followed;
 }
 
-module _ (s : Setting) (all : List Entry) (i : ℕ) (m : Seen) (x : Lines) (d : Entry) (was : HasTold s (take i all) m x) (lt : i < length all) where
+module _ (s : Setting) (all : List Entry) (i : ℕ) (m : Seen) (x : Followed) (d : Entry) (was : HasTold s (take i all) m x) (lt : i < length all) where
   -- the next entry, and the log with it
   abbrev e : Entry
   e = get_or all i d
@@ -78,13 +96,12 @@ module _ (s : Setting) (all : List Entry) (i : ℕ) (m : Seen) (x : Lines) (d : 
       (subst (λ (log : List Entry). decide s (history s log) e.hart.0 (choice_of e) ≡ Ok e) (sym was.made) decided)
 
   -- once it is made
-  pub told_next : (n : Seen) (y : Lines) → n ≡ record m { log = m.log ++ e ∷ [] } → IsBlockRun n.setting n.log → AreLinesOf n.setting.limits.harts (past_of n) y
-      → HasTold s (take (i + 1) all) n y
-  told_next n y made run lines = record {
+  pub told_next : (n : Seen) (y : Followed) → n ≡ record m { log = m.log ++ e ∷ [] } → IsBlockRun n.setting n.log → IsFollowed n y → HasTold s (take (i + 1) all) n y
+  told_next n y made run followed = record {
     setting = ap (λ (z : Seen). z.setting) made ∙ was.setting;
     made = ap (λ (z : Seen). z.log) made ∙ ap (λ (log : List Entry). log ++ e ∷ []) was.made ∙ sym next;
     run = run;
-    lines = lines;
+    followed = followed;
   }
 
   -- what is left to tell
@@ -109,6 +126,9 @@ module _ (s : Setting) (all : List Entry) (i : ℕ) (m : Seen) (x : Lines) (d : 
       ∙ so_far
 
 -- behind the last entry
+pub told_all : (s : Setting) (all : List Entry) (i : ℕ) (m : Seen) (x : Followed) → length all ≤ i → HasTold s (take i all) m x → HasTold s all m x
+told_all s all i m x past told = subst (λ (log : List Entry). HasTold s log m x) (take_all i all past) told
+
 pub text_end : (span : LineSpan) (s : Setting) (all : List Entry) (i : ℕ) (start text : List ℕ) → length all ≤ i
     → text ++ events_text span s (history s (take i all)) (drop i all) ≡ start ++ events_text span s [] all
     → text ≡ start ++ events_text span s [] all

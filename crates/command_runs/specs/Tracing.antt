@@ -1,15 +1,29 @@
 -- A log that is made again, entry by entry, and told.
-use Rattle.std.specs.Prelude.{◌≡◌, List}
+use Rattle.std.specs.Prelude.{◌≡◌, ℕ, List, [], Option, Some, None}
 use Rattle.mach_types.specs.declared.events.Entry.{Entry}
 use Rattle.block_model.specs.Run.{IsBlockRun}
 use Rattle.block_model.specs.Setting.{Seen, Setting}
+use Rattle.block_view.specs.Ledgers.{kept_in}
+use Rattle.block_view.specs.Tied.{IsOfLog}
+use Rattle.block_view.specs.declared.turns.Turn.{Turn}
 use Rattle.event_facts.specs.Telling.{past_of}
 use Rattle.event_facts.specs.Tied.{AreLinesOf}
-use Rattle.event_facts.specs.declared.lines.Lines.{Lines}
+use Rattle.outcomes.specs.Traces.{turn_line}
+use Rattle.command_runs.specs.declared.tracing.Followed.{Followed}
 
--- a machine has made these entries of a setting, and the lines that are kept are theirs
-pub record HasTold (s : Setting) (log : List Entry) (m : Seen) (x : Lines) : Type 0 where
+-- what is followed of a machine's log: its lines, and its restartable sequences
+pub record IsFollowed (m : Seen) (x : Followed) : Type 0 where
+  pub lines : AreLinesOf m.setting.limits.harts (past_of m) x.lines
+  pub sequences : IsOfLog m (kept_in x.ledger)
+
+-- a machine has made these entries of a setting, and this is followed of them
+pub record HasTold (s : Setting) (log : List Entry) (m : Seen) (x : Followed) : Type 0 where
   pub setting : m.setting ≡ s
   pub made : m.log ≡ log
   pub run : IsBlockRun m.setting m.log
-  pub lines : AreLinesOf m.setting.limits.harts (past_of m) x
+  pub followed : IsFollowed m x
+
+-- the line of what an event makes of the sequences, of which at most one begins or ends
+abbrev pub turn_text : Option Turn → List ℕ
+turn_text None = []
+turn_text (Some turn) = turn_line turn

@@ -7,7 +7,8 @@ ghost use Rattle.elf_load.specs.Images.{IsBootable};
 ghost use Rattle.block_model.specs.Run.{IsBlockRun};
 ghost use Rattle.block_model.specs.Setting.{setting_of};
 ghost use Rattle.block_view.specs.Acts.{acts_of};
-ghost use Rattle.outcomes.specs.Summary.{act_line};
+ghost use Rattle.place_text.specs.Fields.{behind};
+ghost use Rattle.outcomes.specs.Summary.{act_line, form_fields};
 
 use block_view::{Act, Acts, Form, SeqEnd, ViewFault, acts, form_word};
 use elf_load::Image;
@@ -48,6 +49,17 @@ pub(crate) fn acts_text(alloc: Global, acts: &Acts) -> Result<Vec<u8>, AllocErro
     Ok(text)
 }
 
+/// Appends the word of a form; behind `cut` where the thread goes on.
+pub(crate) fn push_form(text: &mut Vec<u8>, form: Form) -> Result<(), AllocError>
+    ensures { OnOk result (text.new.items ≡ text.old.items ++ behind (form_fields form)) }
+{
+    push_word(text, form_word(form))?;
+    if let Form::Sequence(SeqEnd::Cut(at)) = form {
+        push_value(text, at)?;
+    }
+    Ok(())
+}
+
 /// Appends the line of an act.
 fn push_act(text: &mut Vec<u8>, act: &Act) -> Result<(), AllocError>
     ensures { OnOk result (text.new.items ≡ text.old.items ++ act_line act.now) }
@@ -56,9 +68,6 @@ fn push_act(text: &mut Vec<u8>, act: &Act) -> Result<(), AllocError>
     push_number(text, u64::from(act.first))?;
     push_number(text, u64::from(act.last))?;
     push_number(text, u64::from(act.tid.0))?;
-    push_word(text, form_word(act.form))?;
-    if let Form::Sequence(SeqEnd::Cut(at)) = act.form {
-        push_value(text, at)?;
-    }
+    push_form(text, act.form)?;
     text.extend_from_slice(b"\n")
 }

@@ -8,6 +8,7 @@ mod pairs;
 mod rounds;
 mod run;
 mod scripts;
+mod sequences;
 mod shared;
 mod solo;
 mod summary;

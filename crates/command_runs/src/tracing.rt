@@ -1,21 +1,27 @@
 //! A trace: the lines of a run's log, below each what came of its event, and the run's end.
 
 ghost use Rattle.std.specs.Prelude.{◌≡◌, ◌<◌, ◌++◌, ◌∷◌, [], IfOk, OnOk, codes, if◌then◌else◌};
+ghost use Rattle.std.specs.List.{flat_map};
 ghost use Rattle.mach_types.specs.Limits.{InRange};
 ghost use Rattle.elf_load.specs.Images.{IsBootable};
 ghost use Rattle.block_model.specs.Deciding.{end_of, history};
 ghost use Rattle.block_model.specs.History.{kernel};
 ghost use Rattle.block_model.specs.Run.{IsBlockRun};
-ghost use Rattle.block_model.specs.Setting.{setting_of};
+ghost use Rattle.block_model.specs.Setting.{Seen, setting_of};
+ghost use Rattle.block_view.specs.Ledgers.{kept_in};
+ghost use Rattle.block_view.specs.Tied.{IsOfLog};
+ghost use Rattle.block_view.specs.Turns.{acts_left_open};
+ghost use Rattle.command_runs.specs.Tracing.{HasTold, IsFollowed, turn_text};
 ghost use Rattle.event_facts.specs.Lines.{next_line};
 ghost use Rattle.event_facts.specs.Telling.{IsDecided, past_of};
-ghost use Rattle.event_facts.specs.Tied.{AreLinesOf};
 ghost use Rattle.fact_text.specs.Lines.{facts_text};
 ghost use Rattle.place_text.specs.Ends.{number_line};
 ghost use Rattle.step_log.specs.Text.{entry_text};
 ghost use Rattle.outcomes.specs.Traces as spec;
-ghost use Rattle.outcomes.specs.Traces.{event_text, events_text, stuck_text, trace_tail, waiting_line, waiting_text};
+ghost use Rattle.outcomes.specs.Traces.{ends_line, event_text, events_text, open_text, stuck_text, trace_tail, waiting_line, waiting_text};
 
+use crate::sequences::{push_ends, push_turn};
+use block_view::{Ledger, Turn, seen_after, seen_ahead};
 use command_words::LineSpan;
 use elf_load::Image;
 use event_facts::{Fact, Lines, trace};
@@ -41,20 +47,42 @@ fn is_within(span: &LineSpan, number: usize) -> bool
     span.from as usize <= number && ends
 }
 
-/// Appends what is told of an entry: its line, the number of that, and the lines of what came of it.
+/// What is followed of a log: which of its lines did what to memory, and its restartable sequences.
+#[derive(Drop)]
+struct Followed {
+    lines: Lines,
+    ledger: Ledger,
+}
+
+impl Followed {
+    /// That of a log with no entries, on so many harts. It errs only for want of memory.
+    fn new(alloc: Global, harts: u8) -> Result<Followed, AllocError>
+        ensures { (m : Seen) → m.setting.limits.harts ≡ harts → m.log ≡ []
+            → IfOk result (λ followed. IsFollowed m followed) }
+    {
+        let lines = Lines::new(alloc, harts)?;
+        let ledger = Ledger::new(alloc, harts)?;
+        Ok(Followed { lines, ledger })
+    }
+}
+
+/// Appends what is told of an entry: its line, the number of that, the lines of what came of it, and what it made of
+/// the restartable sequences.
 fn push_event(
     text: &mut Vec<u8>,
     entry: Entry,
     number: usize,
     facts: &[Fact],
+    turn: Option<Turn>,
 ) -> Result<(), AllocError>
     requires { entry.hart.0 < 8 }
-    ensures { OnOk result (text.new.items ≡ text.old.items
-        ++ (entry_text entry ++ number_line (codes "  line") number ++ facts_text facts.now)) }
+    ensures { OnOk result (text.new.items ≡ text.old.items ++ (entry_text entry
+        ++ number_line (codes "  line") number ++ facts_text facts.now ++ turn_text turn)) }
 {
     push_lines(text, &[entry])?;
     push_number_line(text, b"  line", number)?;
     push_facts(text, facts)?;
+    push_turn(text, turn)?;
     Ok(())
 }
 
@@ -65,15 +93,17 @@ fn push_within(
     entry: Entry,
     number: usize,
     facts: &[Fact],
+    turn: Option<Turn>,
 ) -> Result<(), AllocError>
     requires { entry.hart.0 < 8 }
     ensures { OnOk result (text.new.items ≡ text.old.items ++ (if spec.is_within span.now number
-        then entry_text entry ++ number_line (codes "  line") number ++ facts_text facts.now else [])) }
+        then entry_text entry ++ number_line (codes "  line") number ++ facts_text facts.now ++ turn_text turn
+        else [])) }
 {
     if !is_within(span, number) {
         return Ok(());
     }
-    push_event(text, entry, number, facts)?;
+    push_event(text, entry, number, facts, turn)?;
     Ok(())
 }
 
@@ -83,26 +113,28 @@ fn push_next(
     text: &mut Vec<u8>,
     span: &LineSpan,
     machine: &mut Machine,
-    lines: &mut Lines,
+    followed: &mut Followed,
     facts: &mut Vec<Fact>,
     entry: Entry,
 ) -> Result<(), AllocError>
     requires limits { InRange machine.old.setting.limits }
     requires run { IsBlockRun machine.old.setting machine.old.log }
     requires decided { IsDecided machine.old entry }
-    requires lines { AreLinesOf machine.old.setting.limits.harts (past_of machine.old) lines.old }
+    requires followed { IsFollowed machine.old followed.old }
     ensures machine { OnOk result
         (machine.new ≡ record machine.old { log = machine.old.log ++ entry ∷ [] }) }
     ensures run { OnOk result (IsBlockRun machine.new.setting machine.new.log) }
-    ensures lines { OnOk result
-        (AreLinesOf machine.new.setting.limits.harts (past_of machine.new) lines.new) }
+    ensures followed { OnOk result (IsFollowed machine.new followed.new) }
     ensures text { OnOk result (text.new.items ≡ text.old.items
         ++ (if spec.is_within span.now (next_line (past_of machine.old))
         then event_text machine.old.setting (past_of machine.old) entry else [])) }
 {
     facts.clear();
-    trace(alloc, facts, machine, lines, entry)?;
-    push_within(text, span, entry, machine.log().len(), facts)?;
+    let ahead = seen_ahead(machine, entry);
+    trace(alloc, facts, machine, &mut followed.lines, entry)?;
+    let passed = seen_after(machine, entry, ahead);
+    let turn = followed.ledger.follow(&passed)?;
+    push_within(text, span, entry, machine.log().len(), facts, turn)?;
     Ok(())
 }
 
@@ -112,20 +144,56 @@ fn push_events(
     text: &mut Vec<u8>,
     span: &LineSpan,
     machine: &mut Machine,
-    lines: &mut Lines,
+    followed: &mut Followed,
     log: &[Entry],
 ) -> Result<(), AllocError>
     requires limits { InRange machine.old.setting.limits }
     requires start { machine.old.log ≡ [] }
-    requires lines { AreLinesOf machine.old.setting.limits.harts [] lines.old }
+    requires followed { IsFollowed machine.old followed.old }
     requires run { IsBlockRun machine.old.setting log.now }
-    ensures { OnOk result (text.new.items ≡ text.old.items
+    ensures told { OnOk result (HasTold machine.old.setting log.now machine.new followed.new) }
+    ensures text { OnOk result (text.new.items ≡ text.old.items
         ++ events_text span.now machine.old.setting [] log.now) }
 {
     let mut facts = Vec::new(alloc);
     for entry in log {
-        push_next(alloc, text, span, machine, lines, &mut facts, *entry)?;
+        push_next(alloc, text, span, machine, followed, &mut facts, *entry)?;
     }
+    Ok(())
+}
+
+/// Appends the lines of the restartable sequences that no line of a machine's log has ended.
+fn push_unended(
+    alloc: Global,
+    text: &mut Vec<u8>,
+    ledger: Ledger,
+    machine: &Machine,
+) -> Result<(), AllocError>
+    requires { IsOfLog machine.now (kept_in ledger) }
+    ensures { let s = machine.now.setting in OnOk result (text.new.items
+        ≡ text.old.items ++ flat_map ends_line (acts_left_open s (history s machine.now.log))) }
+{
+    let acts = ledger.ends(alloc, machine, machine.harts())?;
+    push_ends(text, &acts)?;
+    Ok(())
+}
+
+/// Appends the same, where the last line of the log is told.
+fn push_open(
+    alloc: Global,
+    text: &mut Vec<u8>,
+    span: &LineSpan,
+    ledger: Ledger,
+    machine: &Machine,
+) -> Result<(), AllocError>
+    requires { IsOfLog machine.now (kept_in ledger) }
+    ensures { OnOk result (text.new.items
+        ≡ text.old.items ++ open_text span.now machine.now.setting machine.now.log) }
+{
+    if !is_within(span, machine.log().len()) {
+        return Ok(());
+    }
+    push_unended(alloc, text, ledger, machine)?;
     Ok(())
 }
 
@@ -196,16 +264,17 @@ pub(crate) fn trace_text(
         (λ text. text.items ≡ spec.trace_text span.now machine.now.setting machine.now.log) }
 {
     let mut again = Machine::boot(alloc, image, *limits, NO_SEED)?;
-    let mut lines = Lines::new(alloc, limits.harts)?;
+    let mut followed = Followed::new(alloc, limits.harts)?;
     let mut text = Vec::new(alloc);
     push_events(
         alloc,
         &mut text,
         span,
         &mut again,
-        &mut lines,
+        &mut followed,
         machine.log(),
     )?;
+    push_open(alloc, &mut text, span, followed.ledger, &again)?;
     push_tail(&mut text, machine)?;
     Ok(text)
 }

@@ -1,4 +1,4 @@
--- Worked examples of traces, by computation: of a whole log, of some of its lines, and of a run that is stuck.
+-- Worked examples of traces, by computation: of a whole log, of some of its lines, of sequences, and of a run that is stuck.
 use Rattle.std.proofs.Common.{◌≡◌, ℕ, List, [], ◌∷◌, ◌++◌, Option, Some, None, replicate, refl, codes}
 use Rattle.std.specs.Fmt.{digits}
 use Rattle.mach_types.specs.Kernel.Areas.{are_readable, number_at}
@@ -12,6 +12,11 @@ use Rattle.rv_inst.specs.Meaning.{meaning}
 use Rattle.rv_inst.specs.Table.{row_of, rows, lui_rows, auipc_rows, jal_rows, jalr_rows, branch_rows, load_rows, store_rows, op_imm_rows, op_imm_32_rows, op_rows, op_32_rows, misc_mem_rows, amo_rows, system_rows}
 use Rattle.block_model.specs.Deciding.{done, end_of, history}
 use Rattle.block_model.specs.Setting.{Setting}
+use Rattle.block_model.specs.declared.acts.SeqEnd.{SeqEnd}
+use Rattle.block_model.specs.declared.acts.SeqEnd.TheVariants as ends
+use Rattle.block_view.specs.declared.forms.Form.TheVariants.{Sequence}
+use Rattle.block_view.specs.declared.turns.Turn.{Turn}
+use Rattle.block_view.specs.declared.turns.Turn.TheVariants.{Begins, Ends}
 use Rattle.command_words.specs.declared.commands.LineSpan.{LineSpan}
 use Rattle.event_facts.specs.Facts.{facts_of, read_facts}
 use Rattle.event_facts.specs.OtherRegisters.{other_registers}
@@ -19,7 +24,7 @@ use Rattle.event_facts.specs.Pending.{signal_facts}
 use Rattle.event_facts.specs.Threads.{thread_facts}
 use Rattle.event_facts.specs.Trace.{trace_of}
 use Rattle.fact_text.specs.Lines.{facts_text}
-use Rattle.outcomes.specs.Traces.{event_text, stuck_text, trace_text, waiting_text}
+use Rattle.outcomes.specs.Traces.{event_text, stuck_text, trace_text, turn_line, waiting_text}
 use Rattle.place_text.specs.Registers.{register_names}
 use Rattle.step_log.specs.Text.{hex_text}
 
@@ -73,6 +78,23 @@ all_lines = refl
 one_line : trace_text (lines 4 (Some 4)) program log ≡ load_told ++ codes "end open\n"
 unfolding trace_text event_text facts_text digits hex_text register_names history trace_of signal_facts thread_facts other_registers facts_of read_facts done end_of meaning row_of rows lui_rows auipc_rows jal_rows jalr_rows branch_rows load_rows store_rows op_imm_rows op_imm_32_rows op_rows op_32_rows misc_mem_rows amo_rows system_rows are_readable number_at
 one_line = refl
+
+-- a sequence of 12 bytes begins; and one has ended, of lines 14 and 15: by its own last instruction, or cut
+abbrev ends_so : SeqEnd → Turn
+ends_so end = Ends (record { hart = record { 0 = 0 }; first = 14; last = 15; tid = record { 0 = 1 }; form = Sequence end })
+
+begins : turn_line (Begins (record { start = 0x100DC; length = 12; abort = 0x100F8 }))
+    ≡ codes "  sequence begins 00000000000100dc 12 00000000000100f8\n"
+unfolding digits hex_text
+begins = refl
+
+is_left : turn_line (ends_so ends.Left) ≡ codes "  sequence ends left first 14 last 15\n"
+unfolding digits
+is_left = refl
+
+is_cut : turn_line (ends_so (ends.Cut 0x100F8)) ≡ codes "  sequence ends cut 00000000000100f8 first 14 last 15\n"
+unfolding digits hex_text
+is_cut = refl
 
 -- threads 1 and 3 wait; 2 has ended
 abbrev thread_at : ℕ → ℕ → Thread

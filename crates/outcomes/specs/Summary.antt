@@ -57,12 +57,14 @@ barriers_in log = count_by (λ (e : Entry). is_return e.kind) log
 abbrev pub barriers_line : List Entry → List ℕ
 barriers_line log = number_line (codes "barriers") (barriers_in log)
 
--- `HART FIRST LAST TID FORM`: an act's hart, its first and its last entry, its thread and its form; behind `cut` where the
--- thread goes on
+-- the fields of a form: its word; behind `cut` where the thread goes on
+abbrev pub form_fields : Form → List (List ℕ)
+form_fields form = form_word form ∷ option_to_list (option_map value_text (cut_at form))
+
+-- `HART FIRST LAST TID FORM`: an act's hart, its first and its last entry, its thread and its form
 abbrev pub act_line : Act → List ℕ
-act_line act = line (decimal act.hart.0)
-    (decimal act.first ∷ decimal act.last ∷ decimal act.tid.0 ∷ form_word act.form
-    ∷ option_to_list (option_map value_text (cut_at act.form)))
+act_line act =
+    line (decimal act.hart.0) (decimal act.first ∷ decimal act.last ∷ decimal act.tid.0 ∷ form_fields act.form)
 
 -- the summary of a run on so many harts: of its acts, its log and its end
 unfoldable pub summary_text : ℕ → List Act → List Entry → End → List ℕ

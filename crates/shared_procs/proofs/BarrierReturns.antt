@@ -1,6 +1,7 @@
 -- In a pair run a barrier returns only where each hart that it is about is passed (membarrier(2)): what the hart stored before the call, of
 -- either process, is in memory. While a thread waits in its barrier, each hart that the barrier is about is left or passed.
 use Rattle.std.proofs.lemmas.Nat.Bits.{bit_at-zero}
+use Rattle.std.proofs.lemmas.Option.{same_Some}
 use Rattle.mach_types.specs.declared.events.Choice.TheVariants as asked
 use Rattle.mach_types.specs.declared.events.Kind.TheVariants as kind
 use Rattle.block_model.specs.Events.Finish.{refusal_return}
@@ -207,16 +208,6 @@ run_before s (e ∷ later) past run = (run_before s later (event_two s past e �
 pub none_left : (k : ℕ) → has_hart 0 k ≡ false
 none_left k = ap (λ n. eqb n 1) (bit_at-zero k)
 
-one_newest : (a b : PairBegun) (o : Option PairBegun) → o ≡ Some a → o ≡ Some b → a ≡ b
-one_newest a b o is its = cc
-
-all_passed : (s : PairSetting) (before : PairHistory) (p : Bool) (h : ℕ) (b : PairBegun) (k : ℕ) → IsPassedSoFar s before p h 0 → begun_by p h before ≡ Some b
-    → has_hart b.barrier.targets k ≡ true → executed k b.call ≤ entered s k before
-all_passed s before p h b k so newest about =
-    let same = one_newest so.begun b (begun_by p h before) so.newest newest in
-    subst (λ (x : PairBegun). executed k x.call ≤ entered s k before) same
-    (so.passed k (subst (λ (x : PairBegun). has_hart x.barrier.targets k ≡ true) (sym same) about) (none_left k))
-
 module _ (s : PairSetting) (earlier later : List Entry) (entry : Entry) (run : IsPairRun s (earlier ++ entry ∷ later)) (is : entry.kind ≡ kind.Done) where
   abbrev before : PairHistory
   before = pair_history s earlier
@@ -238,4 +229,8 @@ module _ (s : PairSetting) (earlier later : List Entry) (entry : Entry) (run : I
 
   pub stores_entered : (b : PairBegun) (k : ℕ) → returning s earlier entry.hart.0 ≡ Some b → has_hart b.barrier.targets k ≡ true
       → executed k b.call ≤ entered s k (pair_history s earlier)
-  stores_entered b k newest about = all_passed s before (on_hart m entry.hart.0) entry.hart.0 b k returned_at newest about
+  stores_entered b k newest about =
+      let so = returned_at in
+      let same = same_Some so.begun b (sym so.newest ∙ newest) in
+      subst (λ (x : PairBegun). executed k x.call ≤ entered s k before) same
+      (so.passed k (subst (λ (x : PairBegun). has_hart x.barrier.targets k ≡ true) (sym same) about) (none_left k))

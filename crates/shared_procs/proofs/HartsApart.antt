@@ -1,10 +1,11 @@
 -- A hart runs threads of one process alone; and where it runs none of a process, no store of the process waits there.
+use Rattle.std.proofs.lemmas.Bool.{not-true}
 use Rattle.std.specs.List.{list_any}
 use Rattle.mach_types.specs.Kernel.Threads.{goes_on as thread_goes_on, is_running_on, is_waiting_state}
 use Rattle.mach_types.specs.declared.events.Choice.TheVariants as asked
 use Rattle.mach_types.specs.declared.limits.End.TheVariants as over
 use Rattle.mach_types.specs.declared.threads.ThreadState.TheVariants.{Waiting}
-use Rattle.shared_procs.proofs.Common.{◌≡◌, ◌≢◌, ◌⊎◌, inl, inr, ℕ, ◌<◌, ◌&&◌, ◌||◌, List, [], ◌∷◌, Bool, true, false, not, cond, Option, None, Some, is_none, is_some, length, find, nat_le, refl, sym, ap, ◌∙◌, subst, acting, apply, apply_two, cases_eq, Choice, choice_of, Done, done_of, End, ended_if, Entry, final, goes_on, half, here_two, is_of_second, is_on, is_stuck, is_take, IsFit, IsPairRun, IsPairRunHistory, Neighbour, neighbour, on_hart, option_map, option_or, own_choice, Pair, pair_after, pair_history, PairEvent, PairHistory, PairSetting, Plain, plain_over, refusal_of, refusal_two, running_on, runs_in, stand, stand_next, Thread, Threads, ThreadState}
+use Rattle.shared_procs.proofs.Common.{◌≡◌, ◌≢◌, ◌⊎◌, inl, inr, ℕ, ◌<◌, ◌||◌, List, [], ◌∷◌, Bool, true, false, not, cond, Option, None, Some, is_none, is_some, length, find, nat_le, refl, sym, ap, ◌∙◌, subst, acting, apply, apply_two, cases_eq, Choice, choice_of, Done, done_of, End, ended_if, Entry, final, goes_on, half, here_two, is_of_second, is_on, is_stuck, is_take, IsFit, IsPairRun, IsPairRunHistory, Neighbour, neighbour, on_hart, option_map, option_or, own_choice, Pair, pair_after, pair_history, PairEvent, PairHistory, PairSetting, Plain, plain_over, refusal_of, refusal_two, running_on, runs_in, stand, stand_next, Thread, Threads, ThreadState, and_parts}
 use Rattle.shared_procs.proofs.EventFacts.{does_so}
 use Rattle.shared_procs.proofs.Halves.{each_half, open_of}
 use Rattle.shared_procs.proofs.Refusals.{begins}
@@ -31,12 +32,9 @@ none_found k (th ∷ live) is = by th.state is (none_found k live)
     by st none rest = cc
 
 stuck_idle : (k : ℕ) (ts : Threads) → is_stuck ts ≡ true → running_on k ts ≡ None
-stuck_idle k ts is = by (nat_le 1 (length ts.live)) (list_any thread_goes_on ts.live) refl is
-  where
-    by : (some any : Bool) → list_any thread_goes_on ts.live ≡ any → (some && not any) ≡ true → running_on k ts ≡ None
-    by true true is both = cc
-    by true false is both = ap (option_map (λ (th : Thread). th.tid)) (none_found k ts.live is)
-    by false any is both = cc
+stuck_idle k ts is =
+    let none = not-true (list_any thread_goes_on ts.live) (and_parts (nat_le 1 (length ts.live)) (not (list_any thread_goes_on ts.live)) is).1 in
+    ap (option_map (λ (th : Thread). th.tid)) (none_found k ts.live none)
 
 -- so where no event ended a process, a hart on which it runs nothing is idle
 idle_of : (x : Plain) (k : ℕ) → x.ended ≡ None → cond (is_none (plain_over x)) (running_on k x.kernel.threads) None ≡ None → running_on k x.kernel.threads ≡ None

@@ -1,7 +1,7 @@
 -- How the processes of a pair end: an event ends a process by its exit or by a signal. So what is kept of a process tells whether an
 -- event ended it, or no thread of it can go on.
 use Rattle.mach_types.specs.declared.limits.End.TheVariants as over
-use Rattle.shared_procs.proofs.Common.{◌≡◌, ◌≢◌, Bool, true, false, not, ◌&&◌, cond, [], ◌∷◌, Option, Some, None, is_some, refl, sym, ap, ◌∙◌, subst, acting, apply, choice_of, End, ended_if, ends_by_process, Entry, event_two, half, has_ended, here_two, is_stuck, IsPairRunHistory, option_or, own_choice, Pair, pair_after, PairEvent, PairHistory, PairSetting, Plain, plain_over, state_of_end}
+use Rattle.shared_procs.proofs.Common.{◌≡◌, ◌≢◌, Bool, true, false, not, ◌&&◌, cond, [], ◌∷◌, Option, Some, None, is_some, refl, sym, ap, ◌∙◌, subst, acting, choice_of, End, ends_by_process, Entry, event_two, half, has_ended, here_two, is_stuck, IsPairRunHistory, option_or, own_choice, Pair, pair_after, PairEvent, PairHistory, PairSetting, Plain, plain_over, state_of_end}
 use Rattle.shared_procs.proofs.Halves.{each_half}
 
 -- no event ended it as one that is stuck

@@ -3,7 +3,7 @@
 use Rattle.elf_load.specs.Start.{start_runs}
 use Rattle.block_model.specs.Layouts.{IsLaidOut}
 use Rattle.block_model.proofs.Laws.{IsPaged, loaded_is_laid_out, no_area_after, none_in_gap, paged_start}
-use Rattle.shared_procs.proofs.Common.{◌≡◌, Bool, true, false, not, [], ◌∷◌, Option, Some, None, refl, sym, ap, ◌∙◌, subst, arith, all_stored, apply, AreOfImages, choice_of, closing, Done, done_of, End, ended_if, half, here_two, IsPairRunHistory, Kernel, neighbour, own_choice, pair_after, pair_start, PairEvent, PairHistory, PairSetting, permission_of, Plain, Program, setting}
+use Rattle.shared_procs.proofs.Common.{◌≡◌, Bool, true, false, not, [], ◌∷◌, refl, sym, ap, ◌∙◌, subst, arith, all_stored, AreOfImages, choice_of, closing, Done, done_of, half, here_two, IsPairRunHistory, Kernel, neighbour, own_choice, pair_after, pair_start, PairEvent, PairHistory, PairSetting, permission_of, Program, setting}
 use Rattle.shared_procs.proofs.Halves.{each_half}
 use Rattle.shared_procs.proofs.HartsApart.{event_of}
 use Rattle.shared_procs.proofs.InsideWrites.{AreInside, closing_inside, done_inside, inside_both}

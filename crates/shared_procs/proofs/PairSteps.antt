@@ -1,7 +1,7 @@
 -- One event more of a pair: where a hart may be asked, what is answered, that the longer log is a pair run; and the pair after a step of one
 -- of its processes.
 use Rattle.mach_types.specs.declared.events.Choice.TheVariants as asked
-use Rattle.shared_procs.proofs.Common.{◌≡◌, ℕ, ◌-◌, ◌<◌, ◌≤◌, Bool, true, false, not, cond, leb-true, List, [], ◌∷◌, ◌++◌, Option, Some, None, Result, Ok, Err, IfOk, arith, refl, sym, ap, ◌∙◌, subst, OnErr, vec_len, vec_capacity, acting, apply_two, AreBoth, Choice, choice_of, done_two, Entry, entry_two, event_two, Half, half, Hart, InRange, is_of_second, is_over, IsAsked, IsPairRun, IsPairRunHistory, lt-leb, number_in_log, own_choice, Pair, pair_after, pair_decide, pair_history, PairHistory, PairRefused, PairSetting, refusal_as, refusal_two, SECOND_THREADS, setting, Tid, unless_two, Why, AreTied, done_as, entry_as, Inside, pair_seen, seen, setting_of, IsPair, PairSeen}
+use Rattle.shared_procs.proofs.Common.{◌≡◌, ℕ, ◌-◌, ◌<◌, ◌≤◌, Bool, true, false, not, cond, leb-true, List, [], ◌∷◌, ◌++◌, Option, Some, None, Result, Ok, Err, IfOk, arith, refl, sym, ap, ◌∙◌, subst, OnErr, vec_len, vec_capacity, acting, apply_two, AreBoth, Choice, choice_of, done_two, Entry, entry_two, Half, half, Hart, InRange, is_of_second, is_over, IsAsked, IsPairRun, IsPairRunHistory, lt-leb, number_in_log, own_choice, Pair, pair_after, pair_decide, pair_history, PairRefused, PairSetting, refusal_as, refusal_two, SECOND_THREADS, setting, Tid, unless_two, Why, AreTied, done_as, entry_as, Inside, pair_seen, seen, setting_of, IsPair, PairSeen}
 use Rattle.shared_procs.proofs.BarrierReturns.{history_more}
 use Rattle.shared_procs.proofs.Refusals.{choice_goes, decided_as, refusal_is}
 use Rattle.shared_procs.proofs.SameRequests.{AreAlike, alike_after, made_is}

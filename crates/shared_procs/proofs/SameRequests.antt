@@ -1,6 +1,6 @@
 -- Both processes of a pair see the same requests of barriers, and count the same events: as many as the log has entries.
 use Rattle.block_model.specs.Requests.{requests_after, restart_after}
-use Rattle.shared_procs.proofs.Common.{◌≡◌, ℕ, suc, ◌+◌, Bool, true, false, List, [], ◌∷◌, length, fold, refl, sym, ap, ◌∙◌, arith, apply_two, Done, Entry, event_two, Pair, pair_after, pair_history, PairHistory, PairSetting, Plain}
+use Rattle.shared_procs.proofs.Common.{◌≡◌, ℕ, suc, ◌+◌, Bool, true, false, List, [], ◌∷◌, length, fold, refl, ap, ◌∙◌, arith, apply_two, Done, Entry, event_two, Pair, pair_after, pair_history, PairHistory, PairSetting}
 
 pub record AreAlike (m : Pair) : Type 0 where
   pub requests : (k : ℕ) → m.first.requests k ≡ m.second.requests k

@@ -1,6 +1,6 @@
 -- Each process of a pair that goes on stands at each place of a pair run.
 use Rattle.block_model.proofs.Laws.{stand_aside, stand_fit, standing, start_plain, start_run}
-use Rattle.shared_procs.proofs.Common.{List, [], ◌∷◌, ◌≡◌, ℕ, ◌<◌, Bool, true, false, not, leb, Option, None, Some, Ok, is_none, refl, sym, ap, ◌∙◌, subst, acting, apply, apply_two, Choice, choice_of, Done, done_of, done_two, End, ended_if, Entry, entry_two, filter, final, goes_on, half, here_two, is_over, is_shared, IsFit, IsPairRun, IsPairRunHistory, IsStanding, leb-false, Neighbour, neighbour, option_or, own_choice, Pair, pair_after, pair_decide, pair_history, pair_start, PairEvent, PairHistory, PairSetting, Plain, plain_over, plain_start, refusal_two, running_on, Setting, setting, Stand, stand, stand_next, unless_two, Why}
+use Rattle.shared_procs.proofs.Common.{List, [], ◌∷◌, ◌≡◌, ℕ, ◌<◌, Bool, true, false, not, leb, Option, None, Some, Ok, is_none, refl, sym, ◌∙◌, subst, acting, apply, apply_two, Choice, choice_of, done_of, done_two, ended_if, Entry, entry_two, filter, goes_on, half, here_two, is_over, is_shared, IsFit, IsPairRun, IsPairRunHistory, IsStanding, leb-false, Neighbour, neighbour, own_choice, Pair, pair_after, pair_decide, pair_history, pair_start, PairEvent, PairHistory, PairSetting, Plain, plain_over, plain_start, refusal_two, running_on, Setting, setting, Stand, stand, stand_next, unless_two, Why}
 use Rattle.shared_procs.proofs.Halves.{each_half, open_of, open_so_far}
 use Rattle.shared_procs.proofs.Refusals.{IsFreeAs, choice_goes, decide_with, free_as, refusal_is}
 

@@ -1,5 +1,5 @@
 -- What a hart executed has entered, or waits: over both processes.
-use Rattle.shared_procs.proofs.Common.{◌≡◌, ℕ, ◌+◌, ◌≤◌, ◌++◌, List, [], ◌∷◌, length, drop, length-append, length-drop, Bool, true, false, cond, eqb, not, Option, None, Some, is_some, refl, ap, ◌∙◌, subst, arith, apply, apply_two, Done, End, ended_if, entered, eqb-true, executed, half, IsPairRunHistory, pair_after, PairEvent, PairHistory, PairSetting, Plain, Store}
+use Rattle.shared_procs.proofs.Common.{◌≡◌, ℕ, ◌+◌, ◌≤◌, ◌++◌, List, [], ◌∷◌, length, drop, length-append, length-drop, Bool, true, false, cond, eqb, not, Option, None, Some, is_some, refl, ap, ◌∙◌, subst, arith, apply_two, Done, End, entered, eqb-true, executed, half, IsPairRunHistory, pair_after, PairEvent, PairHistory, PairSetting, Plain, Store}
 use Rattle.shared_procs.proofs.Halves.{other_half, own_half, waits, waits_by_half}
 use Rattle.shared_procs.proofs.HartsApart.{event_of}
 

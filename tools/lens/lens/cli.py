@@ -357,9 +357,7 @@ def calls_command(arguments: argparse.Namespace) -> None:
 
 
 def sequences_command(arguments: argparse.Namespace) -> None:
-    history, machine = read_history(arguments), machine_of(arguments)
-    values = read_values(history, machine) if arguments.values else None
-    rows = list_sequences(history, machine, arguments.thread, values)
+    rows = list_sequences(values_of(arguments), arguments.thread, arguments.values)
     write_out(None, (f'{row}\n' for row in rows))
 
 

@@ -152,6 +152,24 @@ class Faulted(NamedTuple):
     at: int
 
 
+class SequenceBegins(NamedTuple):
+    """A restartable sequence begins with the event: where it starts, its length, and its abort handler."""
+
+    start: int
+    length: int
+    abort: int
+
+
+class SequenceEnds(NamedTuple):
+    """A sequence has ended, or isn't over where the log ends: how (as `acts` says it), the abort handler where
+    it was cut, and its first and last line."""
+
+    form: str
+    abort: int | None
+    first: int
+    last: int
+
+
 class Other(NamedTuple):
     """A fact that isn't known here."""
 
@@ -176,6 +194,8 @@ Fact = (
     | Interrupted
     | Signal
     | Faulted
+    | SequenceBegins
+    | SequenceEnds
     | Other
 )
 
@@ -291,6 +311,15 @@ def faulted(words: list[str]) -> Faulted:
     return Faulted(int(name), why, number(at))
 
 
+def sequence(words: list[str]) -> Fact:
+    match words[1:]:
+        case ['begins', start, length, abort]:
+            return SequenceBegins(number(start), int(length), number(abort))
+        case ['ends', form, *abort, 'first', first, 'last', last] if len(abort) == (form == 'cut'):
+            return SequenceEnds(form, number(abort[0]) if abort else None, int(first), int(last))
+    raise ValueError
+
+
 READERS: dict[str, Callable[[list[str]], Fact]] = {
     'read': read,
     'waits': waits,
@@ -312,6 +341,7 @@ READERS: dict[str, Callable[[list[str]], Fact]] = {
     'interrupted': interrupted,
     'signal': signal,
     'fault': faulted,
+    'sequence': sequence,
     **{f'x{number}': register for number in range(32)},
 }
 """By the first word of a fact."""

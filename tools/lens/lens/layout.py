@@ -1,5 +1,5 @@
-"""How the variables of a file are laid out, by the types of its DWARF: which bytes `readers[0].hazard` has, and
-which member has some bytes."""
+"""How the variables of a file are laid out, by the types of its DWARF: which bytes `readers[0].hazard` has,
+and which member has some bytes."""
 from __future__ import annotations
 
 import io

@@ -3,80 +3,66 @@ from __future__ import annotations
 
 from collections.abc import Iterator
 
+from .facts import SequenceBegins, SequenceEnds
 from .history import History
 from .listing import deed
-from .machine import Act, Machine
 from .output import EXEC, PREEMPT, RUN, SIGNAL, TAKE, Step
-from .place import Named
+from .trace_text import Trace
 from .values import Values
 
 INTERRUPTIONS = (PREEMPT, SIGNAL, TAKE, RUN)
 SIZE = 4
 
 
-def list_sequences(
-    history: History, machine: Machine, thread: int | None, values: Values | None = None
-) -> Iterator[str]:
+def list_sequences(values: Values, thread: int | None, is_with_values: bool) -> Iterator[str]:
     """A line for each sequence of a thread, or of all; and below it one for each of its steps that read or
-    wrote, where that is known."""
-    every = machine.acts([step.line() for step in history.output.steps])
-    acts = [act for act in every if thread in (None, act.thread)]
-    named = Names(history, machine)
-    rows = [(act, words_of(history, named.of(act))) for act in acts]
-    width = max((len(words) for _, words in rows), default=0)
+    wrote, where that is asked for."""
+    history, steps = values.history, values.history.output.steps
+    every = sequences(values.trace)
+    chosen = [ended for ended in every if thread in (None, steps[ended.first - 1].thread)]
+    rows = [(ended, steps[ended.first - 1], words_of(values, ended)) for ended in chosen]
+    width = max((len(words) for _, _, words in rows), default=0)
     yield f'{"steps":>15}  {"thread":>6}  {"hart":>4}  {"sequence":<{width}}  how it ended'
-    for act, words in rows:
-        steps = f'{act.first} to {act.last}'
-        yield f'{steps:>15}  {act.thread:>6}  {act.hart:>4}  {words:<{width}}  {ending(history, act)}'
-        if values:
-            yield from accesses(values, act)
+    for ended, first, words in rows:
+        span = f'{ended.first} to {ended.last}'
+        yield f'{span:>15}  {first.thread:>6}  {first.hart:>4}  {words:<{width}}  {ending(history, ended)}'
+        if is_with_values:
+            yield from accesses(values, ended)
     yield ''
-    yield f'{counted(acts)}; end {history.output.end}'
+    yield f'{counted(chosen)}; end {history.output.end}'
 
 
-def accesses(values: Values, act: Act) -> Iterator[str]:
+def sequences(trace: Trace) -> list[SequenceEnds]:
+    """The sequences of a run, in the order of their first steps."""
+    ended = (fact for record in trace.records for fact in record.of_kind(SequenceEnds))
+    return sorted(ended, key=lambda fact: fact.first)
+
+
+def accesses(values: Values, ended: SequenceEnds) -> Iterator[str]:
     """What the instructions of a sequence read and wrote, and which stores entered meanwhile."""
-    for step in values.history.output.steps[act.first - 1 : act.last]:
-        words = values.words(step) if step.hart == act.hart else ''
+    steps = values.history.output.steps
+    for step in steps[ended.first - 1 : ended.last]:
+        words = values.words(step) if step.hart == steps[ended.first - 1].hart else ''
         if words:
             yield f'{step.number:>15}  {deed(values.history, step)}  {words}'
 
 
-class Names:
-    """Asks which sequence the area of a thread names where it begins one: once for each instruction at which
-    one begins."""
-
-    def __init__(self, history: History, machine: Machine):
-        self.history = history
-        self.machine = machine
-        self.known: dict[int, Named | None] = {}
-
-    def of(self, act: Act) -> Named | None:
-        pc = self.history.output.steps[act.first - 1].pc
-        if pc not in self.known:
-            before = [step.line() for step in self.history.output.steps[: act.first - 1]]
-            self.known[pc] = self.machine.inspect(before).harts[act.hart].named
-        return self.known[pc]
+def words_of(values: Values, ended: SequenceEnds) -> str:
+    """A sequence by the names of its first instruction and of its last."""
+    program, begun = values.history.program, values.trace.records[ended.first - 1].first(SequenceBegins)
+    first, last = program.where(begun.start), program.where(begun.start + begun.length - SIZE)
+    return f'{first} to {last}, {begun.length // SIZE} instructions'
 
 
-def words_of(history: History, named: Named | None) -> str:
-    """A sequence by the names of its first instruction and of the one behind it."""
-    if named is None:
-        return '?'
-    count = (named.end - named.start) // SIZE
-    first, last = history.program.where(named.start), history.program.where(named.end - SIZE)
-    return f'{first} to {last}, {count} instructions'
-
-
-def ending(history: History, act: Act) -> str:
+def ending(history: History, ended: SequenceEnds) -> str:
     """How a sequence ended, and where its thread stood."""
-    program, last = history.program, history.output.steps[act.last - 1]
-    match act.form:
+    program, last = history.program, history.output.steps[ended.last - 1]
+    match ended.form:
         case 'left':
             return f'left at {program.spot(last.pc)}'
         case 'cut':
-            by = interruption(history, act)
-            goes_on = '' if act.abort is None else f'; goes on at {program.where(act.abort)}'
+            by = interruption(history, ended)
+            goes_on = '' if ended.abort is None else f'; goes on at {program.where(ended.abort)}'
             return f'cut before {program.spot(by.pc)}, by {by.kind} (step {by.number}){goes_on}'
         case 'dropped':
             return f'dropped behind {program.spot(last.pc)}: what the area names changed'
@@ -85,15 +71,15 @@ def ending(history: History, act: Act) -> str:
     return f'not over where the log ends, at {program.spot(last.pc)}'
 
 
-def interruption(history: History, act: Act) -> Step:
+def interruption(history: History, ended: SequenceEnds) -> Step:
     """The event by which the thread of a sequence that was cut left its hart, or was sent elsewhere."""
-    later = history.output.steps[act.last - 1 :]
-    own = (step for step in later if step.thread == act.thread and step.kind != EXEC)
+    later, thread = history.output.steps[ended.last - 1 :], history.output.steps[ended.first - 1].thread
+    own = (step for step in later if step.thread == thread and step.kind != EXEC)
     return next((step for step in own if step.kind in INTERRUPTIONS), later[0])
 
 
-def counted(acts: list[Act]) -> str:
+def counted(ended: list[SequenceEnds]) -> str:
     """How many sequences there are, and how many of them ended how."""
-    forms = [act.form for act in acts]
+    forms = [one.form for one in ended]
     parts = [f'{forms.count(form)} {form}' for form in dict.fromkeys(forms)]
-    return f'{len(acts)} sequences' + (f': {", ".join(parts)}' if parts else '')
+    return f'{len(ended)} sequences' + (f': {", ".join(parts)}' if parts else '')

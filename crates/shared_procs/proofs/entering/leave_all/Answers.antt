@@ -1,13 +1,7 @@
 -- One store after the other enters memory.
-use Rattle.shared_procs.proofs.Common.{◌≡◌, ◌<◌, None, Some, List, drop, length, slice_get, sym, ap, ◌∙◌, subst, AreEntering, Store}
-use Rattle.shared_procs.proofs.Entered.{entering_end, entering_more, entering_start, fewer_left, none_left, oldest_may}
+use Rattle.shared_procs.proofs.Common.{◌≡◌, None, List, drop, slice_get, sym, ap, ◌∙◌, subst, AreEntering, Store}
+use Rattle.shared_procs.proofs.Entered.{entering_end, entering_more, none_left}
 use Rattle.shared_procs.proofs.entering.leave_all.Goals as goal
-
-pub stores-init : goal.stores-init
-stores-init c = entering_start c.args.buffer.now c.args.pages.now c.args.segment.now c.args.other.now c.requires.storable
-
-pub leave_one-requires-clause-storable : goal.leave_one-requires-clause-storable
-leave_one-requires-clause-storable c = oldest_may c.stores.pages c.stores.buffer (Some c.in-Some.store) c.stores.invariant.storable c.in-Some.ensures.oldest
 
 pub stores-preserved : goal.stores-preserved
 stores-preserved c =
@@ -19,10 +13,6 @@ stores-preserved c =
     subst (λ (ws : List Store). AreEntering waited ws m segment other c.leave_one.new.pages c.leave_one.new.segment c.leave_one.new.other) (sym c.pop.ensures.rest)
     (entering_more waited left c.in-Some.store m c.stores.pages c.leave_one.new.pages segment c.stores.segment c.leave_one.new.segment other c.stores.other
     c.leave_one.new.other c.stores.invariant c.in-Some.ensures.oldest c.leave_one.ensures.entered c.leave_one.ensures.lost)
-
-pub stores-smaller : goal.stores-smaller
-stores-smaller c =
-    subst (λ (ws : List Store). length ws < length c.stores.buffer) (sym c.pop.ensures.rest) (fewer_left c.stores.buffer c.in-Some.store c.in-Some.ensures.oldest)
 
 pub returns : goal.returns
 returns c =

@@ -1,17 +1,11 @@
 -- The oldest store enters memory.
 use Rattle.mach_types.specs.declared.events.Choice.TheVariants as asked
 use Rattle.process.proofs.PairLaws.{drain_own, goes_on, oldest}
-use Rattle.shared_procs.proofs.Common.{arith, ◌≡◌, ◌+◌, not, List, [], ◌∷◌, set, eqb, slice_get, option_map, refl, sym, ap, ◌∙◌, subst, all_stored, AreStorable, aside, counted, done_drain_of, eighth, filter, half, hart_is, HartState, HaveEntered, here_two, in_list, is_shared, IsTied, lost_unless, quietly, setting, stand, Store, stores, was_not_stuck}
+use Rattle.shared_procs.proofs.Common.{◌≡◌, ◌+◌, not, List, [], ◌∷◌, set, eqb, slice_get, option_map, refl, sym, ap, ◌∙◌, subst, all_stored, AreStorable, aside, counted, done_drain_of, filter, half, hart_is, HartState, HaveEntered, here_two, is_shared, IsTied, lost_unless, quietly, setting, stand, Store, stores, was_not_stuck}
 use Rattle.shared_procs.proofs.Entered.{oldest_may, readable_kept}
 use Rattle.shared_procs.proofs.PairEvents.{made_as}
 use Rattle.shared_procs.proofs.PairMemory.{waiting_may}
 use Rattle.shared_procs.proofs.events.drain.Goals as goal
-
-pub index_mut-state-requires : goal.index_mut-state-requires
-index_mut-state-requires c =
-    let its = c.requires in
-    let v = stand its.setting its.pair its.process in
-    omega (arith, in_list v c.args.mine.now.parts c.args.hart.0 its.acting.place, c.args.mine.now.parts.harts.ok.0)
 
 pub enter-requires-clause-storable : goal.enter-requires-clause-storable
 enter-requires-clause-storable c =
@@ -24,10 +18,6 @@ enter-requires-clause-storable c =
     (subst (AreStorable mine.parts.pages) (sym (ap (λ (y : HartState). y.buffer) own))
     (waiting_may c.requires.setting c.requires.pair c.requires.process h mine c.args.segment.now c.requires.acting h))
     c.pop-oldest.ensures.oldest
-
-pub tell-requires : goal.tell-requires
-tell-requires c =
-    eighth (stand c.requires.setting c.requires.pair c.requires.process) c.args.mine.now.parts c.args.hart.0 c.requires.acting.place
 
 pub returns : goal.returns
 returns c s m p acting tied free =

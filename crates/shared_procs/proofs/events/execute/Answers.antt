@@ -3,14 +3,6 @@ use Rattle.shared_procs.proofs.Common.{ℕ, List, sym, subst, Half, HasNext, IsP
 use Rattle.shared_procs.proofs.PairInstructions.{step_of}
 use Rattle.shared_procs.proofs.events.execute.Goals as goal
 
-pub next_instruction-next-requires : goal.next_instruction-next-requires
-next_instruction-next-requires c = record {
-  setting = c.requires.setting;
-  pair = c.requires.pair;
-  process = c.requires.process;
-  acting = c.requires.acting;
-}
-
 pub perform-requires : goal.perform-requires
 perform-requires c =
     let s = c.requires.setting in

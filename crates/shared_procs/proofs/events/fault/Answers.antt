@@ -1,5 +1,5 @@
 -- A fault is seen by nobody but its thread.
-use Rattle.shared_procs.proofs.Common.{List, not, sym, ap, done_of, eighth, filter, half, here_two, is_shared, setting, stand, Write, Exec}
+use Rattle.shared_procs.proofs.Common.{List, not, sym, ap, done_of, filter, half, here_two, is_shared, setting, stand, Write, Exec}
 use Rattle.shared_procs.proofs.PairEvents.{unshared}
 use Rattle.shared_procs.proofs.PairInstructions.{fault_planned, fault_quiet}
 use Rattle.shared_procs.proofs.events.fault.Goals as goal
@@ -14,11 +14,6 @@ fault-requires c =
         plan = fault_planned has.setting has.pair has.process c.args.hart.0 c.requires.0 c.args.signal c.args.mine.now c.args.other.now has.step;
       },
     )
-
-pub unseen-requires : goal.unseen-requires
-unseen-requires c =
-    let has = c.requires.1 in
-    eighth (stand has.setting has.pair has.process) c.args.mine.now c.args.hart.0 has.step.place
 
 pub returns : goal.returns
 returns c effect s m p step =

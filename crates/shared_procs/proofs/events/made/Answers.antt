@@ -2,16 +2,6 @@ use Rattle.shared_procs.proofs.Common.{refl, done_of, here_two}
 use Rattle.shared_procs.proofs.PairEvents.{made_unshared}
 use Rattle.shared_procs.proofs.events.made.Goals as goal
 
-pub pass-requires-clause-may : goal.pass-requires-clause-may
-pass-requires-clause-may c = record {
-  setting = c.requires.setting;
-  pair = c.requires.pair;
-  process = c.requires.process;
-  place = c.requires.acting.place;
-  beside = c.requires.beside;
-  free = c.requires.free;
-}
-
 pub returns-in_default : goal.returns-in_default
 returns-in_default c s m p acting tied free =
     made_unshared s m p c.args.hart.0 (done_of c.args.choice (here_two s m p c.args.hart.0)) c.args.mine.now c.args.other.now _ _ c.args.segment.now

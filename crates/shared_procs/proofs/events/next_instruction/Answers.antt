@@ -1,14 +1,8 @@
 -- The next instruction, over the pages and the segment.
 use Rattle.process.proofs.Laws.{next_at}
-use Rattle.shared_procs.proofs.Common.{arith, credit_of, half, hart_tied, here_two, in_list, reached_in, setting, stand, storable_in}
+use Rattle.shared_procs.proofs.Common.{credit_of, half, hart_tied, here_two, reached_in, setting, storable_in}
 use Rattle.shared_procs.proofs.PairMemory.{reached_is, storable_is}
 use Rattle.shared_procs.proofs.events.next_instruction.Goals as goal
-
-pub index-state-requires : goal.index-state-requires
-index-state-requires c =
-    let its = c.requires in
-    let v = stand its.setting its.pair its.process in
-    omega (arith, in_list v c.args.mine.now.parts c.args.hart.0 its.acting.place, c.args.mine.now.parts.harts.ok.0)
 
 pub returns-clause-next : goal.returns-clause-next
 returns-clause-next c s m p acting =

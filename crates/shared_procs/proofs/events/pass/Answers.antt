@@ -1,22 +1,8 @@
 -- An event that the other process doesn't see, but that a hart took its requests.
-use Rattle.shared_procs.proofs.Common.{not, sym, ◌∙◌, done_of, eighth, event_writes, half, here_two, setting, stand}
+use Rattle.shared_procs.proofs.Common.{not, sym, ◌∙◌, done_of, event_writes, half, here_two, setting, stand}
 use Rattle.shared_procs.proofs.EventFacts.{does_so}
 use Rattle.shared_procs.proofs.PairEvents.{hidden_writes, unshared}
 use Rattle.shared_procs.proofs.events.pass.Goals as goal
-
-pub event-requires : goal.event-requires
-event-requires c =
-    let may = c.requires.may in
-    record {
-      free = record { stand = stand may.setting may.pair may.process; place = may.place; free = may.free };
-      other = c.requires.no_exec;
-      drains = λ is. absurd (c.requires.no_drain is);
-    }
-
-pub pass_by-requires : goal.pass_by-requires
-pass_by-requires c =
-    let may = c.requires.may in
-    eighth (stand may.setting may.pair may.process) c.args.mine.now c.args.hart.0 may.place
 
 pub returns : goal.returns
 returns c s m p place tied free =

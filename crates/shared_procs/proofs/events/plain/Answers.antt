@@ -1,21 +1,12 @@
 -- An instruction over the pages and the segment.
 use Rattle.hart_state.specs.State.{hart_after}
 use Rattle.process.proofs.Laws.{plain_own, runs_there, saved_plain}
-use Rattle.process.proofs.PairLaws.{no_call, ran_fits}
-use Rattle.shared_procs.proofs.Common.{◌≡◌, ◌+◌, not, List, set, eqb, slice_get, option_map, arith, refl, sym, ap, ◌∙◌, subst, all_stored, aside, by_outcome, counted, eighth, filter, half, HartState, HaveEntered, here_two, in_list, is_shared, IsTied, lost_unless, Outcome, quietly, setting, stand, Store, stores, Exec}
+use Rattle.process.proofs.PairLaws.{ran_fits}
+use Rattle.shared_procs.proofs.Common.{◌≡◌, ◌+◌, not, List, set, eqb, slice_get, option_map, arith, refl, sym, ap, ◌∙◌, subst, all_stored, aside, by_outcome, counted, filter, half, HartState, HaveEntered, here_two, is_shared, IsTied, lost_unless, Outcome, quietly, setting, stand, Store, stores, Exec}
 use Rattle.shared_procs.proofs.Entered.{readable_kept}
 use Rattle.shared_procs.proofs.PairEvents.{made_as}
 use Rattle.shared_procs.proofs.PairInstructions.{performing}
 use Rattle.shared_procs.proofs.events.plain.Goals as goal
-
-pub index_mut-state-requires : goal.index_mut-state-requires
-index_mut-state-requires c =
-    let its = c.requires.next in
-    let v = stand its.setting its.pair its.process in
-    omega (arith, in_list v c.args.mine.now.parts c.args.hart.0 its.acting.place, c.args.mine.now.parts.harts.ok.0)
-
-pub execute-made-requires-clause-sizes : goal.execute-made-requires-clause-sizes
-execute-made-requires-clause-sizes c = c.requires.next.step.sizes
 
 pub execute-made-requires-clause-allowed : goal.execute-made-requires-clause-allowed
 execute-made-requires-clause-allowed c =
@@ -29,20 +20,12 @@ execute-made-requires-clause-no_fault c =
     (performing its.setting its.pair its.process c.args.hart.0 c.args.mine.now c.args.segment.now c.args.other.now.parts c.index_mut-state.result.now
     c.args.effect.now its.acting its.step c.index_mut-state.ensures.value c.requires.no_call).no_fault
 
-pub execute-made-requires-clause-no_call : goal.execute-made-requires-clause-no_call
-execute-made-requires-clause-no_call c = no_call c.args.effect.now c.requires.no_call
-
 pub overflow_add-state : goal.overflow_add-state
 overflow_add-state c =
     let its = c.requires.next in
     let few = ran_fits (stand its.setting its.pair its.process) c.args.mine.now.parts c.args.hart.0 c.index_mut-state.result.now its.acting.place c.index_mut-state.ensures.value in
     let same : c.execute-made.new.self.ran ≡ c.index_mut-state.result.now.ran = ap (λ (z : HartState). z.ran) c.execute-made.ensures.hart in
     omega (arith, few, same)
-
-pub tell-requires : goal.tell-requires
-tell-requires c =
-    let its = c.requires.next in
-    eighth (stand its.setting its.pair its.process) c.args.mine.now.parts c.args.hart.0 its.acting.place
 
 pub returns : goal.returns
 returns c s m p acting step =

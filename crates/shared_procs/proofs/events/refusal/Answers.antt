@@ -8,12 +8,6 @@ exec_gate_beside-requires-clause-listed c =
     rw c.next_instruction-next.ensures.mine
     (in_list (stand c.requires.setting c.requires.pair c.requires.process) c.args.mine.now.parts c.args.hart.0 c.requires.acting.place)
 
-pub refusal_unless_exec-requires-clause-place : goal.refusal_unless_exec-requires-clause-place
-refusal_unless_exec-requires-clause-place c = record {
-  stand = stand c.requires.setting c.requires.pair c.requires.process;
-  place = c.requires.acting.place;
-}
-
 pub returns-in-Exec-clause-why : goal.returns-in-Exec-clause-why
 returns-in-Exec-clause-why c s m p acting =
     let tied = subst (λ (x : Half). IsTied (setting s p) (half p m) x.parts) (sym c.next_instruction-next.ensures.mine) acting.place.tied in

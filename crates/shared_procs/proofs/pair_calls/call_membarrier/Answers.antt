@@ -1,5 +1,5 @@
 -- membarrier(2) as the definitions answer it beside another process.
-use Rattle.shared_procs.proofs.Common.{not, sym, ap, ◌∙◌, answers, Done, done_of, eighth, half, here_two, setting, stand, Exec}
+use Rattle.shared_procs.proofs.Common.{not, sym, ap, ◌∙◌, answers, Done, done_of, half, here_two, setting, stand, Exec}
 use Rattle.shared_procs.proofs.PairCalls.{barrier_called, barrier_hidden}
 use Rattle.shared_procs.proofs.PairEvents.{unshared}
 use Rattle.shared_procs.proofs.pair_calls.call_membarrier.Goals as goal
@@ -27,11 +27,6 @@ finish_call-requires c =
           c.end_command-end.ensures.saved c.end_command-end.ensures.barrier c.end_command-end.ensures.answer c.end_command-end.ensures.stays
           c.end_command-end.ensures.runs_on c.end_command-end.ensures.ends;
     }
-
-pub pass_by-requires : goal.pass_by-requires
-pass_by-requires c =
-    let has = c.requires.step in
-    eighth (stand has.setting has.pair has.process) c.args.mine.now c.args.hart.0 has.step.place
 
 pub returns : goal.returns
 returns c s m p step =

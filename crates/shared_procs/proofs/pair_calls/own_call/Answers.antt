@@ -1,5 +1,5 @@
 -- A call that the process makes as where it is alone.
-use Rattle.shared_procs.proofs.Common.{not, done_of, eighth, half, here_two, setting, stand, Exec}
+use Rattle.shared_procs.proofs.Common.{not, done_of, half, here_two, setting, stand, Exec}
 use Rattle.shared_procs.proofs.EventFacts.{does_so}
 use Rattle.shared_procs.proofs.PairCalls.{call_planned, own_begins_none, own_hidden}
 use Rattle.shared_procs.proofs.PairEvents.{unshared}
@@ -15,11 +15,6 @@ call-requires c =
       plan = call_planned has.setting has.pair has.process c.args.hart c.args.mine.now c.args.other.now has.step
           (c.requires.own v has.step.thread has.step.place has.step.at);
     }
-
-pub unseen-requires : goal.unseen-requires
-unseen-requires c =
-    let has = c.requires.step in
-    eighth (stand has.setting has.pair has.process) c.args.mine.now c.args.hart.0 has.step.place
 
 pub returns : goal.returns
 returns c s m p step =

@@ -1,5 +1,5 @@
 -- rseq(2) is refused.
-use Rattle.shared_procs.proofs.Common.{not, ap, Done, done_of, eighth, ENOSYS, filter, half, here_two, is_shared, refused, setting, stand, Exec}
+use Rattle.shared_procs.proofs.Common.{not, ap, Done, done_of, ENOSYS, filter, half, here_two, is_shared, refused, setting, stand, Exec}
 use Rattle.shared_procs.proofs.PairCalls.{rseq_called}
 use Rattle.shared_procs.proofs.PairEvents.{unshared}
 use Rattle.shared_procs.proofs.pair_calls.refuse_rseq.Goals as goal
@@ -17,11 +17,6 @@ finish_call-requires c =
           (c.saved_of-saved.ensures (stand has.setting has.pair has.process) has.step.thread has.step.place has.step.at) c.go_on-end.ensures.saved
           c.go_on-end.ensures.stays c.go_on-end.ensures.runs_on c.go_on-end.ensures.waits_in_none c.go_on-end.ensures.ends c.go_on-end.ensures.answer;
     }
-
-pub unseen-requires : goal.unseen-requires
-unseen-requires c =
-    let has = c.requires.step in
-    eighth (stand has.setting has.pair has.process) c.args.mine.now c.args.hart.0 has.step.place
 
 pub returns : goal.returns
 returns c s m p step =

@@ -17,9 +17,3 @@ invariant_of-result c =
       limits = c.requires.limits;
       room = c.in_ok-log.ensures.capacity;
     }
-
-pub returns : goal.returns
-returns c = λ i. record {
-  setting = record { first = c.in_ok-one.ensures.program i; second = c.in_ok-two.ensures.program i; limits = c.args.limits };
-  log = c.in_ok-log.ensures.items i;
-}

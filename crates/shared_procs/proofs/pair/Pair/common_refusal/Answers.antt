@@ -1,5 +1,5 @@
 -- The refusal of every choice of a hart.
-use Rattle.shared_procs.proofs.Common.{◌≡◌, leb, refl, sym, ◌∙◌, true, false, le-leb, leb-false, pair_seen}
+use Rattle.shared_procs.proofs.Common.{◌≡◌, leb, refl, sym, ◌∙◌, true, false, le-leb, pair_seen}
 use Rattle.shared_procs.proofs.Refusals.{decided_as}
 use Rattle.shared_procs.proofs.pair.Pair.common_refusal.Goals as goal
 
@@ -19,11 +19,3 @@ returns-then-hart-self-clause-barred c choice =
     let out : leb v.setting.limits.harts c.args.hart.0 ≡ true = rw (← c.self.view_is) (le-leb c.self.inside.limits.harts c.args.hart.0 c.if-hart-self.true) in
     decided_as v.setting (pair_seen v) c.args.hart.0 choice false false true (sym c.is_over.ensures ∙ c.if-is_over.false)
     (sym c.is_full.ensures ∙ c.if-is_full.false) out
-
-pub returns-clause-goes : goal.returns-clause-goes
-returns-clause-goes c = sym c.is_over.ensures ∙ c.if-is_over.false
-
-pub returns-clause-room : goal.returns-clause-room
-returns-clause-room c =
-    let v = c.args.self.now in
-    leb-false v.setting.limits.steps (pair_seen v).made (sym c.is_full.ensures ∙ c.if-is_full.false)

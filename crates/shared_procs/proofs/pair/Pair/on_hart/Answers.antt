@@ -1,15 +1,5 @@
-use Rattle.shared_procs.proofs.Common.{◌≡◌, ◌<◌, cond, true, false, not, is_some, arith, ◌∙◌, goes_on, pair_seen, runs_in, seen, setting, setting_of}
+use Rattle.shared_procs.proofs.Common.{◌≡◌, ◌<◌, cond, true, false, not, is_some, ◌∙◌, goes_on, pair_seen, runs_in, seen, setting, setting_of}
 use Rattle.shared_procs.proofs.pair.Pair.on_hart.Goals as goal
-
-pub runs_on-second-requires : goal.runs_on-second-requires
-runs_on-second-requires c =
-    let lt : c.args.hart.0 < c.self.inside.limits.harts = rw (← c.self.view_is) at c.requires in
-    omega (arith, lt, c.self.invariant.tied.second.all_harts)
-
-pub runs_on-first-requires : goal.runs_on-first-requires
-runs_on-first-requires c =
-    let lt : c.args.hart.0 < c.self.inside.limits.harts = rw (← c.self.view_is) at c.requires in
-    omega (arith, lt, c.self.invariant.tied.first.all_harts)
 
 pub returns : goal.returns
 returns c =
