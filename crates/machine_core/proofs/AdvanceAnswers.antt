@@ -1,21 +1,12 @@
 -- What an attempt to go on by the choice of `run` comes to.
-use Rattle.std.proofs.Common.{◌≡◌, ℕ, ◌<◌, ◌≤◌, List, length, refl, sym, ap, ◌∙◌, arith, Bool, true, false, leb, ◌||◌, Option, Some, None, is_some, Ok, Err, Result, option_map, le-leb, le-ltb}
-use Rattle.mach_types.specs.declared.events.Advance.TheVariants.{Made, NoneNow, Ended}
-use Rattle.machine_core.proofs.Common.{Choice, Entry, History, Inside, IsMachine, Setting, Sight, here_in_history, here_of, past_of, ran, seen, setting_of}
-use Rattle.mach_types.specs.declared.events.Why.{Why}
+use Rattle.machine_core.proofs.Common.{◌≡◌, ℕ, ◌<◌, ◌≤◌, List, length, refl, sym, ap, ◌∙◌, arith, Bool, true, false, leb, ◌||◌, Option, Some, None, is_some, Ok, Err, Result, option_map, le-ltb, Ended, Choice, Entry, History, Inside, IsMachine, Setting, Sight, here_in_history, here_of, past_of, ran, seen, setting_of, Why, Pick, draws, pick, generator_in, word, IsChosen, advance_at, all_chosen, choice_at, credit_at, has_ended, next_entry, pick_at, decide, entry_in, history, over_at, refusal_of, sight_in, length-history, same_here, is_picked, answered}
+use Rattle.std.proofs.Common.{le-leb}
+use Rattle.mach_types.specs.declared.events.Advance.TheVariants.{Made, NoneNow}
 use Rattle.chooser.specs.declared.cases.Case.{Case}
 use Rattle.chooser.specs.declared.cases.Case.TheVariants.{Settled, Open}
-use Rattle.chooser.specs.declared.chooser.Pick.{Pick}
-use Rattle.chooser.specs.Cases.{case_of, draws, is_open, pick, pick_in}
-use Rattle.chooser.specs.Generators.{generator_in, word}
-use Rattle.block_model.specs.Choosing.{IsChosen, advance_at, all_chosen, choice_at, credit_at, has_ended, next_entry, pick_at}
-use Rattle.block_model.specs.Deciding.{decide, entry_in, history, over_at}
-use Rattle.block_model.specs.Events.{refusal_of}
-use Rattle.block_model.specs.Sights.{sight_in}
-use Rattle.block_model.proofs.Laws.{choice_decides, choice_is_allowed, is_choice_same, length-history, same_here}
+use Rattle.chooser.specs.Cases.{case_of, is_open, pick_in}
+use Rattle.block_model.proofs.Laws.{choice_decides, choice_is_allowed, is_choice_same}
 use Rattle.block_model.specs.declared.refusals.Refused.{Refused}
-use Rattle.machine_core.specs.Credits.{is_picked}
-use Rattle.process.specs.Refinement.{answered}
 use Rattle.machine_core.proofs.ChoiceCredits.{choice_where, pick_read}
 use Rattle.machine_core.proofs.Readings.{over_read}
 

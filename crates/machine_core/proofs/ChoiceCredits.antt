@@ -1,19 +1,12 @@
 -- The credits and the generators after an event, where it was the choice of `run` and where it wasn't.
-use Rattle.std.proofs.Common.{◌≡◌, ◌≢◌, ℕ, ◌+◌, ◌<◌, List, [], ◌∷◌, ◌++◌, length, refl, sym, ap, ◌∙◌, Bool, true, false, cond, eqb, ◌&&◌, Option, eq-eqb, ◌⊎◌, inl, inr, option_map}
+use Rattle.machine_core.proofs.Common.{◌≡◌, ◌≢◌, ℕ, ◌+◌, ◌<◌, List, [], ◌∷◌, ◌++◌, length, refl, sym, ap, ◌∙◌, Bool, true, false, cond, eqb, ◌&&◌, Option, eq-eqb, ◌⊎◌, inl, inr, option_map, cases_eq, lt-ltb, ne_eqb, choice_of, Choice, Entry, HartState, History, Setting, Sight, here_in_history, ran, Pick, draws, pick, Generator, generator_in, next_generator, word, after_pick-settled, Luck, all_chosen, choice_at, credit_at, has_ended, luck, pick_at, sight_with, history, sight_in, followed, generators_after, is_followed, is_picked, seen_if, generator_at}
 use native.Mathlib.Numerals.{unary_clauses}
-use Rattle.std.proofs.lemmas.Bool.{cases_eq, false≢true, lt-ltb, ne_eqb}
-use Rattle.mach_types.specs.Events.{choice_of}
-use Rattle.machine_core.proofs.Common.{Choice, Entry, HartState, History, Setting, Sight, here_in_history, ran}
-use Rattle.chooser.specs.declared.chooser.Pick.{Pick}
-use Rattle.chooser.specs.Cases.{draws, pick}
-use Rattle.chooser.specs.Generators.{Generator, after_pick, after_words, first_generator, generator_in, next_generator, word}
-use Rattle.chooser.proofs.Laws.{after_pick-other, after_pick-own, after_pick-settled}
-use Rattle.block_model.specs.Choosing.{Luck, all_chosen, choice_at, credit_at, has_ended, is_choice, luck, pick_at, sight_with}
-use Rattle.block_model.specs.Deciding.{history}
-use Rattle.block_model.specs.Sights.{sight_in}
+use Rattle.std.proofs.lemmas.Bool.{false≢true}
+use Rattle.chooser.specs.Generators.{after_pick, after_words, first_generator}
+use Rattle.chooser.proofs.Laws.{after_pick-other, after_pick-own}
+use Rattle.block_model.specs.Choosing.{is_choice}
 use Rattle.block_model.proofs.Laws.{all_chosen_next, luck_of_other, luck_of_own}
-use Rattle.machine_core.specs.Credits.{followed, generators_after, is_followed, is_picked, seen_if, with_credit}
-use Rattle.machine_core.specs.Machines.{generator_at}
+use Rattle.machine_core.specs.Credits.{with_credit}
 
 -- the choice at a place that hasn't ended is the pick's
 pub choice_where : (s : Setting) (seed h : ℕ) (before : History) → has_ended s before ≡ false → h < s.limits.harts

@@ -1,16 +1,6 @@
 -- A hart goes freely where a thread runs that waits in no barrier, and its next instruction sets a register and does nothing else.
-use Rattle.std.proofs.Common.{◌≡◌, ℕ, ◌&&◌, length, sym, ap, ◌∙◌, refl, not, Bool, true, false, is_none, is_some, Option, Some, None}
-use Rattle.std.specs.Option.{option_map, option_map_or, option_or}
-use Rattle.machine_core.proofs.Common.{HartState, Here, runs, sets_register, thread}
-use Rattle.rv_inst.specs.Execution.{instruction_gate}
-use Rattle.rv_inst.specs.declared.effects.Effect.{Effect}
-use Rattle.block_model.specs.Events.Exec.{is_held, next_effect as effect_at, next_fault as fault_at, others_gate, refusal_exec_by}
-use Rattle.block_model.specs.Events.Preempt.{unless_in_barrier}
-use Rattle.block_model.specs.Here.{is_storable, reached, waiting_here}
-use Rattle.block_model.specs.Instruction.{fault_by, fetched, next_effect}
-use Rattle.block_model.specs.Sights.{is_local_on}
+use Rattle.machine_core.proofs.Common.{◌≡◌, ℕ, ◌&&◌, length, sym, ap, ◌∙◌, refl, not, Bool, true, false, is_none, is_some, Option, Some, None, option_map, option_map_or, option_or, HartState, Here, runs, sets_register, thread, instruction_gate, Effect, is_held, effect_at, fault_at, others_gate, refusal_exec_by, unless_in_barrier, is_storable, reached, waiting_here, fault_by, fetched, next_effect, is_local_on, file_of, file_on, hart_in}
 use Rattle.process.proofs.Laws.{gate_of_free, no_fault_of_free, others_of_free}
-use Rattle.process.specs.Harts.{file_of, file_on, hart_in}
 use Rattle.machine_core.specs.Free.{goes_freely}
 use Rattle.machine_core.proofs.Sights.{next_local}
 

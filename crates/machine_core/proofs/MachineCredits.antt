@@ -1,18 +1,7 @@
 -- A machine after an event, with the credits and the generators that follow it.
-use Rattle.std.proofs.Common.{◌≡◌, ℕ, ◌<◌, List, [], ◌∷◌, ◌++◌, length, refl, sym, ap, ◌∙◌, arith, Bool, true, false, cond, Option, Some, None, is_some, slice_get, set}
-use Rattle.std.specs.Option.{option_map, option_map_or}
+use Rattle.machine_core.proofs.Common.{◌≡◌, ℕ, ◌<◌, List, [], ◌∷◌, ◌++◌, length, refl, sym, ap, ◌∙◌, arith, Bool, true, false, cond, Option, Some, None, is_some, slice_get, set, option_map, option_map_or, InRange, Choice, Entry, Hart, HartState, History, Inside, Parts, Setting, Sight, credit_of, draws, hart_at, seen_if, Generator, generator_in, next_generator, all_chosen, credit_at, has_ended, history, over_at, Plain, plain_after, length-history, followed, generators_after, is_followed, IsTied, IsMachine, generator_at, past_of, seen, setting_of}
 use Rattle.std.proofs.lemmas.Bool.{lt-leb}
 use Rattle.std.proofs.lemmas.List.{length-set}
-use Rattle.mach_types.specs.Limits.{InRange}
-use Rattle.machine_core.proofs.Common.{Choice, Entry, Hart, HartState, History, Inside, Parts, Setting, Sight, credit_of, draws, hart_at, seen_if}
-use Rattle.chooser.specs.Generators.{Generator, generator_in, next_generator}
-use Rattle.block_model.specs.Choosing.{all_chosen, credit_at, has_ended}
-use Rattle.block_model.specs.Deciding.{history, over_at}
-use Rattle.block_model.specs.Plain.{Plain, plain_after}
-use Rattle.block_model.proofs.Laws.{length-history}
-use Rattle.machine_core.specs.Credits.{followed, generators_after, is_followed}
-use Rattle.process.specs.Refinement.{IsTied}
-use Rattle.machine_core.specs.Machines.{IsMachine, generator_at, past_of, seen, setting_of}
 use Rattle.machine_core.proofs.ChoiceCredits.{IsFollowing, chosen_after, credit_after, generator_after}
 use Rattle.process.proofs.Laws.{same_length}
 use Rattle.machine_core.proofs.Readings.{over_read}

@@ -1,18 +1,12 @@
 -- What a scheduler sees of a hart, told by the hart's state.
-use Rattle.std.proofs.Common.{◌≡◌, ℕ, ◌&&◌, List, sym, ap, ◌∙◌, refl, not, Bool, true, false, is_none, is_some, Option, Some, None}
-use Rattle.std.specs.Option.{option_and_then, option_map, option_map_or}
-use Rattle.machine_core.proofs.Common.{HartState, Here, ImagePage, Saved, Sight, runs, sets_register}
-use Rattle.mach_types.specs.declared.events.Tid.{Tid}
+use Rattle.machine_core.proofs.Common.{◌≡◌, ℕ, ◌&&◌, List, sym, ap, ◌∙◌, refl, not, Bool, true, false, is_none, is_some, Option, Some, None, option_and_then, option_map, option_map_or, HartState, Here, ImagePage, Saved, Sight, runs, sets_register, Tid, is_storable, reached, fault_by, fetched, next_effect, effect_here, effect_on, fault_here, fault_on, is_deliverable_on, is_local_on, thread, file_of, file_on, hart_in}
 use Rattle.mach_types.specs.Kernel.Signals.{next_for}
 use Rattle.rv_inst.proofs.Laws.{local-rows}
 use Rattle.rv_inst.specs.Local.{is_register_only}
 use Rattle.rv_inst.specs.Meaning.{meaning}
 use Rattle.rv_inst.specs.declared.instruction.Inst.{Inst}
-use Rattle.block_model.specs.Here.{is_storable, reached}
-use Rattle.block_model.specs.Instruction.{fault_by, fetched, instruction_of, next_effect, next_fault, next_instruction}
-use Rattle.block_model.specs.Sights.{effect_here, effect_on, fault_here, fault_on, is_deliverable_on, is_local_on, thread}
+use Rattle.block_model.specs.Instruction.{instruction_of, next_fault, next_instruction}
 use Rattle.process.specs.Delivering.{next_on}
-use Rattle.process.specs.Harts.{file_of, file_on, hart_in}
 
 -- the effect that is read from the file of a hart with a thread
 effect_by : (here : Here) (o : Option ℕ) → is_some (option_map thread o) ≡ true → next_effect here.setting.program.pages (file_on here o) ≡ effect_on here o

@@ -1,16 +1,11 @@
 -- One step: what is decided at a place, and a machine that made the event.
-use Rattle.std.proofs.Common.{◌≡◌, ℕ, ◌<◌, [], ◌∷◌, ◌++◌, length, sym, ap, ◌∙◌, subst, arith, Option, Some, None, Ok, Err, Result, IfOk}
-use Rattle.std.proofs.lemmas.Result.{IfOk-at_ok}
-use Rattle.mach_types.specs.Events.{choice_of}
-use Rattle.machine_core.proofs.Common.{Choice, Entry, Hart, Inside, IsBlockRun, IsMachine, Parts, Seen, seen}
-use Rattle.mach_types.specs.declared.events.Why.{Why}
+use Rattle.machine_core.proofs.Common.{◌≡◌, ℕ, ◌<◌, [], ◌∷◌, ◌++◌, length, sym, ap, ◌∙◌, subst, arith, Option, Some, None, Ok, Err, Result, IfOk-at_ok, choice_of, Choice, Entry, Hart, Inside, IsBlockRun, IsMachine, Parts, Seen, seen, Why, decide, entry_in, history, done_of, refusal_of, here_of, plain_after, plain_seen, stand_of, plain_made, standing, IsAfter, IsTied, answer_to, answered}
+use Rattle.std.proofs.Common.{IfOk}
 use Rattle.block_model.specs.declared.refusals.Refused.TheVariants.{NotEnabled}
-use Rattle.block_model.specs.Deciding.{decide, entry_in, history, unless}
-use Rattle.block_model.specs.Events.{done_of, refusal_of}
-use Rattle.block_model.specs.Plain.{apply, here_of, plain_after, plain_seen}
-use Rattle.block_model.specs.Stands.{stand_of}
-use Rattle.block_model.proofs.Laws.{at_kind, decided_is, next_event, plain_made, run_on, standing}
-use Rattle.process.specs.Refinement.{IsAfter, IsPlace, IsTied, answer_to, answered}
+use Rattle.block_model.specs.Deciding.{unless}
+use Rattle.block_model.specs.Plain.{apply}
+use Rattle.block_model.proofs.Laws.{at_kind, decided_is, next_event, run_on}
+use Rattle.process.specs.Refinement.{IsPlace}
 
 answer_ok : (made e : Entry) (o : Option Why) → answered made o ≡ Ok e → unless made o ≡ Ok e
 answer_ok made e None is = cc

@@ -1,19 +1,13 @@
 -- The stretch that a machine lends of a hart is the one that is lent by its log.
-use Rattle.std.proofs.Common.{List, [], sym, ◌∷◌, ◌++◌, ◌+◌, subst, if◌then◌else◌, arith, ◌≡◌, ℕ, ◌≤◌, ◌<◌, ◌||◌, ◌&&◌, refl, ap, ◌∙◌, Bool, true, false, not, cond, eqb, ltb, Option, None, Some, is_some, zero, suc, IsSome, le-ltb, lt-ltb, ne_eqb}
-use Rattle.std.specs.Option.{option_and_then, option_map, option_map_or}
+use Rattle.machine_core.proofs.Common.{List, [], sym, ◌∷◌, ◌++◌, ◌+◌, subst, arith, ◌≡◌, ℕ, ◌≤◌, ◌<◌, ◌||◌, ◌&&◌, refl, ap, ◌∙◌, Bool, true, false, not, cond, eqb, ltb, Option, None, Some, is_some, zero, suc, IsSome, le-ltb, lt-ltb, ne_eqb, option_and_then, option_map, option_map_or, Ended, Entry, HartState, Setting, sets_register, advance_at, has_ended, luck, next_entry, sight_with, history, is_writable, memory, waiting_here, History, events, here_in_history, ran, next_effect, is_local_on, thread, Stretch, advanced, file_on, hart_in}
+use Rattle.std.proofs.Common.{if◌then◌else◌}
 use Rattle.mach_types.specs.declared.events.Advance.{Advance}
-use Rattle.mach_types.specs.declared.events.Advance.TheVariants.{Ended}
-use Rattle.machine_core.proofs.Common.{Entry, HartState, Setting, sets_register}
-use Rattle.block_model.specs.Choosing.{advance_at, has_ended, luck, made_or_none, next_entry, sight_with}
-use Rattle.block_model.specs.Deciding.{history}
-use Rattle.block_model.specs.Here.{is_writable, memory, waiting_here}
-use Rattle.block_model.specs.History.{History, events, here_in_history, ran, running}
-use Rattle.block_model.specs.Instruction.{next_effect}
-use Rattle.block_model.specs.Sights.{is_local_on, thread}
-use Rattle.block_model.specs.Stretches.{Stretch, advanced, is_on_credit, lent, lent_to}
+use Rattle.block_model.specs.Choosing.{made_or_none}
+use Rattle.block_model.specs.History.{running}
+use Rattle.block_model.specs.Stretches.{is_on_credit, lent, lent_to}
 use Rattle.block_model.proofs.Laws.{next_is_none}
 use Rattle.machine_core.specs.Advancing.{made_in}
-use Rattle.process.specs.Harts.{file_on, hart_in, id_on}
+use Rattle.process.specs.Harts.{id_on}
 use Rattle.machine_core.specs.Stretches.{stretch_on}
 use Rattle.machine_core.proofs.Sights.{next_local}
 

@@ -1,7 +1,6 @@
 -- A stretch that is worked instruction by instruction.
-use Rattle.std.proofs.Common.{◌≡◌, ℕ, ◌+◌, ◌<◌, List, refl, sym, ap, ◌∙◌, arith, cond, false, zero, suc}
-use Rattle.elf_load.specs.declared.image.ImagePage.{ImagePage}
-use Rattle.block_model.specs.Stretches.{Stretch, goes_on, gone_on, longest, stepped, worked}
+use Rattle.machine_core.proofs.Common.{◌≡◌, ℕ, ◌+◌, ◌<◌, List, refl, sym, ap, ◌∙◌, arith, cond, false, zero, suc, ImagePage, Stretch, goes_on, longest, stepped}
+use Rattle.block_model.specs.Stretches.{gone_on, worked}
 
 -- after as many attempts as are left the stretch is what it becomes in all
 pub record IsHalfWorked (code : List ImagePage) (begun now : Stretch) (made : ℕ) : Type 0 where

@@ -1,7 +1,5 @@
 -- A thread at a place may call.
-use Rattle.std.proofs.Common.{◌≡◌, ℕ, Some, ap, ◌∙◌, sym}
-use Rattle.process.proofs.Common.{Hart, IsPlace, Parts, Stand, here_at, running_on, runs}
-use Rattle.kernel_threads.proofs.Laws.{running_saves_nothing}
+use Rattle.process.proofs.Common.{◌≡◌, ℕ, Some, ap, ◌∙◌, sym, Hart, IsPlace, Parts, Stand, here_at, running_on, runs, running_saves_nothing}
 use Rattle.sys_calls.specs.Answered.{IsCaller}
 use Rattle.process.proofs.Places.{runs_there}
 use Rattle.process.proofs.SystemCalls.{signals_found, tables_found}

@@ -1,17 +1,12 @@
 -- The pages of a program that may be executed are all that its instructions are read from.
-use Rattle.std.proofs.Common.{◌≡◌, ◌≢◌, ℕ, ◌+◌, ◌-◌, ◌/◌, ◌%◌, ◌<◌, ◌&&◌, List, [], ◌∷◌, ◌++◌, length, map, filter, refl, sym, ap, ◌∙◌, arith, Bool, true, false, cond, eqb, ltb, get_or, Option, Some, None, if◌then◌else◌, zero, suc, AllPairs}
-use Rattle.std.specs.List.Sorted.{IsStrictlyIncreasing}
-use Rattle.std.specs.Option.{option_map_or}
-use Rattle.std.proofs.lemmas.Bool.{cond_both, eqb-true, false≢true, ne_eqb}
-use Rattle.std.proofs.lemmas.List.{get_or-map, length-map}
-use Rattle.std.proofs.lemmas.List.Kept.{AllPairs-filter, AllPairs-from_increasing}
-use Rattle.mach_types.specs.Kernel.Pages.{is_in}
-use Rattle.elf_load.specs.Start.{code_word, page_of, return_run, stack_run}
-use Rattle.process.proofs.Common.{Effect, ImagePage}
-use Rattle.rv_inst.specs.Class.{sets_register}
-use Rattle.block_model.specs.Instruction.{effect_of, fetched}
+use Rattle.process.proofs.Common.{◌≡◌, ◌≢◌, ℕ, ◌+◌, ◌-◌, ◌/◌, ◌%◌, ◌<◌, ◌&&◌, List, [], ◌∷◌, ◌++◌, length, map, filter, refl, sym, ap, ◌∙◌, arith, Bool, true, false, cond, eqb, ltb, get_or, Option, Some, None, zero, suc, IsStrictlyIncreasing, option_map_or, eqb-true, false≢true, ne_eqb, length-map, AllPairs-from_increasing, is_in, code_word, page_of, return_run, stack_run, Effect, ImagePage, sets_register, fetched, code_of, word_of_page}
+use Rattle.std.proofs.Common.{if◌then◌else◌, AllPairs}
+use Rattle.std.proofs.lemmas.Bool.{cond_both}
+use Rattle.std.proofs.lemmas.List.{get_or-map}
+use Rattle.std.proofs.lemmas.List.Kept.{AllPairs-filter}
+use Rattle.block_model.specs.Instruction.{effect_of}
 use Rattle.block_model.specs.Stretches.{Stretch, file_after, gone_on, longest, worked}
-use Rattle.process.specs.Pages.{code_of, is_executable, word_of_page}
+use Rattle.process.specs.Pages.{is_executable}
 use Rattle.process.proofs.Fetches.{four_bytes, word_of_image}
 
 -- the number of a page is below that of another

@@ -1,8 +1,5 @@
 -- Harts that change one after another, each in its own way.
-use Rattle.std.proofs.Common.{◌≡◌, ℕ, ◌+◌, ◌<◌, ◌≤◌, List, length, set, refl, sym, ap, ◌∙◌, arith, cond, Option, Some, None, nat_lt, slice_get, get_or, inl, inr, option_map}
-use Rattle.std.proofs.lemmas.Bool.{cases_eq, cases_lt, lt-ltb, le-ltb}
-use Rattle.std.proofs.lemmas.Option.{slice_get-get_or, slice_get_past}
-use Rattle.hart_state.specs.declared.hart.HartState.{HartState}
+use Rattle.process.proofs.Common.{◌≡◌, ℕ, ◌+◌, ◌<◌, ◌≤◌, List, length, set, refl, sym, ap, ◌∙◌, arith, cond, Option, Some, None, nat_lt, slice_get, get_or, inl, inr, option_map, cases_eq, cases_lt, lt-ltb, le-ltb, slice_get-get_or, slice_get_past, HartState}
 use Rattle.process.proofs.HartStates.{get_set_other, get_set_same}
 
 -- a hart at place j, where those at places before n have changed

@@ -1,23 +1,11 @@
 -- What the next instruction of a thread does, by its effect and its fault.
-use Rattle.std.proofs.Common.{◌≡◌, ◌≢◌, ℕ, refl, sym, ap, ◌∙◌, Bool, true, false, cond, is_some, Option, Some, None, length}
-use Rattle.std.specs.Option.{option_map, option_or}
-use Rattle.process.proofs.Common.{Done, Effect, HartState, Here, Why, done_of, file_on, hart_in, refusal_of, runs, thread}
-use Rattle.mach_types.specs.declared.events.Why.TheVariants.{Idle, InBarrier}
-use Rattle.rv_inst.specs.Class.{is_call}
-use Rattle.rv_inst.specs.Execution.{fault_in, instruction_gate, outcome}
+use Rattle.process.proofs.Common.{◌≡◌, ◌≢◌, ℕ, refl, sym, ap, ◌∙◌, Bool, true, false, cond, is_some, Option, Some, None, length, option_map, option_or, Done, Effect, HartState, Here, Why, done_of, file_on, hart_in, refusal_of, runs, thread, Idle, InBarrier, is_call, fault_in, instruction_gate, exec_refusal, outcome_on, called, killed_in_call, is_inside_here, by_call, by_outcome, has_handler, is_held, next_effect, next_fault, others_gate, outcome_of, refusal_exec_by, unless_in_barrier, is_storable, reached, waiting_here, signalled, with_pending, Killed}
+use Rattle.rv_inst.specs.Execution.{outcome}
 use Rattle.rv_inst.specs.declared.effects.Effect.TheVariants as effect
-use Rattle.hart_state.specs.State.{exec_refusal, outcome_on}
-use Rattle.block_model.specs.Calls.{called}
-use Rattle.block_model.specs.Calls.Answers.{killed_in_call}
-use Rattle.block_model.specs.Sequences.{is_inside_here}
 use Rattle.mach_types.specs.declared.events.Choice.TheVariants as asked
-use Rattle.block_model.specs.Events.Exec.{by_call, by_fault, by_outcome, has_handler, is_held, next_effect, next_fault, one_instruction, others_gate, outcome_of, refusal_exec_by}
-use Rattle.block_model.specs.Events.Preempt.{unless_in_barrier}
-use Rattle.block_model.specs.Here.{is_storable, reached, view_of_all, waiting_here}
+use Rattle.block_model.specs.Events.Exec.{by_fault, one_instruction}
+use Rattle.block_model.specs.Here.{view_of_all}
 use Rattle.block_model.specs.Instruction as instruction
-use Rattle.block_model.specs.Kernel.{signalled}
-use Rattle.mach_types.specs.Kernel.Signals.{with_pending}
-use Rattle.mach_types.specs.declared.limits.End.TheVariants.{Killed}
 
 -- a fault, a call, and another instruction
 pub done_fault : (here : Here) (t signal : ℕ) → runs here ≡ Some t → next_fault here t ≡ Some signal → done_of asked.Exec here ≡ by_fault here t signal

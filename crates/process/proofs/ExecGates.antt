@@ -1,26 +1,18 @@
 -- Stores that wait on pages, and the gate of the next instruction.
-use Rattle.std.proofs.Common.{◌≡◌, ℕ, zero, suc, ◌+◌, ◌-◌, ◌/◌, ◌<◌, ◌≤◌, ◌↔◌, ◌⊎◌, List, [], ◌∷◌, length, take, get_or, min, max, refl, sym, ap, ◌∙◌, arith, inl, inr, Bool, true, false, cond, not, ◌&&◌, ◌||◌, Option, Some, None, is_some, IsTrue, nat_le, nat_lt}
-use Rattle.std.specs.List.{Any, list_any}
-use Rattle.std.specs.Option.{option_or}
-use Rattle.std.proofs.lemmas.Bool.{cases_eq, cases_lt, le-leb, lt-leb, le-ltb, lt-ltb}
+use Rattle.process.proofs.Common.{◌≡◌, ℕ, zero, suc, ◌+◌, ◌-◌, ◌/◌, ◌<◌, ◌≤◌, ◌⊎◌, List, [], ◌∷◌, length, take, get_or, refl, sym, ap, ◌∙◌, arith, inl, inr, Bool, true, false, cond, not, ◌&&◌, ◌||◌, Option, Some, None, is_some, nat_le, nat_lt, list_any, option_or, cases_eq, cases_lt, le-leb, lt-leb, le-ltb, lt-ltb, take-length, list_any_more, slice_get-get_or, each_byte, is_in, HartState, IsTied, Next, Parts, Plain, Setting, Stand, Store, Why, exec_refusal, hart_at, here_at, runs, Idle, InBarrier, instruction_gate, Neighbour, or_in_segment, lies_waiting_on, is_held, next_effect, next_fault, others_gate, refusal_exec, unless_in_barrier, IsNextAt, lies_in, lies_outside}
+use Rattle.std.proofs.Common.{◌↔◌, min, max, IsTrue}
+use Rattle.std.specs.List.{Any}
 use Rattle.std.proofs.lemmas.Bool.Decides.{nat_tests}
-use Rattle.std.proofs.Math.Seq.{take-length}
-use Rattle.std.proofs.lemmas.List.Folds.{Any-from_list_any, list_any-from_Any, list_any_more}
-use Rattle.std.proofs.lemmas.Option.{slice_get-get_or}
+use Rattle.std.proofs.lemmas.List.Folds.{Any-from_list_any, list_any-from_Any}
 use Rattle.mach_types.proofs.Laws.{each_byte-same}
-use Rattle.mach_types.specs.Bytes.{covers, each_byte}
-use Rattle.mach_types.specs.Kernel.Pages.{PageRun, is_in}
-use Rattle.process.proofs.Common.{HartState, IsTied, Next, Parts, Plain, Setting, Stand, Store, Why, exec_refusal, hart_at, here_at, runs}
-use Rattle.mach_types.specs.declared.events.Why.TheVariants.{Idle, InBarrier}
+use Rattle.mach_types.specs.Bytes.{covers}
+use Rattle.mach_types.specs.Kernel.Pages.{PageRun}
 use Rattle.store_buffers.specs.Pages.{HasByteAmong}
-use Rattle.rv_inst.specs.Execution.{instruction_gate}
-use Rattle.block_model.specs.Beside.{Neighbour, is_in_segment, or_in_segment}
-use Rattle.block_model.specs.Calls.Memory.{lies_on, lies_waiting_on}
-use Rattle.block_model.specs.Events.Exec.{is_held, next_effect, next_fault, others_gate, refusal_exec}
-use Rattle.block_model.specs.Events.Preempt.{unless_in_barrier}
+use Rattle.block_model.specs.Beside.{is_in_segment}
+use Rattle.block_model.specs.Calls.Memory.{lies_on}
 use Rattle.sys_calls.specs.Remapped.{has_page}
 use Rattle.sys_calls.specs.declared.memory_calls.PageSpan.{PageSpan}
-use Rattle.process.specs.ExecGates.{AreOfSegment, IsNextAt, lies_in, lies_outside}
+use Rattle.process.specs.ExecGates.{AreOfSegment}
 use Rattle.process.proofs.HartStates.{hart_there}
 
 -- a store has a byte on one of the pages where a buffer finds it there

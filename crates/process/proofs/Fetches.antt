@@ -1,12 +1,11 @@
 -- The instruction word at an address that is a multiple of 4: its four bytes lie in one page.
-use Rattle.std.proofs.Common.{◌≡◌, ◌≢◌, ℕ, ◌+◌, ◌*◌, ◌/◌, ◌%◌, ◌<◌, ◌≤◌, ◌&&◌, inl, inr, List, [], ◌∷◌, map, Option, Some, None, Bool, true, false, cond, nat_le, nat_lt, nat_eq, nat_cmp, is_le, is_lt, Less, Equal, refl, ap, sym, ◌∙◌, arith, eq-eqb, slice_index, option_map}
+use Rattle.process.proofs.Common.{◌≡◌, ◌≢◌, ℕ, ◌+◌, ◌*◌, ◌/◌, ◌%◌, ◌<◌, ◌≤◌, ◌&&◌, inl, inr, List, [], ◌∷◌, map, Option, Some, None, Bool, true, false, cond, nat_le, nat_lt, nat_eq, nat_cmp, refl, ap, sym, ◌∙◌, arith, eq-eqb, option_map, ne_eqb, cases_eq, cases_lt, le-leb, lt-leb, le-ltb, lt-ltb, is_in, permission_of, ImagePage, code_word, image_run, page_of, return_run, stack_run, start_runs, word_of_page}
+use Rattle.std.proofs.Common.{is_le, is_lt, Less, Equal, slice_index}
 use Rattle.std.specs.Cmp.{nat_cmp_is}
-use Rattle.std.proofs.lemmas.Bool.{ne_eqb, cases_eq, cases_lt, le-leb, lt-leb, le-ltb, lt-ltb}
 use Rattle.mach_types.specs.Bytes.{joined}
-use Rattle.mach_types.specs.Kernel.Pages.{can_execute, is_in, permission_of}
-use Rattle.elf_load.specs.declared.image.ImagePage.{ImagePage}
-use Rattle.elf_load.specs.Start.{code_byte, code_word, image_byte, image_run, page_byte, page_of, return_run, stack_run, start_runs}
-use Rattle.process.specs.Pages.{word_in, word_of_page}
+use Rattle.mach_types.specs.Kernel.Pages.{can_execute}
+use Rattle.elf_load.specs.Start.{code_byte, image_byte, page_byte}
+use Rattle.process.specs.Pages.{word_in}
 
 -- a byte of page n at an offset, where it may be executed
 abbrev pub code_in : List ImagePage → ℕ → ℕ → Option ℕ

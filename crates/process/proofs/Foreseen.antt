@@ -1,22 +1,7 @@
 -- What the interruption of an event comes to: that of the thread which its entry names, where it interrupts one.
-use Rattle.std.proofs.Common.{◌≡◌, ℕ, refl, sym, ap, ◌∙◌, Bool, true, false, ◌&&◌, cond, is_some, List, [], ◌∷◌, Option, Some, None, option_map}
-use Rattle.mach_types.specs.Kernel.Areas.{interruption}
-use Rattle.mach_types.specs.declared.events.Choice.{Choice}
+use Rattle.process.proofs.Common.{◌≡◌, ℕ, refl, sym, ap, ◌∙◌, Bool, true, false, ◌&&◌, cond, is_some, List, [], ◌∷◌, Option, Some, None, option_map, interruption, Choice, Entry, Area, Done, Effect, Hart, Here, IsPlace, Outcome, Parts, Stand, Store, area_here, area_of, byte_in, can_write_in, done_of, here_at, interruption_here, refusal_of, runs, is_call, areas_by_number, entry_in, number_of, pc_in, thread_in, done_drain_of, by_call, by_outcome, has_handler, next_effect, next_fault, outcome_of, done_done_by, done_preempt_by, done_killed, done_running, lives_on, handled_unless_killed, kills, done_take_by, waiting_here, interrupts}
 use Rattle.mach_types.specs.declared.events.Choice.TheVariants as asked
-use Rattle.mach_types.specs.declared.events.Entry.{Entry}
-use Rattle.process.proofs.Common.{Area, Done, Effect, Hart, Here, IsPlace, Outcome, Parts, Stand, Store, area_here, area_of, byte_in, can_write_in, done_of, here_at, interruption_here, refusal_of, runs}
-use Rattle.rv_inst.specs.Class.{is_call}
-use Rattle.sys_calls.specs.Registered.{areas_by_number}
-use Rattle.block_model.specs.Deciding.{entry_in, number_of, pc_in, thread_in}
-use Rattle.block_model.specs.Events.Drain.{done_drain_of}
-use Rattle.block_model.specs.Events.Exec.{by_call, by_effect, by_outcome, called_here, done_exec_by, has_handler, next_effect, next_fault, outcome_of}
-use Rattle.block_model.specs.Events.Finish.{done_done_by}
-use Rattle.block_model.specs.Events.Preempt.{done_preempt_by}
-use Rattle.block_model.specs.Events.Run.{done_killed, done_running, lives_on}
-use Rattle.block_model.specs.Events.Signal.{handled_unless_killed, kills}
-use Rattle.block_model.specs.Events.Take.{done_take_by}
-use Rattle.block_model.specs.Here.{waiting_here}
-use Rattle.process.specs.Foresight.{interrupts}
+use Rattle.block_model.specs.Events.Exec.{by_effect, called_here, done_exec_by}
 use Rattle.process.proofs.Places.{bytes_at, writable_at}
 use Rattle.process.proofs.SignalEvent.{receiving}
 

@@ -1,15 +1,7 @@
 -- An instruction that sets a register and does nothing else makes no fault, and may be executed whatever waits.
-use Rattle.std.proofs.Common.{◌≡◌, ℕ, Bool, true, false, cond, ltb, ◌&&◌, is_some, not, length, Option, Some, None, refl, sym}
-use Rattle.std.specs.Option.{option_map_or, option_or}
-use Rattle.std.proofs.lemmas.Bool.{and_parts, false≢true}
-use Rattle.mach_types.specs.declared.events.Why.TheVariants.{FullBuffer, Waiting}
-use Rattle.rv_inst.specs.Class.{sets_register}
-use Rattle.rv_inst.specs.Execution.{instruction_gate}
+use Rattle.process.proofs.Common.{◌≡◌, ℕ, Bool, true, false, cond, ltb, ◌&&◌, is_some, not, length, Option, Some, None, refl, sym, option_map_or, option_or, and_parts, false≢true, Waiting, sets_register, instruction_gate, exec_refusal, is_held, others_gate, refusal_exec, fault_by, Effect, HartState, IsNextAt, Next, Plain, Setting, hart_at, here_in_plain}
+use Rattle.mach_types.specs.declared.events.Why.TheVariants.{FullBuffer}
 use Rattle.rv_inst.specs.declared.effects.Effect.TheVariants as effect
-use Rattle.hart_state.specs.State.{exec_refusal}
-use Rattle.block_model.specs.Events.Exec.{is_held, others_gate, refusal_exec}
-use Rattle.block_model.specs.Instruction.{fault_by}
-use Rattle.process.proofs.Common.{Effect, HartState, IsNextAt, Next, Plain, Setting, hart_at, here_in_plain}
 use Rattle.process.proofs.ExecGates.{gate_is}
 
 abbrev is_local : Option Effect → Bool

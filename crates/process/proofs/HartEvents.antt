@@ -1,17 +1,8 @@
 -- The own hart after each kind of event.
-use Rattle.std.proofs.Common.{◌≡◌, ℕ, ◌+◌, ◌<◌, List, ◌∷◌, drop, refl, ◌∙◌, arith, true, Option, Some, None, append-nil, eq-eqb, option_map}
-use Rattle.mach_types.specs.Registers.{no_registers}
+use Rattle.process.proofs.Common.{◌≡◌, ℕ, ◌+◌, ◌<◌, List, ◌∷◌, drop, refl, ◌∙◌, arith, true, Option, Some, None, append-nil, eq-eqb, option_map, no_registers, HartState, IsTables, Plain, Saved, Setting, Store, by_call, by_outcome, counted, file_among, file_on, files_interrupted, hart_at, here_in_plain, id_on, is_ready, runs, thread, entered, hart_after, killed_in_call, done_drain_of, done_preempt_by, done_killed, done_running, id_of, with_id, begun_without}
 use Rattle.mach_types.specs.declared.sequences.Outcome.{Outcome as Comes}
-use Rattle.process.proofs.Common.{HartState, IsTables, Plain, Saved, Setting, Store, by_call, by_outcome, counted, file_among, file_on, files_interrupted, hart_at, here_in_plain, id_on, is_ready, runs, thread}
-use Rattle.hart_state.specs.State.{entered, hart_after}
 use Rattle.rv_inst.specs.Execution.{Outcome}
-use Rattle.block_model.specs.Calls.Answers.{killed_in_call}
-use Rattle.block_model.specs.Events.Drain.{done_drain_of}
-use Rattle.block_model.specs.Events.Preempt.{done_preempt_by}
-use Rattle.block_model.specs.Events.Run.{done_killed, done_running}
-use Rattle.block_model.specs.Ids.{id_of, with_id}
 use Rattle.block_model.proofs.Laws.{left_idle, ran_runs}
-use Rattle.process.specs.ContextSwitch.{begun_without}
 use Rattle.process.proofs.ExecEvent.{fault_killing, fault_pending}
 use Rattle.process.proofs.HartStates.{own_after}
 

@@ -1,12 +1,6 @@
 -- The harts after an event: the own one is as the event left it, and the others as it leaves those beside it.
-use Rattle.std.proofs.Common.{◌≡◌, ◌≢◌, ℕ, ◌+◌, ◌<◌, List, [], ◌∷◌, ◌++◌, drop, get_or, length, refl, sym, ap, ◌∙◌, subst, arith, Bool, true, false, cond, eqb, ◌||◌, Option, Some, None, slice_get, eq-eqb, set, ◌⊎◌, inl, inr, zero, suc}
-use Rattle.std.specs.Option.{option_map, option_map_or}
-use Rattle.std.proofs.lemmas.Bool.{ne_eqb, cases_eq}
-use Rattle.std.proofs.lemmas.Option.{same_Some, slice_get-get_or}
-use Rattle.process.proofs.Common.{Done, HartState, IsTied, Parts, Saved, Setting, credit_of, file_on, hart_at, hart_in, id_of, id_on, running_on, thread}
-use Rattle.block_model.specs.History.{file_among, lost_after}
-use Rattle.block_model.specs.Plain.{Plain, apply, here_in_plain}
-use Rattle.block_model.specs.Requests.{awaits_after, awaits_of_own, is_about, requests_after, restart_after, restarts_at, with_hart, without_hart}
+use Rattle.process.proofs.Common.{◌≡◌, ◌≢◌, ℕ, ◌+◌, ◌<◌, List, [], ◌∷◌, ◌++◌, drop, get_or, length, refl, sym, ap, ◌∙◌, subst, arith, Bool, true, false, cond, eqb, ◌||◌, Option, Some, None, slice_get, eq-eqb, set, ◌⊎◌, inl, inr, zero, suc, option_map, option_map_or, ne_eqb, cases_eq, same_Some, slice_get-get_or, Done, HartState, IsTied, Parts, Saved, Setting, credit_of, file_on, hart_at, hart_in, id_of, id_on, running_on, thread, file_among, lost_after, Plain, apply, here_in_plain, is_about, restarts_at, with_hart}
+use Rattle.block_model.specs.Requests.{awaits_after, awaits_of_own, requests_after, restart_after, without_hart}
 
 -- a hart in the list is the plain machine's
 pub hart_there : (s : Setting) (p : Plain) (m : Parts) (h : ℕ) (x : HartState) → IsTied s p m → h < s.limits.harts → slice_get m.harts.items h ≡ Some x → x ≡ hart_at s p h (credit_of m.harts.items h)

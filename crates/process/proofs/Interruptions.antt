@@ -1,21 +1,13 @@
 -- A thread that is interrupted on its way to a hart: what is written, and which harts lose reservations of it.
-use Rattle.std.proofs.Common.{◌≡◌, ◌≢◌, ℕ, ◌+◌, ◌<◌, ◌≤◌, ◌^◌, ◌&&◌, List, [], ◌∷◌, ◌++◌, append-nil, refl, sym, ap, ◌∙◌, subst, arith, Bool, true, false, not, cond, eqb, eq-eqb, Option, Some, None, is_some, set, slice_get, inl, inr, IfSome, IsSome, option_map}
-use Rattle.std.proofs.lemmas.Bool.{and_parts, cases_lt, ne_eqb}
-use Rattle.mach_types.specs.Bytes.{after_writes, byte_after, each_byte, written}
-use Rattle.mach_types.proofs.Laws.{each_byte-split}
-use Rattle.mach_types.specs.Kernel.Areas.{Words, are_words_writable, interruption, is_clearable, is_inside, named, outcome_of, pc_after, pointer_cleared, words_entered, words_on, words_written, writes_of}
-use Rattle.process.proofs.Common.{Area, Done, HartState, Here, IsWritten, Outcome, Parts, Saved, Write, file_among, is_writable, lost_unless, next_id}
-use Rattle.mach_types.specs.declared.sequences.BadWhy.{BadWhy}
+use Rattle.process.proofs.Common.{◌≡◌, ◌≢◌, ℕ, ◌+◌, ◌<◌, ◌≤◌, ◌^◌, ◌&&◌, List, [], ◌∷◌, ◌++◌, append-nil, refl, sym, ap, ◌∙◌, subst, arith, Bool, true, false, not, cond, eqb, eq-eqb, Option, Some, None, is_some, set, slice_get, inl, inr, IfSome, IsSome, option_map, and_parts, cases_lt, ne_eqb, after_writes, each_byte, written, each_byte-split, Words, interruption, is_inside, named, pc_after, words_entered, words_on, words_written, writes_of, Area, Done, HartState, Here, IsWritten, Outcome, Parts, Saved, Write, file_among, is_writable, lost_unless, next_id, BadWhy, IsAlike, Map, are_visible, byte_in, can_write_in, held_in, writable_is_visible, done_killed, done_run, done_running, lives_on, area_here, can_write_words, files_interrupted, interruption_here, words_to, IsChanged, IsReadied, IsWaiting}
+use Rattle.mach_types.specs.Bytes.{byte_after}
+use Rattle.mach_types.specs.Kernel.Areas.{are_words_writable, is_clearable, outcome_of, pointer_cleared}
 use Rattle.mach_types.specs.declared.sequences.BadWhy.TheVariants as bad
 use Rattle.mach_types.specs.declared.sequences.Named.{Named}
 use Rattle.mach_types.specs.declared.sequences.Named.TheVariants as names
 use Rattle.mach_types.specs.declared.sequences.Outcome.TheVariants as comes_to
-use Rattle.page_map.specs.Map.{IsAlike, Map, are_visible, byte_in, can_write_in, held_in}
 use Rattle.page_map.specs.MapLaws.{byte_in-ends, byte_in-readable}
-use Rattle.page_map.proofs.Laws.{alike_holds, writable_is_visible}
-use Rattle.block_model.specs.Events.Run.{done_killed, done_run, done_running, lives_on}
-use Rattle.block_model.specs.Sequences.{area_here, can_write_words, files_interrupted, interruption_here, words_to}
-use Rattle.process.specs.ContextSwitch.{IsChanged, IsReadied, IsWaiting}
+use Rattle.page_map.proofs.Laws.{alike_holds}
 use Rattle.process.proofs.Events.{AreBeside, HaveLost, IsQuiet, quietly}
 use Rattle.process.proofs.HartStates.{get_set_other, get_set_same, of_each}
 use Rattle.process.proofs.ReservationLosses.{lost_app}

@@ -1,14 +1,12 @@
 -- A page found by a search of rising numbers.
-use Rattle.std.proofs.Common.{position, Bool, true, false, cond, nat_eq, nat_lt}
+use Rattle.process.proofs.Common.{position, Bool, true, false, cond, nat_eq, nat_lt, ◌≡◌, ◌≢◌, ℕ, ◌<◌, ◌≤◌, List, [], ◌∷◌, length, map, Some, None, nat_cmp, refl, sym, ap, arith, zero, suc, get_or, eq-eqb, inl, inr, Ok, Err, IsStrictlyIncreasing, ne_eqb, cases_eq, cases_lt, lt-ltb, le-ltb, eqb-true, ImagePage, page_of}
 use Rattle.std.specs.List.{position_or_len}
 use Rattle.std.proofs.lemmas.List.Quantifiers.{position-Some}
 use Rattle.std.proofs.lemmas.List.Sums.{position_or_len_is, fails_before_first}
-use Rattle.std.proofs.Common.{◌≡◌, ◌≢◌, ℕ, ◌<◌, ◌≤◌, List, [], ◌∷◌, length, map, Some, None, nat_cmp, refl, sym, ap, arith, zero, suc, get_or, eq-eqb, add-one, inl, inr, Ok, Err}
-use Rattle.std.specs.List.Sorted.{IsStrictlyIncreasing, IsBinarySearchResult}
-use Rattle.std.proofs.lemmas.Bool.{ne_eqb, cases_eq, cases_lt, lt-ltb, le-ltb, ltb-false, eqb-true}
+use Rattle.std.proofs.Common.{add-one}
+use Rattle.std.specs.List.Sorted.{IsBinarySearchResult}
+use Rattle.std.proofs.lemmas.Bool.{ltb-false}
 use Rattle.std.proofs.lemmas.List.Sorted.{searched}
-use Rattle.elf_load.specs.declared.image.ImagePage.{ImagePage}
-use Rattle.elf_load.specs.Start.{page_of}
 
 -- among rising numbers, a later one is greater
 pub rises : (xs : List ℕ) (i j : ℕ) → IsStrictlyIncreasing xs → i < j → j < length xs → get_or xs i 0 < get_or xs j 0

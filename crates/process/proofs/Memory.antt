@@ -1,14 +1,10 @@
 -- Memory as the page map shows it where it holds the pages of the process, and the pages after writes.
-use Rattle.std.proofs.Common.{◌≡◌, ℕ, ◌/◌, ◌%◌, List, [], ◌∷◌, refl, sym, ap, ◌∙◌, Bool, true, false, ◌&&◌, cond, Option, Some, None, option_map}
-use Rattle.std.proofs.Math.Path.{fun_ext}
-use Rattle.mach_types.specs.Bytes.{overlay, byte_over, written, all_stored}
-use Rattle.process.proofs.Common.{IsWritten, Store, Write}
-use Rattle.mach_types.specs.Kernel.Pages.{Pages, can_read, can_write, lets, permission_at, permission_of}
+use Rattle.process.proofs.Common.{◌≡◌, ℕ, ◌/◌, ◌%◌, List, [], ◌∷◌, refl, sym, ap, ◌∙◌, Bool, true, false, ◌&&◌, cond, Option, Some, None, option_map, fun_ext, written, all_stored, IsWritten, Store, Write, Pages, can_read, can_write, permission_at, permission_of, Map, byte_in, can_write_in, held_in, permission_in, HoldsPages, IsReadable}
+use Rattle.mach_types.specs.Bytes.{overlay, byte_over}
+use Rattle.mach_types.specs.Kernel.Pages.{lets}
 use Rattle.block_model.specs.Record.{Kernel}
-use Rattle.page_map.specs.Map.{Map, Page, byte_at, byte_in, bytes_if, can_write_in, held_in, page_in, permission_in}
-use Rattle.sys_calls.specs.Made.{HoldsPages}
+use Rattle.page_map.specs.Map.{Page, byte_at, bytes_if, page_in}
 use Rattle.block_model.specs.Here.{memory_in, writable_in}
-use Rattle.process.specs.Refinement.{IsReadable}
 
 -- stores as writes
 pub written_stored : (ss : List Store) (a below : ℕ) → written (all_stored ss) a below ≡ overlay ss a below

@@ -1,13 +1,8 @@
 -- The next instruction of the thread on a hart, and why it may not be executed.
-use Rattle.std.proofs.Common.{◌≡◌, ℕ, inl, List, get_or, refl, sym, ap, ◌∙◌, subst, Bool, Option, Some, None, IfSome}
+use Rattle.process.proofs.Common.{◌≡◌, ℕ, inl, List, get_or, refl, sym, ap, ◌∙◌, subst, Bool, Option, Some, None, IfSome, Effect, HartState, Here, ImagePage, IsNextAt, IsPlace, IsPlanned, Next, Parts, Stand, Why, byte_in, can_write_in, credit_of, here_at, here_in_plain, refusal_of, runs, HasAccessSizes, refusal_exec_by, is_storable, reached, fault_by, fetched, file_of, file_on, hart_in}
 use Rattle.mach_types.specs.declared.events.Choice.TheVariants as asked
-use Rattle.process.proofs.Common.{Effect, HartState, Here, ImagePage, IsNextAt, IsPlace, IsPlanned, Next, Parts, Stand, Why, byte_in, can_write_in, credit_of, here_at, here_in_plain, refusal_of, runs}
-use Rattle.rv_inst.specs.Sizes.{HasAccessSizes}
-use Rattle.block_model.specs.Events.Exec.{refusal_exec_by}
-use Rattle.block_model.specs.Here.{is_storable, reached}
-use Rattle.block_model.specs.Instruction.{fault_by, fetched, next_effect, next_fault}
+use Rattle.block_model.specs.Instruction.{next_effect, next_fault}
 use Rattle.process.proofs.Places.{alone_here, hart_is, reached_at, storable_at}
-use Rattle.process.specs.Harts.{file_of, file_on, hart_in}
 
 -- the next instruction of the file that a hart keeps is that of the place
 pub next_at : (here : Here) (x : HartState) (ran events credit : ℕ) (code : List ImagePage) (byte : ℕ → Option ℕ) (writable : ℕ → Bool) (next : Next)

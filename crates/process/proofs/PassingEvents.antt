@@ -1,16 +1,8 @@
 -- The parts of a process after an event of another process, which passed it by.
-use Rattle.std.proofs.Common.{◌≡◌, ℕ, List, [], ◌∷◌, map, refl, sym, ap, ◌∙◌, Bool, true, false, eqb, ◌&&◌, Option, Some, None, is_some, slice_get, option_map, zero, suc, eq-eqb, inl, inr}
-use Rattle.std.specs.Option.{option_map_or}
-use Rattle.std.proofs.lemmas.Bool.{cases_eq, ne_eqb}
-use Rattle.mach_types.specs.declared.user_memory.Write.{Write}
-use Rattle.block_model.specs.Here.{Barrier, Done}
-use Rattle.block_model.specs.Plain.{Plain}
-use Rattle.block_model.specs.Setting.{Setting}
+use Rattle.process.proofs.Common.{◌≡◌, ℕ, List, [], ◌∷◌, map, refl, sym, ap, ◌∙◌, Bool, true, false, eqb, ◌&&◌, Option, Some, None, is_some, slice_get, option_map, zero, suc, eq-eqb, inl, inr, option_map_or, cases_eq, ne_eqb, Write, Barrier, Done, Plain, Setting, HartState, IsTied, Parts, asked_by, credit_of, hart_at, taken_aside, lost_by_all}
 use Rattle.block_model.specs.Stands.{aside}
-use Rattle.process.proofs.Common.{HartState, IsTied, Parts, asked_by, credit_of, hart_at}
 use Rattle.process.proofs.Events.{same_length}
-use Rattle.process.specs.Passing.{passed_by, taken_aside}
-use Rattle.process.specs.Reservations.{lost_by_all}
+use Rattle.process.specs.Passing.{passed_by}
 
 -- each hart is as the event leaves it
 abbrev pub ArePassed : ℕ → Bool → Option Barrier → List Write → List HartState → List HartState → Type 0

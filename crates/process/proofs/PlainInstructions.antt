@@ -1,14 +1,7 @@
 -- An instruction that is performed.
-use Rattle.std.proofs.Common.{◌≡◌, ℕ, inl, inr, refl, sym, ◌∙◌, Bool, false, Option, Some, None, get_or}
-use Rattle.std.proofs.lemmas.Bool.{false≢true}
+use Rattle.process.proofs.Common.{◌≡◌, ℕ, inl, inr, refl, sym, ◌∙◌, Bool, false, Option, Some, None, get_or, false≢true, is_call, fault_in, Effect, HartState, IsPlace, IsPlanned, Next, Parts, Stand, byte_in, can_write_in, credit_of, done_of, final, hart_at, here_at, refusal_of, runs, exec_refusal, outcome_on, by_outcome, next_effect, next_fault, outcome_of, is_storable, reached, IsOwnStep}
 use Rattle.mach_types.specs.declared.events.Choice.TheVariants as asked
-use Rattle.rv_inst.specs.Class.{is_call}
-use Rattle.rv_inst.specs.Execution.{Outcome, fault_in}
-use Rattle.process.proofs.Common.{Effect, HartState, IsPlace, IsPlanned, Next, Parts, Stand, byte_in, can_write_in, credit_of, done_of, final, hart_at, here_at, refusal_of, runs}
-use Rattle.hart_state.specs.State.{exec_refusal, outcome_on}
-use Rattle.block_model.specs.Events.Exec.{by_outcome, next_effect, next_fault, outcome_of}
-use Rattle.block_model.specs.Here.{is_storable, reached}
-use Rattle.process.specs.Planned.{IsOwnStep}
+use Rattle.rv_inst.specs.Execution.{Outcome}
 use Rattle.process.proofs.ExecEvent.{done_plain, no_fault, not_refused, outcome_same}
 use Rattle.process.proofs.Places.{goes_on, hart_is, reached_at, storable_at, was_not_stuck}
 

@@ -1,18 +1,11 @@
 -- A plain instruction that was executed is the one that was planned, and what it did is its event.
-use Rattle.std.proofs.Common.{◌≡◌, ℕ, ◌+◌, Bool, true, false, cond, leb, ltb, ◌&&◌, List, [], is_some, get_or, set, length, not, refl, sym, ap, ◌∙◌, subst, Option, Some, None, IfSome}
-use Rattle.std.specs.Option.{option_or}
-use Rattle.mach_types.specs.Bytes.{all_stored}
+use Rattle.process.proofs.Common.{◌≡◌, ℕ, ◌+◌, Bool, true, false, cond, ltb, ◌&&◌, List, [], is_some, get_or, set, length, not, refl, sym, ap, ◌∙◌, subst, Option, Some, None, IfSome, option_or, all_stored, is_call, HasAccessSizes, hart_after, is_held, others_gate, refusal_exec, fetched, Effect, Hart, HartState, ImagePage, IsNextAt, IsPlace, IsPlanned, IsUncounted, Next, Parts, Plain, Setting, Stand, Why, byte_in, by_outcome, can_write_in, counted, credit_of, done_of, exec_refusal, hart_at, here_at, here_in_plain, runs, file_of, stepped}
+use Rattle.std.proofs.Common.{leb}
 use Rattle.mach_types.specs.declared.events.Choice.TheVariants as asked
 use Rattle.mach_types.specs.declared.events.Why.TheVariants.{Others}
-use Rattle.rv_inst.specs.Class.{is_call}
 use Rattle.rv_inst.specs.Execution.{Outcome}
-use Rattle.rv_inst.specs.Sizes.{HasAccessSizes}
-use Rattle.hart_state.specs.State.{hart_after}
-use Rattle.block_model.specs.Events.Exec.{is_held, others_gate, refusal_exec}
-use Rattle.block_model.specs.Instruction.{fetched, next_effect}
-use Rattle.process.proofs.Common.{Effect, Hart, HartState, ImagePage, IsNextAt, IsPlace, IsPlanned, IsUncounted, Next, Parts, Plain, Setting, Stand, Why, byte_in, by_outcome, can_write_in, counted, credit_of, done_of, exec_refusal, hart_at, here_at, here_in_plain, runs}
-use Rattle.process.specs.Harts.{file_of}
-use Rattle.process.specs.PlainSteps.{IsPlainStep, stepped}
+use Rattle.block_model.specs.Instruction.{next_effect}
+use Rattle.process.specs.PlainSteps.{IsPlainStep}
 use Rattle.process.specs.declared.plain.PlainStep.{PlainStep}
 use Rattle.process.specs.declared.plain.PlainStep.TheVariants as step
 use Rattle.process.specs.Refinement.{IsAlone}

@@ -1,15 +1,8 @@
 -- The thread that leaves a hart.
-use Rattle.std.proofs.Common.{◌≡◌, sym, ap, ◌∙◌, true, false, eqb, Some, None, get_or}
-use Rattle.std.specs.List.{list_any}
-use Rattle.std.specs.Option.{option_map_or}
-use Rattle.mach_types.specs.Kernel.Scheduling.{Scheduling, is_of}
-use Rattle.mach_types.specs.Kernel.Threads.{is_live, is_ready_state, state_of}
+use Rattle.process.proofs.Common.{◌≡◌, sym, ap, ◌∙◌, true, false, eqb, Some, None, get_or, list_any, option_map_or, Scheduling, is_live, is_ready_state, state_of, Entry, Hart, HartState, IsPlace, Parts, Running, Stand, credit_of, entry_from, file_on, hart_at, here_at, refusal_of, runs, number_of, ready_listed, running_is}
+use Rattle.mach_types.specs.Kernel.Scheduling.{is_of}
 use Rattle.mach_types.specs.declared.events.Choice.TheVariants as asked
-use Rattle.mach_types.specs.declared.events.Entry.{Entry}
-use Rattle.process.proofs.Common.{Hart, HartState, IsPlace, Parts, Running, Stand, credit_of, entry_from, file_on, hart_at, here_at, refusal_of, runs}
 use Rattle.mach_types.specs.declared.events.Kind.TheVariants as kind
-use Rattle.block_model.specs.Deciding.{number_of}
-use Rattle.block_model.proofs.Laws.{ready_listed, running_is}
 use Rattle.process.proofs.Entries.{entry_here, leaver}
 use Rattle.process.proofs.StuckProcess.{live_with}
 use Rattle.process.proofs.Places.{hart_is, tables_at}

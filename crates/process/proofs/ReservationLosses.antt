@@ -1,9 +1,8 @@
 -- A hart that loses its reservation, write after write.
-use Rattle.std.proofs.Common.{◌≡◌, ℕ, ◌+◌, ◌<◌, List, [], ◌∷◌, ◌++◌, take, length, refl, sym, ap, ◌∙◌, Option, get_or}
+use Rattle.process.proofs.Common.{◌≡◌, ℕ, ◌+◌, ◌<◌, List, [], ◌∷◌, ◌++◌, take, length, refl, sym, ap, ◌∙◌, Option, get_or, HartState, Write, lost_after, lost_by_all}
 use Rattle.std.proofs.lemmas.List.{take_more}
-use Rattle.process.proofs.Common.{HartState, Write}
-use Rattle.block_model.specs.History.{lost_to, lost_after}
-use Rattle.process.specs.Reservations.{lost_by_write, lost_by_all}
+use Rattle.block_model.specs.History.{lost_to}
+use Rattle.process.specs.Reservations.{lost_by_write}
 
 -- reservations that are lost to some writes and to others behind them
 pub lost_app : (ws vs : List Write) (r : Option ℕ) → lost_after vs (lost_after ws r) ≡ lost_after (ws ++ vs) r

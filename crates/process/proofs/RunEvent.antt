@@ -1,34 +1,15 @@
 -- A thread that begins to run, and one that stays ready since the process is killed first.
-use Rattle.std.proofs.Common.{◌≡◌, ◌≢◌, ℕ, suc, ◌<◌, List, [], ◌∷◌, find, map, length, get_or, slice_get, refl, sym, ap, ◌∙◌, subst, arith, Bool, true, false, cond, eqb, Option, Some, None, ◌⊎◌, inl, inr}
-use Rattle.std.specs.List.{list_any}
-use Rattle.std.specs.List.Sorted.{IsStrictlyIncreasing}
-use Rattle.std.specs.Option.{IsSome, option_map, option_map_or}
-use Rattle.std.proofs.lemmas.Bool.{cases_eq, eqb-true, ne_eqb}
-use Rattle.std.proofs.lemmas.List.Kept.{AllPairs-from_increasing}
+use Rattle.process.proofs.Common.{◌≡◌, ◌≢◌, ℕ, suc, ◌<◌, List, [], ◌∷◌, find, map, length, get_or, slice_get, refl, sym, ap, ◌∙◌, subst, arith, Bool, true, false, cond, eqb, Option, Some, None, ◌⊎◌, inl, inr, list_any, IsStrictlyIncreasing, IsSome, option_map, option_map_or, cases_eq, eqb-true, ne_eqb, AllPairs-from_increasing, area_of, lowest_cid, AreSaved, Area, Done, Hart, HartState, Here, IsPlace, IsUncounted, IsWritten, Kernel, Map, Outcome, Parts, Saved, Stand, Write, counted, credit_of, file_among, files_interrupted, hart_at, harts_that, here_at, holds, interruption_here, lost_unless, refusal_of, Scheduling, without_ready, Thread, Threads, is_ready, is_ready_state, is_thread, state_if, state_of, with_state, Tid, Killed, SIGSEGV, ThreadState, Ready, Running, entered, IsTable, Table, saved_of, with_saved, emptied, is_kept, saved_of_others, areas_by_number, HoldsTables, done_killed, done_run, done_running, lives_on, id_of, next_id, with_id, ready_listed, HasHart, IsChanged, IsReadied, IsWaiting, begun_without}
 use Rattle.mach_types.proofs.Laws.{state_of-with_state_same}
-use Rattle.mach_types.specs.Kernel.Areas.{area_of, lowest_cid}
-use Rattle.process.proofs.Common.{AreSaved, Area, Done, Hart, HartState, Here, IsPlace, IsUncounted, IsWritten, Kernel, Map, Outcome, Parts, Saved, Stand, Write, counted, credit_of, file_among, files_interrupted, hart_at, harts_that, here_at, holds, interruption_here, lost_unless, refusal_of}
-use Rattle.mach_types.specs.Kernel.Scheduling.{Scheduling, without_ready}
-use Rattle.mach_types.specs.Kernel.Threads.{Thread, Threads, is_ready, is_ready_state, is_running_state, is_thread, numbers, state_if, state_of, with_state}
+use Rattle.mach_types.specs.Kernel.Threads.{is_running_state, numbers}
 use Rattle.mach_types.specs.declared.events.Choice.TheVariants as asked
-use Rattle.mach_types.specs.declared.events.Tid.{Tid}
-use Rattle.mach_types.specs.declared.limits.End.TheVariants.{Killed}
 use Rattle.mach_types.specs.declared.sequences.Outcome.TheVariants as comes_to
-use Rattle.mach_types.specs.declared.signals.TheConstants.{SIGSEGV}
-use Rattle.mach_types.specs.declared.threads.ThreadState.{ThreadState}
-use Rattle.mach_types.specs.declared.threads.ThreadState.TheVariants.{Ready, Running}
-use Rattle.hart_state.specs.State.{entered}
 use Rattle.scheduler.specs.Holding.{is_ready as is_listed}
-use Rattle.kernel_threads.specs.Table.{IsTable, Table, saved_of, with_saved}
-use Rattle.kernel_threads.proofs.Laws.{emptied, is_kept, ready_saves_something, saved_of_others}
-use Rattle.sys_calls.specs.Registered.{areas_by_number}
-use Rattle.sys_calls.specs.Tables.{HoldsTables}
+use Rattle.kernel_threads.proofs.Laws.{ready_saves_something}
 use Rattle.sys_calls.proofs.Laws.{holds_past_ids, holds_scheduling, holds_threads}
-use Rattle.block_model.specs.Events.Run.{done_killed, done_run, done_running, lives_on}
-use Rattle.block_model.specs.Ids.{id_of, is_running, next_id, with_id}
+use Rattle.block_model.specs.Ids.{is_running}
 use Rattle.block_model.specs.Kernel.{ran}
-use Rattle.block_model.proofs.Laws.{ready_listed, run_ready, stand_free_id}
-use Rattle.process.specs.ContextSwitch.{HasHart, IsChanged, IsReadied, IsWaiting, begun_without}
+use Rattle.block_model.proofs.Laws.{run_ready, stand_free_id}
 use Rattle.process.proofs.Entries.{uncounted_as}
 use Rattle.process.proofs.HartEvents.{killed_own, run_own}
 use Rattle.process.proofs.ConcurrencyIds.{held_here, id_with_other, id_with_same, ready_apart}

@@ -1,9 +1,5 @@
 -- What is kept of the threads after an event.
-use Rattle.std.proofs.Common.{◌≡◌, ◌≢◌, ℕ, [], ◌∷◌, sym, ap, ◌∙◌, Some, None, inl, inr, ◌⊎◌}
-use Rattle.std.proofs.lemmas.Bool.{cases_eq, ne_eqb}
-use Rattle.process.proofs.Common.{AreSaved, Hart, Running, Saved, file_among, state_of}
-use Rattle.kernel_threads.specs.Table.{Table, IsTable, saved_of, with_saved}
-use Rattle.kernel_threads.proofs.Laws.{emptied, is_kept, running_saves_nothing, saved_of_others}
+use Rattle.process.proofs.Common.{◌≡◌, ◌≢◌, ℕ, [], ◌∷◌, sym, ap, ◌∙◌, Some, None, inl, inr, ◌⊎◌, cases_eq, ne_eqb, AreSaved, Hart, Running, Saved, file_among, state_of, Table, IsTable, saved_of, with_saved, emptied, is_kept, running_saves_nothing, saved_of_others}
 
 -- an instruction sets the file of a thread that runs, of which nothing is kept
 pub saved_plain : (f : ℕ → Saved) (t : ℕ) (y : Saved) (h : Hart) (table : Table) → IsTable table → state_of t table.threads ≡ Some (Running h) → AreSaved f table → AreSaved (λ u. file_among ((t, y) ∷ []) u (f u)) table

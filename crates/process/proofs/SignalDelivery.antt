@@ -1,20 +1,10 @@
 -- A signal that is delivered: what is kept of the signals, the handler that is entered or isn't, and the parts after it.
-use Rattle.std.proofs.Common.{◌≡◌, ◌≢◌, ℕ, zero, suc, ◌-◌, ◌≤◌, List, [], ◌∷◌, ◌++◌, append-nil, map, find, set, get_or, refl, sym, ap, ◌∙◌, subst, arith, Bool, true, false, not, cond, eqb, eq-eqb, ◌&&◌, ◌||◌, Option, Some, None, slice_get, ◌⊎◌, inl, inr}
-use Rattle.std.specs.List.{list_any}
-use Rattle.std.specs.Option.{option_map, option_map_or}
-use Rattle.std.proofs.lemmas.Bool.{cases_eq, le-ltb, ne_eqb}
-use Rattle.process.proofs.Common.{Area, Done, Here, IsWritten, Outcome, Parts, Saved, Write, area_here, byte_in, can_write_in, file_among, interruption_here, is_writable, lost_unless}
-use Rattle.mach_types.specs.declared.sequences.BadWhy.{BadWhy}
+use Rattle.process.proofs.Common.{◌≡◌, ◌≢◌, ℕ, zero, suc, ◌-◌, ◌≤◌, List, [], ◌∷◌, ◌++◌, append-nil, map, find, set, get_or, refl, sym, ap, ◌∙◌, subst, arith, Bool, true, false, not, cond, eqb, eq-eqb, ◌&&◌, ◌||◌, Option, Some, None, slice_get, ◌⊎◌, inl, inr, list_any, option_map, option_map_or, cases_eq, le-ltb, ne_eqb, Area, Done, Here, IsWritten, Outcome, Parts, Saved, Write, area_here, byte_in, can_write_in, file_among, interruption_here, is_writable, lost_unless, BadWhy, Action, ThreadSignals, SIGSEGV, area_of, interruption, pc_after, writes_of, can_write_frame, frame_writes, Signalling, action_of, is_handler, is_ignored, is_ignored_by_default, is_of, mask_of, areas_by_number, done_delivery, dropped_if_ignored, file_interrupted, handled_unless_killed, kills, kills_unhandled, IsDelivered, IsInterrupted, done_here, killer_of}
 use Rattle.mach_types.specs.declared.sequences.Outcome.TheVariants as comes_to
-use Rattle.mach_types.specs.declared.signal_words.Action.{Action}
-use Rattle.mach_types.specs.declared.signal_words.ThreadSignals.{ThreadSignals}
-use Rattle.mach_types.specs.declared.signals.TheConstants.{SIGSEGV}
-use Rattle.mach_types.specs.Kernel.Areas.{area_of, interruption, pc_after, writes_of}
-use Rattle.mach_types.specs.Kernel.SignalFrames.{can_write_frame, entered, entered_action, frame_writes, has_flag}
-use Rattle.mach_types.specs.Kernel.Signals.{Signalling, acted, action_of, default_action, dropped, is_handler, is_held, is_ignored, is_ignored_by_default, is_of, mask_of, refuses_action, set_action, take_if, without_pending, without_signal}
-use Rattle.sys_calls.specs.Registered.{areas_by_number}
-use Rattle.block_model.specs.Events.Signal.{done_delivery, dropped_if_ignored, file_interrupted, handled_unless_killed, kills, kills_unhandled, signals_handled, signals_taken}
-use Rattle.process.specs.Delivering.{IsDelivered, IsEntered, IsInterrupted, done_here, killer_of}
+use Rattle.mach_types.specs.Kernel.SignalFrames.{entered, entered_action, has_flag}
+use Rattle.mach_types.specs.Kernel.Signals.{acted, default_action, dropped, is_held, refuses_action, set_action, take_if, without_pending, without_signal}
+use Rattle.block_model.specs.Events.Signal.{signals_handled, signals_taken}
+use Rattle.process.specs.Delivering.{IsEntered}
 use Rattle.process.proofs.Interruptions.{file_is, is_fatal, lost_nothing, lost_twice, none_written, written_both}
 
 -- SIGNALS

@@ -1,19 +1,10 @@
 -- The event of a signal: who receives it, and the parts after it.
-use Rattle.std.proofs.Common.{◌≡◌, ◌≢◌, ℕ, List, [], ◌∷◌, append-nil, refl, sym, ap, ◌∙◌, subst, Bool, cond, eqb, not, is_some, length, Option, Some, None, slice_get, ◌⊎◌, inl, inr, option_and_then, option_map}
-use Rattle.std.proofs.lemmas.Bool.{cases_eq, ne_eqb}
-use Rattle.std.proofs.lemmas.Option.{same_Some}
-use Rattle.process.proofs.Common.{AreSaved, Done, Hart, HartState, Here, IsPlace, IsUncounted, IsWritten, Kernel, Map, Outcome, Parts, Plain, Running, Saved, Setting, Stand, Store, Why, Write, area_of, counted, credit_of, done_of, file_among, file_on, hart_at, hart_in, here_at, here_in_plain, interruption_here, lost_unless, refusal_of, runs, state_of, thread}
+use Rattle.process.proofs.Common.{◌≡◌, ◌≢◌, ℕ, List, [], ◌∷◌, append-nil, refl, sym, ap, ◌∙◌, subst, Bool, cond, eqb, not, is_some, length, Option, Some, None, slice_get, ◌⊎◌, inl, inr, option_and_then, option_map, cases_eq, ne_eqb, same_Some, AreSaved, Done, Hart, HartState, Here, IsPlace, IsUncounted, IsWritten, Kernel, Map, Outcome, Parts, Plain, Running, Saved, Setting, Stand, Store, Why, Write, area_of, counted, credit_of, done_of, file_among, file_on, hart_at, hart_in, here_at, here_in_plain, interruption_here, lost_unless, refusal_of, runs, state_of, thread, Idle, InBarrier, Waiting, IsTable, Table, saved_of, running_saves_nothing, HoldsTables, holds_signals, unless_in_barrier, unless_waiting, handled_unless_killed, kills, IsChanged, IsDelivered, IsInterrupted, done_here, ended_unless, next_on}
 use Rattle.mach_types.specs.declared.events.Choice.TheVariants as asked
-use Rattle.mach_types.specs.declared.events.Why.TheVariants.{Idle, InBarrier, NoSignal, Waiting}
+use Rattle.mach_types.specs.declared.events.Why.TheVariants.{NoSignal}
 use Rattle.mach_types.specs.Kernel.Signals.{next_for}
-use Rattle.kernel_threads.specs.Table.{IsTable, Table, saved_of}
-use Rattle.kernel_threads.proofs.Laws.{running_saves_nothing}
-use Rattle.sys_calls.specs.Tables.{HoldsTables}
-use Rattle.sys_calls.proofs.Laws.{holds_signals}
-use Rattle.block_model.specs.Events.Preempt.{unless_in_barrier, unless_waiting}
-use Rattle.block_model.specs.Events.Signal.{done_next, done_signal_by, handled_unless_killed, kills, refusal_delivery, refusal_signal_by}
-use Rattle.process.specs.ContextSwitch.{IsChanged}
-use Rattle.process.specs.Delivering.{IsDelivered, IsInterrupted, done_here, ended_unless, gone_on_with, next_on}
+use Rattle.block_model.specs.Events.Signal.{done_next, done_signal_by, refusal_delivery, refusal_signal_by}
+use Rattle.process.specs.Delivering.{gone_on_with}
 use Rattle.process.proofs.Entries.{uncounted_as}
 use Rattle.process.proofs.HartEvents.{zero_more}
 use Rattle.process.proofs.HartStates.{own_after}

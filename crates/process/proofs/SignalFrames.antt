@@ -1,17 +1,10 @@
 -- The frame of a handler on the stack: who loses a reservation of it, that it can be read, and where it lies.
-use Rattle.std.proofs.Common.{◌≡◌, ℕ, suc, ◌+◌, ◌*◌, ◌<◌, ◌≤◌, List, [], ◌∷◌, take, drop, set, length, length-append, refl, sym, ap, ◌∙◌, arith, Bool, true, false, ◌&&◌, is_some, Option, Some, None, inl, inr, option_map}
-use Rattle.std.proofs.lemmas.Bool.{and_parts, cases_lt, lt-ltb, le-ltb}
-use Rattle.std.proofs.lemmas.List.{get_or-set_other, get_or-set_same, length-set, take_all}
-use Rattle.mach_types.specs.Bytes.{after_writes, each_byte}
-use Rattle.mach_types.proofs.Laws.{each_byte-split}
-use Rattle.mach_types.specs.Kernel.SignalFrames.{can_write_frame, frame_at, frame_words, frame_writes, handler_file, stack_pointer, words_stored}
-use Rattle.mach_types.specs.declared.signal_words.Action.{Action}
-use Rattle.process.proofs.Common.{HartState, IsWritten, Saved, lost_unless}
+use Rattle.process.proofs.Common.{◌≡◌, ℕ, suc, ◌+◌, ◌*◌, ◌<◌, ◌≤◌, List, [], ◌∷◌, take, drop, set, length, refl, sym, ap, ◌∙◌, arith, Bool, true, false, ◌&&◌, is_some, Option, Some, None, inl, inr, option_map, and_parts, cases_lt, lt-ltb, le-ltb, length-set, take_all, after_writes, each_byte, each_byte-split, can_write_frame, frame_writes, stack_pointer, Action, HartState, IsWritten, Saved, lost_unless, IsAlike, Map, are_visible, byte_in, can_write_in, writable_is_visible, lost_after}
+use Rattle.std.proofs.Common.{length-append}
+use Rattle.std.proofs.lemmas.List.{get_or-set_other, get_or-set_same}
+use Rattle.mach_types.specs.Kernel.SignalFrames.{frame_at, frame_words, handler_file, words_stored}
 use Rattle.mach_types.specs.declared.user_memory.Write.TheVariants.{Zeroed}
 use Rattle.rv_inst.specs.Execution.{has_reserved, lost_by}
-use Rattle.page_map.specs.Map.{IsAlike, Map, are_visible, byte_in, can_write_in}
-use Rattle.page_map.proofs.Laws.{writable_is_visible}
-use Rattle.block_model.specs.History.{lost_after}
 use Rattle.process.proofs.Interruptions.{written_by}
 
 -- RESERVATIONS

@@ -1,23 +1,13 @@
 -- Signals at a place: they are kept of the thread on a hart, a fault's signal is one of 31, and which faults have handlers.
-use Rattle.std.proofs.Common.{◌≡◌, ℕ, ◌≤◌, ◌<◌, List, [], ◌∷◌, map, find, refl, sym, ap, ◌∙◌, arith, Bool, true, false, not, cond, eqb, ◌&&◌, ◌||◌, Option, Some, None, is_some, get_or, subst, ◌%◌, option_map}
-use Rattle.std.specs.List.{list_any}
-use Rattle.mach_types.specs.declared.events.Entry.{Entry}
-use Rattle.process.proofs.Common.{Effect, Hart, HartState, ImagePage, IsPlace, IsPlanned, IsTied, Next, Parts, Running, Saved, Stand, entry_from, here_at, runs, thread}
-use Rattle.mach_types.specs.declared.events.Kind.{Kind}
-use Rattle.mach_types.specs.declared.signal_words.Action.{Action}
-use Rattle.mach_types.specs.declared.signal_words.ThreadSignals.{ThreadSignals}
-use Rattle.mach_types.specs.declared.signals.TheConstants.{SIGBUS, SIGSEGV}
-use Rattle.mach_types.specs.Kernel.Signals.{Signalling, action_of, is_handler, is_held, is_ignored, is_ignored_by_default, is_of, posted, with_pending}
-use Rattle.mach_types.specs.Kernel.Threads.{Thread, Threads, is_live, is_thread}
+use Rattle.process.proofs.Common.{◌≡◌, ℕ, ◌≤◌, ◌<◌, List, [], ◌∷◌, map, find, refl, sym, ap, ◌∙◌, arith, Bool, true, false, not, cond, eqb, ◌&&◌, ◌||◌, Option, Some, None, is_some, get_or, subst, ◌%◌, option_map, list_any, Entry, Effect, Hart, HartState, ImagePage, IsPlace, IsPlanned, IsTied, Next, Parts, Running, Saved, Stand, entry_from, here_at, runs, thread, Kind, Action, ThreadSignals, SIGSEGV, Signalling, action_of, is_handler, is_ignored, is_ignored_by_default, is_of, with_pending, Thread, Threads, is_live, is_thread, fault_in, fault_by, fetched, is_storable, reached, AreSignalsOfLive, running_is}
+use Rattle.mach_types.specs.declared.signals.TheConstants.{SIGBUS}
+use Rattle.mach_types.specs.Kernel.Signals.{is_held, posted}
 use Rattle.rv_inst.specs.Class.{atomic_write, conditional_write, plain_read, plain_write, reserving_read}
-use Rattle.rv_inst.specs.Execution.{access_fault, fault_in, is_allowed, unless_allowed}
+use Rattle.rv_inst.specs.Execution.{access_fault, is_allowed, unless_allowed}
 use Rattle.rv_inst.specs.declared.class.Access.{Access}
 use Rattle.rv_inst.specs.declared.effects.Effect.TheVariants as effect
-use Rattle.block_model.specs.Instruction.{fault_by, fetch_fault, fetched, next_effect, next_fault}
-use Rattle.block_model.specs.Here.{is_storable, reached}
+use Rattle.block_model.specs.Instruction.{fetch_fault, next_effect, next_fault}
 use Rattle.block_model.specs.Standing.{IsStanding}
-use Rattle.block_model.specs.Tables.{AreSignalsOfLive}
-use Rattle.block_model.proofs.Laws.{running_is}
 use Rattle.process.specs.Delivering.{HasSignals}
 use Rattle.process.proofs.HartStates.{hart_there}
 use Rattle.process.proofs.Places.{hart_is, thread_is}

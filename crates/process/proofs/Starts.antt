@@ -1,26 +1,16 @@
 -- Parts that have done nothing yet.
-use Rattle.std.proofs.Common.{◌≡◌, ℕ, nat_eq, zero, suc, ◌+◌, ◌/◌, ◌<◌, arith, List, [], ◌∷◌, length, map, refl, sym, ap, ◌∙◌, cond, Bool, true, false, Option, Some, None, is_some, slice_get, All}
-use Rattle.std.proofs.lemmas.Bool.{and_parts}
+use Rattle.process.proofs.Common.{◌≡◌, ℕ, nat_eq, zero, suc, ◌+◌, ◌/◌, ◌<◌, arith, List, [], ◌∷◌, length, map, refl, sym, ap, ◌∙◌, cond, Bool, true, false, Option, Some, None, is_some, slice_get, All, and_parts, same_Some, option_and_then, option_map, option_map_or, none_registered, can_read, can_write, is_in, permission_of, HartState, ImagePage, Parts, Saved, credit_of, hart_at, image_run, program_of, return_run, stack_run, start_file, start_runs, idle_hart, IsTable, saved_of, start_table, held_in, permission_in, areas_by_number, Setting, IsTied}
 use Rattle.std.proofs.lemmas.List.Elements.{All-map}
-use Rattle.std.proofs.lemmas.Option.{same_Some}
-use Rattle.std.specs.Option.{option_and_then, option_map, option_map_or}
 use Rattle.mach_types.specs.Kernel.Signals.{start_signalling}
-use Rattle.mach_types.specs.Kernel.Barriers.{none_registered}
-use Rattle.mach_types.specs.Kernel.Pages.{can_read, can_write, is_in, permission_of}
 use Rattle.mach_types.specs.declared.limits.Limits.{Limits}
-use Rattle.process.proofs.Common.{HartState, ImagePage, Parts, Saved, credit_of, hart_at}
 use Rattle.elf_load.specs.Images.{IsPermission}
-use Rattle.elf_load.specs.Start.{image_run, program_of, return_run, stack_run, start_byte, start_file, start_runs}
+use Rattle.elf_load.specs.Start.{start_byte}
 use Rattle.elf_load.specs.declared.image.Image.{Image}
-use Rattle.hart_state.specs.State.{idle_hart}
-use Rattle.kernel_threads.specs.Table.{IsTable, saved_of, start_table}
-use Rattle.page_map.specs.Map.{break_in, break_start_in, free_in, held_in, may_write, permission_in}
+use Rattle.page_map.specs.Map.{break_in, break_start_in, free_in, may_write}
 use Rattle.page_map.proofs.Laws.{write_alone}
-use Rattle.sys_calls.specs.Registered.{areas_by_number}
 use Rattle.block_model.specs.Kernel.{first_kernel}
 use Rattle.block_model.specs.Plain.{plain_start}
-use Rattle.block_model.specs.Setting.{Setting, setting_of as setting_by}
-use Rattle.process.specs.Refinement.{IsTied}
+use Rattle.block_model.specs.Setting.{setting_of as setting_by}
 
 -- where all elements are one, each place has that one
 each : {X : Type 0} (x : X) (xs : List X) (i : ℕ) → All (λ y. y ≡ x) xs → i < length xs → slice_get xs i ≡ Some x

@@ -1,9 +1,6 @@
 -- A process with a thread that is ready or runs isn't stuck.
-use Rattle.std.proofs.Common.{◌≡◌, ℕ, List, [], ◌∷◌, map, find, refl, Bool, true, false, not, Option, Some, None, is_some, ◌&&◌, ◌||◌, nat_le, length}
-use Rattle.std.specs.Option.{option_map, option_map_or}
-use Rattle.std.specs.List.{list_any}
-use Rattle.mach_types.specs.declared.threads.ThreadState.{ThreadState}
-use Rattle.mach_types.specs.Kernel.Threads.{Thread, Threads, goes_on, is_live, is_ready, is_ready_state, is_stuck, is_thread, is_waiting_state, state_if, state_of, with_state}
+use Rattle.process.proofs.Common.{◌≡◌, ℕ, List, [], ◌∷◌, map, find, refl, Bool, true, false, not, Option, Some, None, is_some, ◌&&◌, ◌||◌, nat_le, length, option_map, option_map_or, list_any, ThreadState, Thread, Threads, is_live, is_ready, is_ready_state, is_stuck, is_thread, state_if, state_of, with_state}
+use Rattle.mach_types.specs.Kernel.Threads.{goes_on, is_waiting_state}
 
 and_false : (b c : Bool) → c ≡ true → (b && not c) ≡ false
 and_false true true is = refl

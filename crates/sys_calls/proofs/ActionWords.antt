@@ -1,14 +1,9 @@
 -- The three words of an action: where they can be written, or read, they lie below 2^64.
-use Rattle.std.proofs.Common.{◌≡◌, ℕ, ◌+◌, ◌<◌, ◌≤◌, ◌^◌, Bool, true, false, ◌&&◌, is_some, refl, sym, ap, ◌∙◌}
-use Rattle.mach_types.proofs.Laws.{each_byte-past, each_byte-same, each_byte-split}
-use Rattle.sys_calls.proofs.Common.{Here, IsRead, Map, Saved, byte_in, can_write_in, each_byte}
-use Rattle.block_model.specs.Calls.Answers.{are_readable, are_writable}
+use Rattle.sys_calls.proofs.Common.{◌≡◌, ℕ, ◌+◌, ◌<◌, ◌≤◌, ◌^◌, Bool, true, false, ◌&&◌, is_some, refl, sym, ap, ◌∙◌, each_byte-past, each_byte-split, Here, IsRead, Map, Saved, byte_in, can_write_in, each_byte, are_readable, are_writable, pass_action, byte_in-ends, byte_in-readable, and_parts}
+use Rattle.mach_types.proofs.Laws.{each_byte-same}
 use Rattle.block_model.specs.Calls.Signals.{action_size}
-use Rattle.sys_calls.specs.Signalled.{pass_action}
 use Rattle.sys_calls.proofs.GuestMemory.{readable_is, writable_is}
 use Rattle.sys_calls.proofs.Spans.{readable_end}
-use Rattle.page_map.specs.MapLaws.{byte_in-ends, byte_in-readable}
-use Rattle.std.proofs.lemmas.Bool.{and_parts}
 
 -- the words by a test of a byte
 pub three_words : (test : ℕ → Bool) (at : ℕ) → pass_action test at ≡ ((each_byte test at 8 && each_byte test (at + 8) 8) && each_byte test (at + 16) 8)

@@ -1,11 +1,7 @@
 -- rseq(2): what the call comes to, case by case.
-use Rattle.std.proofs.Common.{◌≡◌, ℕ, Bool, true, false, Some, ap}
-use Rattle.mach_types.specs.Kernel.Areas.{are_words_writable, words_on, words_unregistered, words_written}
-use Rattle.sys_calls.proofs.Common.{Area, EFAULT, Here, IsRead, Map, Saved, can_write_in, is_writable}
-use Rattle.block_model.specs.Ids.{id_of}
+use Rattle.sys_calls.proofs.Common.{◌≡◌, ℕ, Bool, true, false, Some, ap, are_words_writable, words_on, words_unregistered, words_written, Area, EFAULT, Here, IsRead, Map, Saved, can_write_in, is_writable, id_of, CallDone, refused, said, killed_in_call, unregisters}
 use Rattle.block_model.specs.Kernel.{registered, unregistered}
-use Rattle.block_model.specs.Calls.Answers.{CallDone, refused, said, killed_in_call}
-use Rattle.block_model.specs.Calls.Sequences.{registers, unregisters}
+use Rattle.block_model.specs.Calls.Sequences.{registers}
 use Rattle.sys_calls.proofs.GuestMemory.{if_false, if_true}
 
 -- whether the words of an area can be written, as a rule reads it

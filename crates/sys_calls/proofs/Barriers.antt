@@ -1,20 +1,16 @@
 -- membarrier(2): a command that begins a barrier registers nothing, and what the call comes to.
-use Rattle.std.proofs.Common.{◌≡◌, ℕ, Bool, false, cond, [], Option, Some, None, refl, sym, ap, subst, ◌∙◌}
-use Rattle.std.specs.Option.{option_map_or}
-use Rattle.mach_types.specs.Kernel.Barriers.{answer_of, command, refusal, registered_after, registered_by}
+use Rattle.sys_calls.proofs.Common.{◌≡◌, ℕ, Bool, false, cond, [], Option, Some, None, refl, sym, ap, subst, ◌∙◌, option_map_or, command, registered_after, CallEnd, EINVAL, Here, HoldsTables, IsCaller, IsEntered, Kernel, Map, Saved, Table, Threads, argument, file_among, int_argument, returned, running_on, runs, saved_of, without_id, Registered, signed_32, running_harts, AreSaved, HasPages, IsAnswer, IsMade, StandsSo, barrier_of, gives_up, process_end}
+use Rattle.mach_types.specs.Kernel.Barriers.{answer_of, refusal, registered_by}
 use Rattle.mach_types.specs.Kernel.Barriers as barriers
 use Rattle.mach_types.specs.Kernel.PairBarriers.{answer_beside}
-use Rattle.sys_calls.proofs.Common.{CallEnd, EINVAL, Here, HoldsTables, IsCaller, IsEntered, Kernel, Map, Saved, Table, Threads, argument, file_among, int_argument, returned, running_on, runs, saved_of, without_id}
 use Rattle.mach_types.specs.declared.barriers.Answer.{Answer}
 use Rattle.mach_types.specs.declared.barriers.Answer.TheVariants.{Value, Begin}
 use Rattle.mach_types.specs.declared.barriers.BarrierCommand.{BarrierCommand}
 use Rattle.mach_types.specs.declared.barriers.BarrierCommand.TheVariants.{Query, Global, GlobalExpedited, RegisterGlobalExpedited, PrivateExpedited, RegisterPrivateExpedited, PrivateExpeditedRseq, RegisterPrivateExpeditedRseq, GetRegistrations}
-use Rattle.mach_types.specs.declared.barriers.Registered.{Registered}
-use Rattle.rv_inst.specs.Words.{signed_32, sum_64, word}
+use Rattle.rv_inst.specs.Words.{sum_64, word}
 use Rattle.block_model.specs.Kernel.{for_barriers}
 use Rattle.block_model.specs.Record as record_of
-use Rattle.block_model.specs.Calls.Barriers.{answers, membarrier, running_harts}
-use Rattle.sys_calls.specs.Made.{AreSaved, HasPages, IsAnswer, IsMade, StandsSo, barrier_of, gives_up, process_end}
+use Rattle.block_model.specs.Calls.Barriers.{answers, membarrier}
 use Rattle.sys_calls.proofs.KernelWrites.{entered_none, pages_kept}
 use Rattle.sys_calls.proofs.Laws.{holds_barriers}
 use Rattle.sys_calls.proofs.CallAnswers.{kept_own}

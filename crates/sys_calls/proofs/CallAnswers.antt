@@ -1,20 +1,16 @@
 -- Calls whose threads go on: an answer, with bytes printed, or with writes; what a call comes to that answers, is refused or ends the
 -- process; and calls by which a thread leaves its hart.
-use Rattle.std.proofs.Common.{◌≡◌, ℕ, Bool, true, false, cond, eqb, List, [], ◌∷◌, ◌++◌, length, Some, None, Result, Err, refl, sym, ap, subst, ◌∙◌, pos, Option}
-use Rattle.std.proofs.lemmas.Bool.{eqb-true, eqb-false, eq-eqb}
-use Rattle.sys_calls.proofs.Common.{CallEnd, Errno, Here, HoldsTables, IsRemapped, IsTables, Kernel, Map, Ready, Saved, Write, file_among, on, register, with_ready, without_id}
+use Rattle.sys_calls.proofs.Common.{◌≡◌, ℕ, Bool, true, false, cond, eqb, List, [], ◌∷◌, ◌++◌, length, Some, None, Result, Err, refl, sym, ap, subst, ◌∙◌, Option, eqb-true, eqb-false, eq-eqb, CallEnd, Errno, Here, HoldsTables, IsRemapped, IsTables, Kernel, Map, Ready, Saved, Write, file_among, on, register, with_ready, without_id, Threads, running_on, runs, state_of, with_state, Table, saved_of, left, CallDone, refused, returned, said, wrote, running_is, state_now, AreTables, IsAnswered, IsCaller, IsEntered, AreSaved, HasPages, IsAnswer, IsMade, StandsSo, barrier_of, gives_up, process_end}
+use Rattle.std.proofs.Common.{pos}
 use Rattle.mach_types.specs.declared.limits.End.{End}
-use Rattle.mach_types.specs.Kernel.Threads.{Threads, running_on, runs, state_of, with_state}
-use Rattle.kernel_threads.specs.Table.{Table, forget, saved_of, with_saved}
+use Rattle.kernel_threads.specs.Table.{forget, with_saved}
 use Rattle.kernel_threads.proofs.Laws.{saved_of-forget_other, saved_of-forget_same, is_kept, saved_of_others}
-use Rattle.block_model.specs.Kernel.{printed, left}
+use Rattle.block_model.specs.Kernel.{printed}
 use Rattle.block_model.specs.Record as record_of
-use Rattle.block_model.specs.Calls.Answers.{CallDone, negative, refused, returned, said}
-use Rattle.block_model.specs.Calls.Console.{wrote}
-use Rattle.block_model.proofs.Laws.{running_is, left_idle, state_now}
+use Rattle.block_model.specs.Calls.Answers.{negative}
+use Rattle.block_model.proofs.Laws.{left_idle}
 use Rattle.sys_calls.specs.declared.calling.CallEnd.TheVariants as over
-use Rattle.sys_calls.specs.Answered.{AreTables, IsAnswered, IsCaller, IsEntered, answer_of}
-use Rattle.sys_calls.specs.Made.{AreSaved, HasPages, IsAnswer, IsMade, StandsSo, barrier_of, gives_up, process_end}
+use Rattle.sys_calls.specs.Answered.{answer_of}
 use Rattle.sys_calls.proofs.KernelWrites.{entered_none, pages_entered, pages_kept}
 use Rattle.sys_calls.proofs.Laws.{holds_console, holds_past_pages, holds_left}
 use Rattle.sys_calls.proofs.CallerTables.{caller_runs, runs_there}

@@ -1,14 +1,9 @@
 -- The calls by their numbers, and which of them write nothing.
-use Rattle.std.proofs.Common.{◌≡◌, ◌≢◌, inl, inr, ℕ, Bool, true, false, cond, eqb, List, [], Option, Some, None, refl, sym, ap, ◌∙◌, ◌∷◌, Result, subst}
-use Rattle.sys_calls.proofs.Common.{CallDone, CallEnd, Errno, Errors, Here, IsAnswered, IsMade, Kernel, Map, Saved, Write, argument, int_argument, memory, refused, register, said, unless}
+use Rattle.sys_calls.proofs.Common.{◌≡◌, ◌≢◌, inl, inr, ℕ, Bool, true, false, cond, eqb, List, [], Option, Some, None, refl, sym, ap, ◌∙◌, ◌∷◌, Result, subst, CallDone, CallEnd, Errno, Errors, Here, IsAnswered, IsMade, Kernel, Map, Saved, Write, argument, int_argument, memory, refused, register, said, unless, call_of, called, call_number, moved_off, sched_setaffinity, futex, futex_wait, futex_wake, resumed, waited, frame_read}
 use Rattle.block_model.specs.Beside.{Neighbour}
-use Rattle.block_model.specs.Calls.{call_of, called}
-use Rattle.block_model.specs.Calls.Answers.{call_number}
-use Rattle.block_model.specs.Calls.Affinity.{moved_off, sched_setaffinity, set_given, setaffinity_errors}
-use Rattle.block_model.specs.Calls.Futexes.{futex, futex_wait, futex_wake, operation, futex_errors, wait_errors}
-use Rattle.block_model.specs.Calls.Signals.{resumed, rt_sigreturn}
-use Rattle.block_model.specs.Kernel.{waited}
-use Rattle.mach_types.specs.Kernel.SignalFrames.{frame_read}
+use Rattle.block_model.specs.Calls.Affinity.{set_given, setaffinity_errors}
+use Rattle.block_model.specs.Calls.Futexes.{operation, futex_errors, wait_errors}
+use Rattle.block_model.specs.Calls.Signals.{rt_sigreturn}
 use Rattle.sys_calls.specs.Made.{IsOwnCall}
 
 -- the call that the number names

@@ -1,14 +1,9 @@
 -- What the tables say of a thread that calls, and of the others.
-use Rattle.std.proofs.Common.{◌≡◌, ℕ, Bool, true, false, cond, eqb, List, [], ◌∷◌, map, Option, Some, None, is_some, refl, ap, ◌∙◌}
-use Rattle.std.specs.List.{find, list_any}
-use Rattle.std.specs.Option.{option_map, option_map_or}
+use Rattle.sys_calls.proofs.Common.{◌≡◌, ℕ, Bool, true, false, cond, eqb, List, [], ◌∷◌, map, Option, Some, None, is_some, refl, ap, ◌∙◌, list_any, option_map, option_map_or, is_of, Thread, Threads, is_live, is_ready_state, running_on, runs, state_of, with_clear, Table, IsTable, saved_of, AreTables, IsCaller, Kernel, on, running_is, ready_listed}
+use Rattle.std.specs.List.{find}
 use Rattle.mach_types.specs.declared.threads.ThreadState.{ThreadState}
-use Rattle.mach_types.specs.Kernel.Scheduling.{is_of}
-use Rattle.mach_types.specs.Kernel.Threads.{Thread, Threads, clear_if, is_live, is_on, is_ready_state, is_thread, running_on, runs, state_of, with_clear}
-use Rattle.kernel_threads.specs.Table.{Table, IsTable, saved_of}
+use Rattle.mach_types.specs.Kernel.Threads.{clear_if, is_on, is_thread}
 use Rattle.kernel_threads.proofs.Laws.{running_saves_nothing}
-use Rattle.sys_calls.proofs.Common.{AreTables, IsCaller, Kernel, on}
-use Rattle.block_model.proofs.Laws.{running_is, ready_listed}
 
 -- a thread in a state is live
 live_step : (o : Option Thread) (st : ThreadState) → option_map (λ th. th.state) o ≡ Some st → is_some o ≡ true

@@ -1,16 +1,9 @@
 -- clone(2): a child is new, and is ready.
-use Rattle.std.proofs.Common.{◌≡◌, ◌≢◌, ℕ, ◌+◌, Bool, true, false, cond, eqb, [], ◌∷◌, Option, Some, None, is_some, refl, sym, ap, ◌∙◌}
-use Rattle.std.proofs.lemmas.Bool.{eqb-true, eqb-false}
-use Rattle.std.specs.List.{list_any}
-use Rattle.std.specs.Option.{option_map, option_map_or}
-use Rattle.mach_types.specs.Kernel.Scheduling.{Scheduling, is_of, with_thread}
-use Rattle.mach_types.specs.Kernel.Threads.{IsThreads, Thread, Threads, is_full, is_live, is_ready_state, running_on, thread_of, with_child, with_clear}
-use Rattle.sys_calls.proofs.Common.{AreSaved, AreTables, Here, Kernel, Ready, Saved, argument, file_among}
-use Rattle.kernel_threads.specs.Table.{IsTable, Table, saved_of, with_start}
-use Rattle.mach_types.proofs.Laws.{next_is_new, state_of-with_child_same}
+use Rattle.sys_calls.proofs.Common.{◌≡◌, ◌≢◌, ℕ, ◌+◌, Bool, true, false, cond, eqb, [], ◌∷◌, Option, Some, None, is_some, refl, sym, ap, ◌∙◌, eqb-true, eqb-false, list_any, option_map, option_map_or, Scheduling, is_of, with_thread, IsThreads, Thread, Threads, is_full, is_live, is_ready_state, running_on, with_child, with_clear, AreSaved, AreTables, Here, Kernel, Ready, Saved, argument, file_among, IsTable, Table, saved_of, with_start, next_is_new, cleared, had_child, next_number, ready_listed}
+use Rattle.mach_types.specs.Kernel.Threads.{thread_of}
+use Rattle.mach_types.proofs.Laws.{state_of-with_child_same}
 use Rattle.kernel_threads.proofs.Laws.{saved_of-child, saved_of-with_start_other}
-use Rattle.block_model.specs.Kernel.{cleared, had_child, next_number}
-use Rattle.block_model.proofs.Laws.{child_not_held, child_same, ready_listed}
+use Rattle.block_model.proofs.Laws.{child_not_held, child_same}
 use Rattle.sys_calls.proofs.CallerTables.{cleared_runs, live_in}
 
 -- the next number isn't held, nor ready

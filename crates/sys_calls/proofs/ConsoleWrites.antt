@@ -1,9 +1,6 @@
 -- write(2) and writev(2): what is done with spans of bytes, by how many they are, whether they can be read, and the console's room.
-use Rattle.std.proofs.Common.{◌≡◌, ℕ, ◌≤◌, ◌<◌, true, false, not, eqb, leb, List, length, take, ◌∙◌}
-use Rattle.std.proofs.lemmas.Bool.{eq-eqb, le-leb, lt-leb, ne_eqb}
-use Rattle.mach_types.specs.declared.errors.TheConstants.{EFAULT, ENOSPC}
-use Rattle.sys_calls.proofs.Common.{CONSOLE_ROOM, Here, memory, refused, said}
-use Rattle.block_model.specs.Calls.Console.{Span, all_readable, bytes_of, room, total, write_spans, wrote}
+use Rattle.sys_calls.proofs.Common.{◌≡◌, ℕ, ◌≤◌, ◌<◌, true, false, not, eqb, leb, List, length, take, ◌∙◌, eq-eqb, le-leb, lt-leb, ne_eqb, EFAULT, ENOSPC, CONSOLE_ROOM, Here, memory, refused, said, Span, all_readable, bytes_of, room, total, wrote}
+use Rattle.block_model.specs.Calls.Console.{write_spans}
 use Rattle.sys_calls.proofs.GuestMemory.{if_false, if_true, not_false, not_true}
 
 pub spans_empty : (h : Here) (t : ℕ) (spans : List Span) → total spans ≡ 0 → write_spans h t spans ≡ said h t 0

@@ -1,7 +1,5 @@
 -- What a rule reads of the page map and of the caller's registers, and the choice that a test makes.
-use Rattle.std.proofs.Common.{◌≡◌, ℕ, ◌+◌, ◌%◌, ◌^◌, Bool, true, false, not, cond, Option, is_some, unwrap_or, refl, ap, ◌∙◌}
-use Rattle.sys_calls.proofs.Common.{Here, IsRead, Map, Saved, byte_in, can_write_in, each_byte, register, word_at}
-use Rattle.block_model.specs.Calls.Answers.{argument, are_readable, are_writable, int_argument, number_at}
+use Rattle.sys_calls.proofs.Common.{◌≡◌, ℕ, ◌+◌, ◌%◌, ◌^◌, Bool, true, false, not, cond, Option, is_some, unwrap_or, refl, ap, ◌∙◌, Here, IsRead, Map, Saved, byte_in, can_write_in, each_byte, register, word_at, argument, are_readable, are_writable, int_argument, number_at}
 
 pub if_true : {A : Type 0} (b : Bool) (x y : A) → b ≡ true → cond b x y ≡ x
 if_true true x y e = refl

@@ -1,9 +1,5 @@
 -- Writes that enter memory: none, one, and one after others; and the pages of the process then.
-use Rattle.std.proofs.Common.{◌≡◌, ℕ, List, [], ◌∷◌, ◌++◌, Option, Some, None, refl, sym, ap, subst, ◌∙◌, option_map}
-use Rattle.mach_types.specs.Bytes.{written}
-use Rattle.sys_calls.proofs.Common.{CallDone, Here, IsEntered, Map, Write, byte_in, held_in}
-use Rattle.mach_types.specs.Kernel.Pages.{Pages, permission_at}
-use Rattle.sys_calls.specs.Made.{HasPages, HoldsPages}
+use Rattle.sys_calls.proofs.Common.{◌≡◌, ℕ, List, [], ◌∷◌, ◌++◌, Option, Some, None, refl, sym, ap, subst, ◌∙◌, option_map, written, CallDone, Here, IsEntered, Map, Write, byte_in, held_in, Pages, permission_at, HasPages, HoldsPages}
 
 none_written : (o : Option ℕ) (a : ℕ) → o ≡ option_map (written [] a) o
 none_written None a = refl

@@ -1,18 +1,15 @@
 -- Calls that change pages: what the page map holds after them, which writes they tell, and when they are refused.
-use Rattle.std.proofs.Common.{◌≡◌, ℕ, ◌+◌, ◌-◌, ◌/◌, ◌<◌, ◌≤◌, ◌&&◌, inl, inr, Bool, true, false, not, cond, eqb, leb, ltb, List, [], ◌∷◌, Option, Some, None, is_some, Result, Ok, Err, refl, sym, ap, subst, ◌∙◌, arith, option_map, IsErr, IsErrAnd}
-use Rattle.std.proofs.lemmas.Bool.{and_parts, cases_lt, eqb-true, false≢true, le-leb, leb-true, lt-ltb, ltb-false, ltb-true, ne_eqb}
-use Rattle.mach_types.specs.Bytes.{written}
-use Rattle.sys_calls.proofs.Common.{EINVAL, Errno, Here, IsRemapped, Write}
+use Rattle.sys_calls.proofs.Common.{◌≡◌, ℕ, ◌+◌, ◌-◌, ◌/◌, ◌<◌, ◌≤◌, ◌&&◌, inl, inr, Bool, true, false, not, cond, eqb, leb, ltb, List, [], ◌∷◌, Option, Some, None, is_some, Result, Ok, Err, refl, sym, ap, subst, ◌∙◌, arith, option_map, and_parts, cases_lt, eqb-true, false≢true, le-leb, lt-ltb, ne_eqb, written, EINVAL, Errno, Here, IsRemapped, Write, PageRun, Pages, is_in, permission_of, run, zeros_of, break_run, permission_for, Map, break_in, break_start_in, free_in, held_in, permission_in, CallDone, argument, call_number, refused, said, mmap, zeros_if_mapped, HasPages, HoldsPages}
+use Rattle.std.proofs.Common.{IsErr, IsErrAnd}
+use Rattle.std.proofs.lemmas.Bool.{leb-true, ltb-false, ltb-true}
 use Rattle.mach_types.specs.declared.kernel_words.TheConstants.{MOST_PROT}
-use Rattle.mach_types.specs.Kernel.Pages.{PageRun, Pages, is_in, mapped_count, pages_of, permission_of, run, run_over, zeros_of}
-use Rattle.mach_types.specs.Kernel.PageCalls.{answer_unless, break_run, free_past, mapped_at, may_move_break, mmap_answer, mprotect_refusal, munmap_refusal, permission_for, protected, unmapped}
+use Rattle.mach_types.specs.Kernel.Pages.{mapped_count, pages_of, run_over}
+use Rattle.mach_types.specs.Kernel.PageCalls.{answer_unless, free_past, mapped_at, may_move_break, mmap_answer, mprotect_refusal, munmap_refusal, protected, unmapped}
 use Rattle.mach_types.proofs.Laws.{zeros_of-at}
-use Rattle.page_map.specs.Map.{Map, break_in, break_start_in, code_in, free_in, held_in, held_over, permission_in}
+use Rattle.page_map.specs.Map.{code_in, held_over}
 use Rattle.page_map.proofs.Laws.{IsProtectable, protectable}
 use Rattle.block_model.specs.Kernel.{paged}
-use Rattle.block_model.specs.Calls.Answers.{CallDone, argument, call_number, refused, said}
-use Rattle.block_model.specs.Calls.Memory.{are_mapping_flags, changed_unless, mapped_or_refused, may_break, mmap, permission_here, taken_by, unless_refused, zeros_if_mapped}
-use Rattle.sys_calls.specs.Made.{HasPages, HoldsPages}
+use Rattle.block_model.specs.Calls.Memory.{are_mapping_flags, changed_unless, mapped_or_refused, may_break, permission_here, taken_by, unless_refused}
 use Rattle.sys_calls.proofs.GuestMemory.{if_false, if_true}
 
 -- an error that `?` hands on

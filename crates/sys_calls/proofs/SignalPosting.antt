@@ -1,13 +1,8 @@
 -- tkill(2) and tgkill(2): a signal is posted, and a wait that it breaks is answered.
-use Rattle.std.proofs.Common.{◌≡◌, ℕ, Bool, true, false, not, ◌||◌, cond, eqb, [], ◌∷◌, None, is_some, ◌&&◌, Ok, refl, sym, ap, subst, ◌∙◌, ne_eqb}
-use Rattle.std.specs.Option.{option_map_or}
-use Rattle.sys_calls.proofs.Common.{AreTables, CallDone, EINVAL, ESRCH, Here, HoldsTables, IsAnswered, Kernel, Map, Scheduling, file_among, int_argument, refused, returned, said, with_ready}
-use Rattle.mach_types.specs.Kernel.Signals.{Signalling, next_for, posted}
-use Rattle.mach_types.specs.Kernel.Threads.{Threads, is_live, is_waiting_state, running_on, state_of, waits, with_woken}
-use Rattle.kernel_threads.specs.Table.{Table, answering, interrupted, with_answer}
-use Rattle.block_model.specs.Kernel.{woken}
-use Rattle.block_model.specs.Calls.Signals.{broken_wait, is_below_one, post, send, tgkill, tkill, waits_in_vain, with_posted}
-use Rattle.block_model.proofs.Laws.{woken_same}
+use Rattle.sys_calls.proofs.Common.{◌≡◌, ℕ, Bool, true, false, not, ◌||◌, cond, eqb, [], ◌∷◌, None, is_some, ◌&&◌, Ok, refl, sym, ap, subst, ◌∙◌, ne_eqb, option_map_or, AreTables, CallDone, EINVAL, ESRCH, Here, HoldsTables, IsAnswered, Kernel, Map, Scheduling, file_among, int_argument, refused, returned, said, with_ready, Signalling, next_for, posted, Threads, is_live, running_on, state_of, waits, with_woken, Table, answering, with_answer, woken, is_below_one, post, send, tgkill, tkill, woken_same}
+use Rattle.mach_types.specs.Kernel.Threads.{is_waiting_state}
+use Rattle.kernel_threads.specs.Table.{interrupted}
+use Rattle.block_model.specs.Calls.Signals.{broken_wait, waits_in_vain, with_posted}
 use Rattle.sys_calls.proofs.KernelWrites.{entered_none}
 use Rattle.sys_calls.proofs.GuestMemory.{if_false, if_true}
 use Rattle.sys_calls.proofs.Laws.{holds_signals, holds_woken}

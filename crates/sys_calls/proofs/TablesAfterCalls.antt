@@ -1,24 +1,16 @@
 -- A call keeps what agrees in the tables. There is a place for any tables, page map and registers: so what each place says of a call
 -- holds of it.
-use Rattle.std.proofs.Common.{◌≡◌, ℕ, zero, suc, ◌+◌, ◌/◌, ◌%◌, ◌<◌, ◌≤◌, ◌&&◌, Bool, true, false, leb, ltb, List, [], ◌∷◌, Option, Some, None, refl, sym, ap, subst, ◌∙◌, inl, inr, arith}
-use Rattle.std.proofs.lemmas.Bool.{cases_lt, eq-eqb, le-leb, le-ltb, lt-leb, lt-ltb}
-use Rattle.std.specs.Option.{option_map, option_map_or}
-use Rattle.mach_types.specs.Kernel.Pages.{PageRun, permission_of}
-use Rattle.sys_calls.proofs.Common.{CallEnd, HoldsTables, IsTables, Kernel, Saved, running_on}
+use Rattle.sys_calls.proofs.Common.{◌≡◌, ℕ, zero, suc, ◌+◌, ◌/◌, ◌%◌, ◌<◌, ◌≤◌, ◌&&◌, Bool, true, false, leb, ltb, List, [], ◌∷◌, Option, Some, None, refl, sym, ap, subst, ◌∙◌, inl, inr, arith, cases_lt, eq-eqb, le-leb, le-ltb, lt-leb, lt-ltb, option_map, option_map_or, PageRun, permission_of, CallEnd, HoldsTables, IsTables, Kernel, Saved, running_on, Map, break_in, break_start_in, free_in, held_in, permission_in, called, running_harts, Here, id_of, HasPages, IsMade, HoldSignals}
 use Rattle.mach_types.specs.declared.events.Hart.{Hart}
 use Rattle.mach_types.specs.declared.events.Tid.{Tid}
-use Rattle.page_map.specs.Map.{Map, Page, break_in, break_start_in, byte_at, free_in, held_in, page_in, permission_in}
+use Rattle.page_map.specs.Map.{Page, byte_at, page_in}
 use Rattle.page_map.specs.MapLaws.{page_in-past}
-use Rattle.block_model.specs.Calls.{called}
-use Rattle.block_model.specs.Calls.Barriers.{running_harts}
-use Rattle.block_model.specs.Here.{Here, runs}
-use Rattle.block_model.specs.Ids.{id_of}
+use Rattle.block_model.specs.Here.{runs}
 use Rattle.block_model.specs.Kernel.{first_kernel}
 use Rattle.block_model.specs.Setting.{Setting}
 use Rattle.block_model.proofs.Laws.{IsAgreed, agreed_called}
-use Rattle.sys_calls.specs.Made.{HasPages, IsAt, IsMade}
+use Rattle.sys_calls.specs.Made.{IsAt}
 use Rattle.sys_calls.specs.Registered.{HoldAreas}
-use Rattle.sys_calls.specs.Signalled.{HoldSignals}
 use Rattle.sys_calls.proofs.Laws.{held_is, holds_itself, record_with}
 use Rattle.sys_calls.proofs.GuestMemory.{if_false, if_true}
 

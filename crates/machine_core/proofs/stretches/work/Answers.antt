@@ -1,6 +1,4 @@
-use Rattle.std.proofs.Common.{◌≡◌, ap, cond, sym, ◌∙◌, false}
-use Rattle.block_model.specs.Stretches.{goes_on, stepped}
-use Rattle.machine_core.specs.Stretches.{stretch_of}
+use Rattle.machine_core.proofs.Common.{◌≡◌, ap, cond, sym, ◌∙◌, false, goes_on, stepped, stretch_of}
 use Rattle.machine_core.proofs.StretchWork.{not_begun, one_more, stopped}
 use Rattle.machine_core.proofs.stretches.work.Goals as goal
 

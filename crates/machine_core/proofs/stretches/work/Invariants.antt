@@ -1,4 +1,4 @@
-use Rattle.machine_core.specs.Stretches.{stretch_of}
+use Rattle.machine_core.proofs.Common.{stretch_of}
 use Rattle.machine_core.proofs.StretchWork.{IsHalfWorked}
 use Rattle.machine_core.proofs.stretches.work.Given as goal
 

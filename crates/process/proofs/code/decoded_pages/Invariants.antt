@@ -1,4 +1,4 @@
-use Rattle.std.proofs.Common.{◌≡◌, take}
+use Rattle.process.proofs.Common.{◌≡◌, take}
 use Rattle.process.proofs.code.decoded_pages.Given as goal
 
 -- the pages before are copied

@@ -1,5 +1,4 @@
-use Rattle.std.proofs.Common.{◌≡◌, take}
-use Rattle.process.specs.Pages.{code_of}
+use Rattle.process.proofs.Common.{◌≡◌, take, code_of}
 use Rattle.process.proofs.code.executable_pages.Given as goal
 
 -- those of the pages before are copied

@@ -1,6 +1,4 @@
-use Rattle.std.proofs.Common.{◌≡◌, ◌+◌, ap, ◌∙◌, arith, length}
-use Rattle.std.proofs.lemmas.List.{length_push}
-use Rattle.block_model.specs.Instruction.{instruction_of}
+use Rattle.process.proofs.Common.{◌≡◌, ◌+◌, ap, ◌∙◌, arith, length, length_push, instruction_of}
 use Rattle.process.proofs.Decoding.{none_decoded, one_decoded}
 use Rattle.process.proofs.code_page.instructions.Goals as goal
 

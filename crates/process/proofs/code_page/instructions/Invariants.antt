@@ -1,6 +1,5 @@
 -- So far the instructions of as many words as rounds.
-use Rattle.std.proofs.Common.{◌≡◌, length}
-use Rattle.process.specs.Pages.{AreDecoded}
+use Rattle.process.proofs.Common.{◌≡◌, length, AreDecoded}
 use Rattle.process.proofs.code_page.instructions.Given as goal
 
 abbrev pub invariant-loop-place : goal.invariant-loop-place

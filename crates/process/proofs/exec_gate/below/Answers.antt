@@ -1,4 +1,4 @@
-use Rattle.std.proofs.Common.{refl}
+use Rattle.process.proofs.Common.{refl}
 use Rattle.process.proofs.ExecGates.{span_below}
 use Rattle.process.proofs.exec_gate.below.Goals as goal
 

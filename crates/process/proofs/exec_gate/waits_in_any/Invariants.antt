@@ -1,7 +1,4 @@
-use Rattle.std.proofs.Common.{◌≡◌, false, take}
-use Rattle.std.specs.List.{list_any}
-use Rattle.hart_state.specs.declared.hart.HartState.{HartState}
-use Rattle.process.specs.ExecGates.{lies_outside}
+use Rattle.process.proofs.Common.{◌≡◌, false, take, list_any, HartState, lies_outside}
 use Rattle.process.proofs.exec_gate.waits_in_any.Given as goal
 
 abbrev pub invariant-loop-state : goal.invariant-loop-state

@@ -1,6 +1,4 @@
-use Rattle.std.proofs.Common.{◌||◌, sym, ap, ◌∙◌}
-use Rattle.std.specs.List.{list_any}
-use Rattle.process.specs.ExecGates.{lies_in}
+use Rattle.process.proofs.Common.{◌||◌, sym, ap, ◌∙◌, list_any, lies_in}
 use Rattle.process.proofs.ExecGates.{parted_any}
 use Rattle.process.proofs.exec_gate.waits_outside.Goals as goal
 

@@ -1,6 +1,5 @@
-use Rattle.std.proofs.Common.{◌≡◌, List, ◌++◌, Ok, Err, Result, IsOk, OnOk, arith}
-use Rattle.std.proofs.lemmas.Bool.{false≢true}
-use Rattle.process.proofs.Common.{Write}
+use Rattle.process.proofs.Common.{◌≡◌, List, ◌++◌, Ok, Err, arith, false≢true, Write}
+use Rattle.std.proofs.Common.{Result, IsOk, OnOk}
 use Rattle.process.proofs.kernel_writes.add.Goals as goal
 
 -- what fits is added

@@ -1,9 +1,7 @@
 -- The effect is what the instruction means. Every access of an instruction has 1, 2, 4 or 8 bytes.
-use Rattle.std.proofs.Common.{ap, ◌∙◌, Some}
-use Rattle.std.specs.Option.{option_map}
+use Rattle.process.proofs.Common.{ap, ◌∙◌, Some, option_map, Inst}
 use Rattle.rv_inst.proofs.Laws.{meaning-sized}
 use Rattle.rv_inst.specs.Meaning.{meaning}
-use Rattle.rv_inst.specs.declared.instruction.Inst.{Inst}
 use Rattle.process.proofs.next.asked_at.Goals as goal
 
 pub returns-clause-effect : goal.returns-clause-effect

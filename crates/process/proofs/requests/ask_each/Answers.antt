@@ -1,5 +1,4 @@
-use Rattle.std.proofs.Common.{rules, Some, ap, get_or, sym, ◌∙◌}
-use Rattle.process.specs.Barriers.{asked_by}
+use Rattle.process.proofs.Common.{rules, Some, ap, get_or, sym, ◌∙◌, asked_by}
 use Rattle.process.proofs.Membarriers.{asked_one}
 use Rattle.process.proofs.EachHart.{all_through, one_through}
 use Rattle.process.proofs.requests.ask_each.Goals as goal

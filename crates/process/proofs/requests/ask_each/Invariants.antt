@@ -1,6 +1,5 @@
 -- So far the harts before this one were asked.
-use Rattle.std.proofs.Common.{◌≡◌, ℕ, Some, slice_get, option_map}
-use Rattle.process.specs.Barriers.{asked_by}
+use Rattle.process.proofs.Common.{◌≡◌, ℕ, Some, slice_get, option_map, asked_by}
 use Rattle.process.proofs.EachHart.{changed_before}
 use Rattle.process.proofs.requests.ask_each.Given as goal
 

@@ -1,4 +1,4 @@
-use Rattle.std.proofs.Common.{◌≤◌, arith, sym, ◌∙◌, le-ltb}
+use Rattle.process.proofs.Common.{◌≤◌, arith, sym, ◌∙◌, le-ltb}
 use Rattle.mach_types.proofs.Laws.{has_hart-past}
 use Rattle.process.proofs.requests.has_hart.Goals as goal
 

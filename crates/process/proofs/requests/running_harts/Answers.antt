@@ -1,4 +1,4 @@
-use Rattle.process.specs.Barriers.{is_busy}
+use Rattle.process.proofs.Common.{is_busy}
 use Rattle.process.proofs.ConcurrencyIds.{one_more_fits}
 use Rattle.process.proofs.requests.running_harts.Goals as goal
 

@@ -1,6 +1,5 @@
 -- So far the set has those before this one on which threads run.
-use Rattle.std.proofs.Common.{◌≡◌}
-use Rattle.process.proofs.Common.{harts_that, is_busy}
+use Rattle.process.proofs.Common.{◌≡◌, harts_that, is_busy}
 use Rattle.process.proofs.requests.running_harts.Given as goal
 
 abbrev pub invariant-loop-hart : goal.invariant-loop-hart

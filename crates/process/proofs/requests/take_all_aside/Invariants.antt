@@ -1,6 +1,5 @@
 -- So far the harts before this one have no requests of that hart any more.
-use Rattle.std.proofs.Common.{◌≡◌, ℕ, eqb, slice_get, option_map}
-use Rattle.process.specs.Passing.{taken_aside}
+use Rattle.process.proofs.Common.{◌≡◌, ℕ, eqb, slice_get, option_map, taken_aside}
 use Rattle.process.proofs.EachHart.{changed_before}
 use Rattle.process.proofs.requests.take_all_aside.Given as goal
 

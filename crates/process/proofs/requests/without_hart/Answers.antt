@@ -1,4 +1,4 @@
-use Rattle.std.proofs.Common.{arith}
+use Rattle.process.proofs.Common.{arith}
 use Rattle.block_model.proofs.Laws.{without_hart-and}
 use Rattle.process.proofs.requests.without_hart.Goals as goal
 

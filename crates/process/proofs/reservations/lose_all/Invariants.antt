@@ -1,6 +1,5 @@
 -- So far the hart has lost what the writes before this one wrote.
-use Rattle.std.proofs.Common.{◌≡◌, take}
-use Rattle.process.specs.Reservations.{lost_by_all}
+use Rattle.process.proofs.Common.{◌≡◌, take, lost_by_all}
 use Rattle.process.proofs.reservations.lose_all.Given as goal
 
 abbrev pub invariant-loop-write : goal.invariant-loop-write

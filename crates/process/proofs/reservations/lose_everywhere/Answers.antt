@@ -1,9 +1,4 @@
-use Rattle.std.proofs.Common.{◌∙◌, ◌<◌, ap, append-nil, arith, length, set, sym}
-use Rattle.std.proofs.lemmas.List.{take_all, drop_all}
-use Rattle.std.proofs.lemmas.List.Edits.{map_over_more}
-use Rattle.std.proofs.lemmas.Grind.{common_steps}
-use Rattle.process.specs.Reservations.{lost_by_all}
-use Rattle.process.proofs.Common.{HartState}
+use Rattle.process.proofs.Common.{◌∙◌, ◌<◌, ap, append-nil, arith, length, set, sym, take_all, drop_all, map_over_more, common_steps, lost_by_all, HartState}
 use Rattle.process.proofs.reservations.lose_everywhere.Goals as goal
 
 pub loop-state-preserved : goal.loop-state-preserved

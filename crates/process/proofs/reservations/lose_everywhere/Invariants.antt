@@ -1,6 +1,5 @@
 -- So far the harts before this one have lost what was written, and the others are as they were.
-use Rattle.std.proofs.Common.{◌≡◌, ◌++◌, map, take, drop}
-use Rattle.process.specs.Reservations.{lost_by_all}
+use Rattle.process.proofs.Common.{◌≡◌, ◌++◌, map, take, drop, lost_by_all}
 use Rattle.process.proofs.reservations.lose_everywhere.Given as goal
 
 abbrev pub invariant-loop-state : goal.invariant-loop-state

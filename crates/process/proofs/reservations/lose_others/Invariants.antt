@@ -1,6 +1,5 @@
 -- So far the harts before this one have lost what was written.
-use Rattle.std.proofs.Common.{◌≡◌, ℕ, nat_eq, slice_get, option_map}
-use Rattle.process.specs.Reservations.{lost_unless}
+use Rattle.process.proofs.Common.{◌≡◌, ℕ, nat_eq, slice_get, option_map, lost_unless}
 use Rattle.process.proofs.EachHart.{changed_before}
 use Rattle.process.proofs.reservations.lose_others.Given as goal
 

@@ -1,5 +1,4 @@
-use Rattle.std.specs.List.{list_any}
-use Rattle.process.specs.Sequences.{holds}
+use Rattle.process.proofs.Common.{list_any, holds}
 use Rattle.process.proofs.ConcurrencyIds.{one_more_fits}
 use Rattle.process.proofs.run.held_ids.Goals as goal
 

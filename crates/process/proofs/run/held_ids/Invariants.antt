@@ -1,7 +1,5 @@
 -- So far the set has the smaller ids that are held.
-use Rattle.std.proofs.Common.{◌≡◌}
-use Rattle.std.specs.List.{list_any}
-use Rattle.process.proofs.Common.{harts_that, holds}
+use Rattle.process.proofs.Common.{◌≡◌, list_any, harts_that, holds}
 use Rattle.process.proofs.run.held_ids.Given as goal
 
 abbrev pub invariant-loop-id : goal.invariant-loop-id

@@ -1,7 +1,5 @@
 -- So far no thread holds it.
-use Rattle.std.proofs.Common.{◌≡◌, false, take}
-use Rattle.std.specs.List.{list_any}
-use Rattle.process.specs.Sequences.{holds}
+use Rattle.process.proofs.Common.{◌≡◌, false, take, list_any, holds}
 use Rattle.process.proofs.run.is_held.Given as goal
 
 abbrev pub invariant-loop-state : goal.invariant-loop-state

@@ -1,5 +1,5 @@
 -- A search among rising numbers finds the place, or that there is none.
-use Rattle.std.proofs.Common.{sym}
+use Rattle.process.proofs.Common.{sym}
 use Rattle.process.proofs.Lookups.{missing, position-at, position-none, found_at}
 use Rattle.process.proofs.search.place_of.Goals as goal
 

@@ -1,6 +1,5 @@
 -- So far as many idle harts as rounds.
-use Rattle.std.proofs.Common.{◌≡◌, length, All}
-use Rattle.hart_state.specs.State.{idle_hart}
+use Rattle.process.proofs.Common.{◌≡◌, length, All, idle_hart}
 use Rattle.process.proofs.starting.idle_harts.Given as goal
 
 abbrev pub invariant-loop : goal.invariant-loop

@@ -1,9 +1,4 @@
-use Rattle.std.proofs.Common.{◌∙◌, ◌<◌, ap, append-nil, arith, length, set}
-use Rattle.std.proofs.lemmas.List.{take_all, drop_all}
-use Rattle.std.proofs.lemmas.List.Edits.{map_over_more}
-use Rattle.std.proofs.lemmas.Grind.{common_steps}
-use Rattle.hart_state.specs.State.{idle_hart}
-use Rattle.process.proofs.Common.{HartState}
+use Rattle.process.proofs.Common.{◌∙◌, ◌<◌, ap, append-nil, arith, length, set, take_all, drop_all, map_over_more, common_steps, idle_hart, HartState}
 use Rattle.process.proofs.starting.rest.Goals as goal
 
 pub loop-hart-preserved : goal.loop-hart-preserved

@@ -1,5 +1,4 @@
-use Rattle.std.proofs.Common.{◌≡◌, ◌++◌, map, take, drop}
-use Rattle.hart_state.specs.State.{idle_hart}
+use Rattle.process.proofs.Common.{◌≡◌, ◌++◌, map, take, drop, idle_hart}
 use Rattle.process.proofs.starting.rest.Given as goal
 
 -- the harts so far are idle, and the others are as they were

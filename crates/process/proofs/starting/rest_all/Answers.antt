@@ -1,8 +1,4 @@
-use Rattle.std.proofs.Common.{◌≡◌, ◌∙◌, List, ap, arith, length, map}
-use Rattle.std.specs.Vec.{vec_len}
-use Rattle.std.proofs.lemmas.List.{length-map, with_items_is}
-use Rattle.hart_state.specs.State.{idle_hart}
-use Rattle.process.proofs.Common.{HartState}
+use Rattle.process.proofs.Common.{◌≡◌, ◌∙◌, List, ap, arith, length, map, vec_len, length-map, with_items_is, idle_hart, HartState}
 use Rattle.process.proofs.starting.rest_all.Goals as goal
 
 pub returns : goal.returns

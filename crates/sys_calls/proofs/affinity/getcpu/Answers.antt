@@ -1,12 +1,10 @@
 -- The hart and the node, where they are asked.
-use Rattle.std.proofs.Common.{◌≡◌, ℕ, ◌+◌, Bool, true, false, not, ◌&&◌, ◌||◌, eqb, List, ◌++◌, sym, ap, subst, ◌∙◌, Ok, Err}
-use Rattle.sys_calls.proofs.Common.{CallDone, EFAULT, Here, IsAnswered, IsEntered, Map, Write, argument, can_write_in, each_byte, is_writable, said}
+use Rattle.sys_calls.proofs.Common.{◌≡◌, ℕ, ◌+◌, Bool, true, false, not, ◌&&◌, ◌||◌, eqb, List, ◌++◌, sym, ap, subst, ◌∙◌, Ok, Err, CallDone, EFAULT, Here, IsAnswered, IsEntered, Map, Write, argument, can_write_in, each_byte, is_writable, said, and_parts}
 use Rattle.block_model.specs.Calls.Affinity.{getcpu, is_usable, written_unless_zero}
 use Rattle.sys_calls.proofs.KernelWrites.{entered_twice}
 use Rattle.sys_calls.proofs.GuestMemory.{argument_is, if_false, if_true, not_false, not_true}
 use Rattle.sys_calls.proofs.CallAnswers.{answered_said, answered_wrote}
 use Rattle.sys_calls.proofs.affinity.getcpu.Goals as goal
-use Rattle.std.proofs.lemmas.Bool.{and_parts}
 
 -- a pointer, in the page map
 abbrev usable : Map → ℕ → Bool

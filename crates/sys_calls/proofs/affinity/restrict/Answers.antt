@@ -1,15 +1,10 @@
 -- The thread's harts are others; where its own isn't among them it leaves.
-use Rattle.std.proofs.Common.{◌≡◌, ℕ, Bool, true, false, [], eqb, cond, refl, sym, ap, subst, ◌∙◌, Ok}
-use Rattle.std.specs.List.{list_any}
-use Rattle.std.proofs.lemmas.Bool.{eq-eqb, false≢true, ne_eqb}
-use Rattle.sys_calls.proofs.Common.{CallDone, EINVAL, Errno, Here, IsCaller, IsMade, IsTables, Kernel, refused, said}
+use Rattle.sys_calls.proofs.Common.{◌≡◌, ℕ, Bool, true, false, [], eqb, cond, refl, sym, ap, subst, ◌∙◌, Ok, list_any, eq-eqb, false≢true, ne_eqb, CallDone, EINVAL, Errno, Here, IsCaller, IsMade, IsTables, Kernel, refused, said, Scheduling, affinity_of, is_of, left, moved_off, setaffinity_with}
 use Rattle.block_model.specs.Record as record_of
-use Rattle.mach_types.specs.Kernel.Scheduling.{Scheduling, affinity_of, harts_in, has_hart, is_of, with_affinity}
+use Rattle.mach_types.specs.Kernel.Scheduling.{harts_in, has_hart, with_affinity}
 use Rattle.scheduler.proofs.Laws.{affinity_of-changed}
-use Rattle.block_model.specs.Kernel.{left, restricted}
-use Rattle.block_model.specs.Calls.Affinity.{moved_off}
+use Rattle.block_model.specs.Kernel.{restricted}
 use Rattle.block_model.proofs.Laws.{tables_allowed}
-use Rattle.sys_calls.specs.Chosen.{setaffinity_with}
 use Rattle.sys_calls.proofs.Laws.{holds_scheduling}
 use Rattle.sys_calls.proofs.CallAnswers.{made_left, made_answered, answered_changed, made_refused}
 use Rattle.sys_calls.proofs.GuestMemory.{if_false, if_true}

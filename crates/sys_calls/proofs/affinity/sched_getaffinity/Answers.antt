@@ -1,9 +1,6 @@
 -- The harts of the thread that is named.
-use Rattle.std.proofs.Common.{◌≡◌, ℕ, ◌%◌, Bool, true, false, not, ◌||◌, cond, eqb, List, [], ◌∷◌, ◌++◌, Ok, Err, nat_lt, refl, sym, ap, subst, ◌∙◌}
-use Rattle.sys_calls.proofs.Common.{EFAULT, EINVAL, ESRCH, Here, HoldsTables, IsAnswered, IsRead, Kernel, Map, Saved, Threads, Write, can_write_in, each_byte, int_in, is_live, register}
-use Rattle.mach_types.specs.Kernel.Scheduling.{Scheduling, affinity_of}
+use Rattle.sys_calls.proofs.Common.{◌≡◌, ℕ, ◌%◌, Bool, true, false, not, ◌||◌, cond, eqb, List, [], ◌∷◌, ◌++◌, Ok, Err, nat_lt, refl, sym, ap, subst, ◌∙◌, EFAULT, EINVAL, ESRCH, Here, HoldsTables, IsAnswered, IsRead, Kernel, Map, Saved, Threads, Write, can_write_in, each_byte, int_in, is_live, register, Scheduling, affinity_of, CallDone, Errors, double_written, said, unless}
 use Rattle.block_model.specs.Calls.Affinity.{sched_getaffinity}
-use Rattle.block_model.specs.Calls.Answers.{CallDone, Errors, double_written, said, unless}
 use Rattle.sys_calls.proofs.GuestMemory.{argument_is, if_false, int_argument_is, met, unmet}
 use Rattle.sys_calls.proofs.CallAnswers.{answered_said, answered_wrote}
 use Rattle.sys_calls.proofs.affinity.sched_getaffinity.Goals as goal

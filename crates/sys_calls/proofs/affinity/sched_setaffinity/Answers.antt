@@ -1,7 +1,5 @@
 -- A set that is refused, or is chosen.
-use Rattle.std.proofs.Common.{sym, subst}
-use Rattle.block_model.specs.Calls.Affinity.{sched_setaffinity}
-use Rattle.sys_calls.proofs.Common.{CallDone, IsMade}
+use Rattle.sys_calls.proofs.Common.{sym, subst, sched_setaffinity, CallDone, IsMade}
 use Rattle.sys_calls.proofs.CallAnswers.{made_refused}
 use Rattle.sys_calls.proofs.affinity.sched_setaffinity.Goals as goal
 

@@ -1,5 +1,5 @@
 -- The thread leaves.
-use Rattle.std.proofs.Common.{refl}
+use Rattle.sys_calls.proofs.Common.{refl}
 use Rattle.sys_calls.proofs.CallAnswers.{made_left}
 use Rattle.sys_calls.proofs.affinity.sched_yield.Goals as goal
 

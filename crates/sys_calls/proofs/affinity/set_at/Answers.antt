@@ -1,7 +1,6 @@
 -- The first byte of a set.
-use Rattle.std.proofs.Common.{◌≡◌, ℕ, Option, None, Some, unwrap_or, refl, sym, ◌∙◌, arith, eqb, ne_eqb}
+use Rattle.sys_calls.proofs.Common.{◌≡◌, ℕ, Option, None, Some, unwrap_or, refl, sym, ◌∙◌, arith, eqb, ne_eqb, byte_in}
 use Rattle.mach_types.specs.Bytes.{joined}
-use Rattle.page_map.specs.Map.{byte_in}
 use Rattle.sys_calls.proofs.GuestMemory.{if_false, number_is}
 use Rattle.sys_calls.proofs.affinity.set_at.Goals as goal
 

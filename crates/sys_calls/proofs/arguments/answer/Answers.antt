@@ -1,5 +1,5 @@
 -- a0 is a register.
-use Rattle.std.proofs.Common.{arith}
+use Rattle.sys_calls.proofs.Common.{arith}
 use Rattle.std.proofs.lemmas.List.{get_or-set_same}
 use Rattle.sys_calls.proofs.arguments.answer.Goals as goal
 

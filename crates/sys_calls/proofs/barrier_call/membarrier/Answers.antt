@@ -1,10 +1,6 @@
 -- The command is asked for by the registers.
-use Rattle.std.proofs.Common.{◌≡◌, ◌<◌, ◌%◌, ℕ, ℤ, sym, ap, ◌∙◌, arith, w32, to_z, of_z}
-use Rattle.std.proofs.lemmas.Int.{of_z-to_z}
-use Rattle.mach_types.specs.Kernel.Barriers.{command, registered_after}
-use Rattle.rv_inst.specs.Words.{signed_32}
-use Rattle.block_model.specs.Calls.Answers.{argument, int_argument}
-use Rattle.block_model.specs.Calls.Barriers.{running_harts}
+use Rattle.sys_calls.proofs.Common.{◌≡◌, ◌<◌, ◌%◌, ℕ, ℤ, sym, ap, ◌∙◌, arith, to_z, of_z, of_z-to_z, command, registered_after, signed_32, argument, int_argument, running_harts}
+use Rattle.std.proofs.Common.{w32}
 use Rattle.sys_calls.proofs.Barriers.{answer_asked, made_membarrier}
 use Rattle.sys_calls.proofs.GuestMemory.{argument_is, int_argument_is}
 use Rattle.sys_calls.proofs.barrier_call.membarrier.Goals as goal

@@ -1,7 +1,5 @@
 -- The calls that change pages, by their numbers, and the others.
-use Rattle.std.proofs.Common.{ℕ, [], sym, subst, Ok, Result}
-use Rattle.sys_calls.proofs.Common.{Errno, IsAnswered}
-use Rattle.block_model.specs.Calls.{call_of}
+use Rattle.sys_calls.proofs.Common.{ℕ, [], sym, subst, Ok, Result, Errno, IsAnswered, call_of}
 use Rattle.sys_calls.proofs.CallAnswers.{answered_remapped}
 use Rattle.sys_calls.proofs.call_answers.answered.Goals as goal
 use Rattle.sys_calls.proofs.CallNumbers.{by_number, silent_by_number}

@@ -1,8 +1,6 @@
 -- Each call that changes no pages, by its number.
-use Rattle.std.proofs.Common.{◌≡◌, ℕ, List, eqb, refl, sym, subst, ◌∙◌, arith, cond, Ok, Err, ne_eqb}
+use Rattle.sys_calls.proofs.Common.{◌≡◌, ℕ, List, eqb, refl, sym, subst, ◌∙◌, arith, cond, Ok, Err, ne_eqb, CallDone, IsAnswered, Write, refused, call_of}
 use Rattle.mach_types.specs.declared.errors.TheConstants.{ENOSYS}
-use Rattle.sys_calls.proofs.Common.{CallDone, IsAnswered, Write, refused}
-use Rattle.block_model.specs.Calls.{call_of}
 use Rattle.block_model.specs.Calls.Numbers.{getpid, gettid}
 use Rattle.sys_calls.proofs.GuestMemory.{if_false}
 use Rattle.sys_calls.proofs.CallAnswers.{answered_said}

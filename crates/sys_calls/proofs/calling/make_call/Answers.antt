@@ -1,8 +1,7 @@
 -- The thread runs on its hart, and the tables agree once its call is made.
-use Rattle.block_model.proofs.Laws.{running_is}
+use Rattle.sys_calls.proofs.Common.{running_is, rules}
 use Rattle.sys_calls.proofs.TablesAfterCalls.{agreed_made}
 use Rattle.sys_calls.proofs.calling.make_call.Goals as goal
-use Rattle.std.proofs.Common.{rules}
 
 pub returns : goal.returns
 returns c =

@@ -1,6 +1,5 @@
 -- The next number is new.
-use Rattle.std.proofs.Common.{◌<◌, length, sym, ◌∙◌, inl, inr, arith}
-use Rattle.std.proofs.lemmas.Bool.{cases_lt, false≢true, le-leb}
+use Rattle.sys_calls.proofs.Common.{◌<◌, length, sym, ◌∙◌, inl, inr, arith, cases_lt, false≢true, le-leb}
 use Rattle.sys_calls.proofs.Children.{next_not_held, next_unlisted}
 use Rattle.sys_calls.proofs.ThreadSignals.{as_many_signalled, next_not_signalled, signals_held}
 use Rattle.sys_calls.proofs.cloning.add_child.Goals as goal

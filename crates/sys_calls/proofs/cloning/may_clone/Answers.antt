@@ -1,11 +1,7 @@
 -- The tests of a clone, in their order.
-use Rattle.std.proofs.Common.{◌≡◌, ℕ, ◌<◌, Bool, false, not, ◌&&◌, ◌||◌, leb, [], ◌∷◌, length, sym, ap, ◌∙◌}
-use Rattle.std.proofs.lemmas.Bool.{lt-leb}
-use Rattle.mach_types.specs.Kernel.Threads.{Threads, is_full}
-use Rattle.mach_types.specs.declared.errors.TheConstants.{EAGAIN, EFAULT, EINVAL}
-use Rattle.sys_calls.proofs.Common.{Errors, Here, HoldsTables, IsRead, Kernel, Map, Saved, argument, each_byte, is_writable, register, unless}
-use Rattle.block_model.specs.Calls.Cloning.{are_flags, clone, clone_child_settid, clone_parent_settid, has_flag, may_write}
-use Rattle.sys_calls.specs.Cloned.{can_write_numbers, cloned}
+use Rattle.sys_calls.proofs.Common.{◌≡◌, ℕ, ◌<◌, Bool, false, not, ◌&&◌, ◌||◌, leb, [], ◌∷◌, length, sym, ap, ◌∙◌, lt-leb, Threads, is_full, EAGAIN, EFAULT, EINVAL, Errors, Here, HoldsTables, IsRead, Kernel, Map, Saved, argument, each_byte, is_writable, register, unless, clone_child_settid, clone_parent_settid, has_flag, cloned}
+use Rattle.block_model.specs.Calls.Cloning.{are_flags, clone, may_write}
+use Rattle.sys_calls.specs.Cloned.{can_write_numbers}
 use Rattle.sys_calls.proofs.GuestMemory.{argument_is, if_false, met, unmet}
 use Rattle.sys_calls.proofs.cloning.may_clone.Goals as goal
 

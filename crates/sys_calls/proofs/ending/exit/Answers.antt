@@ -1,11 +1,9 @@
 -- The last thread ends the process, and another one is gone.
-use Rattle.std.proofs.Common.{◌≡◌, ℕ, Bool, true, false, not, ◌&&◌, cond, eqb, leb, List, [], ◌∷◌, length, refl, sym, ap, subst, ◌∙◌}
-use Rattle.std.proofs.lemmas.Bool.{le-leb, lt-leb}
+use Rattle.sys_calls.proofs.Common.{◌≡◌, ℕ, Bool, true, false, not, ◌&&◌, cond, eqb, leb, List, [], ◌∷◌, length, refl, sym, ap, subst, ◌∙◌, le-leb, lt-leb, HasPages, Here, HoldsTables, IsEntered, IsMade, IsRead, Kernel, Map, Saved, Write, can_write_in, each_byte, Threads, running_on, CallDone, are_writable, ended_with}
 use Rattle.std.specs.Int.{from_bool}
-use Rattle.sys_calls.proofs.Common.{HasPages, Here, HoldsTables, IsEntered, IsMade, IsRead, Kernel, Map, Saved, Write, can_write_in, each_byte}
-use Rattle.mach_types.specs.Kernel.Threads.{Threads, clear_of, running_on}
-use Rattle.block_model.specs.Calls.Answers.{CallDone, are_writable, word_written}
-use Rattle.block_model.specs.Calls.Ending.{clearing, clears, ended_with, is_last, last_exits, one_exits, woken_at_exit}
+use Rattle.mach_types.specs.Kernel.Threads.{clear_of}
+use Rattle.block_model.specs.Calls.Answers.{word_written}
+use Rattle.block_model.specs.Calls.Ending.{clearing, clears, is_last, last_exits, one_exits, woken_at_exit}
 use Rattle.mach_types.proofs.Laws.{state_of-without_same}
 use Rattle.sys_calls.specs.declared.calling.CallEnd.TheVariants as over
 use Rattle.sys_calls.specs.Ended.{IsGone}

@@ -1,9 +1,7 @@
 -- Threads are woken, or the operation is refused.
-use Rattle.std.proofs.Common.{◌≡◌, ℕ, List, [], ◌∷◌, map, refl, sym, ap, subst, ◌∙◌, Ok}
-use Rattle.sys_calls.proofs.Common.{AreTables, CallDone, IsAnswered, IsMade, Saved, argument, int_argument, returned, running_on}
-use Rattle.block_model.specs.Calls.Futexes.{answered_wait, futex, futex_wake, wake}
+use Rattle.sys_calls.proofs.Common.{◌≡◌, ℕ, List, [], ◌∷◌, map, refl, sym, ap, subst, ◌∙◌, Ok, AreTables, CallDone, IsAnswered, IsMade, Saved, argument, int_argument, returned, running_on, answered_wait, futex, futex_wake, wake, IsWoken}
 use Rattle.sys_calls.specs.declared.futexes.Operation.{Operation}
-use Rattle.sys_calls.specs.Woken.{IsWoken, futex_of}
+use Rattle.sys_calls.specs.Woken.{futex_of}
 use Rattle.sys_calls.proofs.KernelWrites.{entered_none}
 use Rattle.sys_calls.proofs.GuestMemory.{argument_is, int_argument_is}
 use Rattle.sys_calls.proofs.CallAnswers.{made_answered, made_refused, answered_with}

@@ -1,10 +1,6 @@
 -- The tests of a wait, in their order.
-use Rattle.std.proofs.Common.{◌≡◌, ◌≢◌, ℕ, true, false, not, eqb, ◌∷◌, [], Option, is_some, unwrap_or, sym, ap, ◌∙◌, eq-eqb, ne_eqb}
-use Rattle.sys_calls.proofs.Common.{CallDone, Errors, Here, HoldsTables, IsRead, Kernel, Map, Saved, argument, byte_in, each_byte, int_in, register, said, unless, word_at}
-use Rattle.mach_types.specs.Kernel.Signals.{next_for}
-use Rattle.mach_types.specs.declared.errors.TheConstants.{EAGAIN, EFAULT, EINTR, EINVAL}
-use Rattle.block_model.specs.Kernel.{waited}
-use Rattle.block_model.specs.Calls.Futexes.{futex_wait}
+use Rattle.sys_calls.proofs.Common.{◌≡◌, ◌≢◌, ℕ, true, false, not, eqb, ◌∷◌, [], Option, is_some, unwrap_or, sym, ap, ◌∙◌, eq-eqb, ne_eqb, CallDone, Errors, Here, HoldsTables, IsRead, Kernel, Map, Saved, argument, byte_in, each_byte, int_in, register, said, unless, word_at, next_for, EAGAIN, EFAULT, EINVAL, waited, futex_wait}
+use Rattle.mach_types.specs.declared.errors.TheConstants.{EINTR}
 use Rattle.sys_calls.proofs.GuestMemory.{argument_is, if_false, if_true, int_argument_is, met, unmet}
 use Rattle.sys_calls.proofs.futexes.may_wait.Goals as goal
 

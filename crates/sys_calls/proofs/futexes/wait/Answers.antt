@@ -1,11 +1,7 @@
 -- The thread waits, with the answer of its wait.
-use Rattle.std.proofs.Common.{◌≡◌, ℕ, refl, sym, ap, subst, ◌∙◌}
-use Rattle.mach_types.specs.Kernel.Threads.{Threads, running_on, state_of, with_waiter}
-use Rattle.mach_types.specs.declared.threads.ThreadState.TheVariants.{Waiting}
-use Rattle.sys_calls.proofs.Common.{CallDone, IsMade, Kernel, argument, on, returned, without_id}
-use Rattle.block_model.specs.Kernel.{waited}
-use Rattle.block_model.specs.Calls.Futexes.{futex_wait}
-use Rattle.block_model.proofs.Laws.{state_now, waited_idle}
+use Rattle.sys_calls.proofs.Common.{◌≡◌, ℕ, refl, sym, ap, subst, ◌∙◌, Threads, running_on, state_of, Waiting, CallDone, IsMade, Kernel, argument, on, returned, without_id, waited, futex_wait, state_now}
+use Rattle.mach_types.specs.Kernel.Threads.{with_waiter}
+use Rattle.block_model.proofs.Laws.{waited_idle}
 use Rattle.sys_calls.specs.declared.calling.CallEnd.TheVariants as over
 use Rattle.sys_calls.proofs.Laws.{holds_past_ids, holds_threads}
 use Rattle.sys_calls.proofs.CallAnswers.{made_gone, made_refused}

@@ -1,13 +1,8 @@
 -- One more is woken, until nobody waits.
-use Rattle.std.proofs.Common.{◌≡◌, ℕ, ◌-◌, [], Some, None, sym, ap, subst, arith}
-use Rattle.mach_types.specs.Kernel.Threads.{longest_waiter}
-use Rattle.block_model.specs.Calls.Futexes.{wake}
-use Rattle.sys_calls.specs.declared.kernel.Kernel.{Kernel}
-use Rattle.sys_calls.specs.Woken.{IsOnward, IsWoken}
+use Rattle.sys_calls.proofs.Common.{◌≡◌, ℕ, ◌-◌, [], Some, None, sym, ap, subst, arith, longest_waiter, wake, Kernel, IsOnward, IsWoken, longest_waits}
 use Rattle.sys_calls.proofs.Laws.{record_with}
 use Rattle.sys_calls.proofs.FutexWakes.{onward_more, onward_still, wake_nobody, waking_more, waking_none, woken_all}
 use Rattle.sys_calls.proofs.futexes.wake.Goals as goal
-use Rattle.block_model.proofs.Laws.{longest_waits}
 
 pub loop-count-init : goal.loop-count-init
 loop-count-init c = record { onward = onward_still c.args.kernel.now; waking = λ h told. waking_none h c.args.kernel.now c.args.most c.args.at told }

@@ -1,10 +1,7 @@
 -- The thread that waited is held, and isn't ready.
-use Rattle.std.proofs.Common.{◌≡◌, sym, Some, refl}
-use Rattle.mach_types.specs.declared.threads.ThreadState.TheVariants.{Waiting}
-use Rattle.mach_types.specs.Kernel.Threads.{longest_waiter, waits}
+use Rattle.sys_calls.proofs.Common.{◌≡◌, sym, Some, refl, Waiting, longest_waiter, waits, longest_waits}
 use Rattle.sys_calls.proofs.CallerTables.{held_live, live_in, unlisted}
 use Rattle.sys_calls.proofs.futexes.wake_one.Goals as goal
-use Rattle.block_model.proofs.Laws.{longest_waits}
 
 pub push-requires-clause-held : goal.push-requires-clause-held
 push-requires-clause-held c =

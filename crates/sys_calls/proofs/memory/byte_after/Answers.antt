@@ -1,6 +1,5 @@
 -- No byte has an address past the last.
-use Rattle.std.proofs.Common.{◌+◌, ℕ, Option, unwrap_or, sym, ap, arith}
-use Rattle.page_map.specs.MapLaws.{byte_in-ends}
+use Rattle.sys_calls.proofs.Common.{◌+◌, ℕ, Option, unwrap_or, sym, ap, arith, byte_in-ends}
 use Rattle.sys_calls.proofs.memory.byte_after.Goals as goal
 
 pub returns-in-None : goal.returns-in-None

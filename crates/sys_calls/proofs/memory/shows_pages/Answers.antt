@@ -1,8 +1,7 @@
 -- A byte that can be read is the one that its page holds, and what can be written can be read.
-use Rattle.std.proofs.Common.{◌≡◌, ◌/◌, ℕ, Bool, true, false, ◌&&◌, cond, Option, Some, None, refl, ap, ◌∙◌, option_map}
+use Rattle.sys_calls.proofs.Common.{◌≡◌, ◌/◌, ℕ, Bool, true, false, ◌&&◌, cond, Option, Some, None, refl, ap, ◌∙◌, option_map, permission_at, held_in, permission_in}
 use Rattle.std.proofs.Math.Path.{fun_ext}
-use Rattle.mach_types.specs.Kernel.Pages.{can_read, can_write, permission_at}
-use Rattle.page_map.specs.Map.{held_in, permission_in}
+use Rattle.mach_types.specs.Kernel.Pages.{can_read, can_write}
 use Rattle.sys_calls.proofs.memory.shows_pages.Goals as goal
 
 -- a byte of a page that is mapped

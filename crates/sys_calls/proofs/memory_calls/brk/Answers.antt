@@ -1,8 +1,5 @@
 -- The break moves, or stays.
-use Rattle.std.proofs.Common.{◌≡◌, ℕ, ap, ◌∙◌}
-use Rattle.mach_types.specs.Kernel.PageCalls.{break_run}
-use Rattle.block_model.specs.Calls.Answers.{argument}
-use Rattle.block_model.specs.Calls.Memory.{zeros_if_mapped}
+use Rattle.sys_calls.proofs.Common.{◌≡◌, ℕ, ap, ◌∙◌, break_run, argument, zeros_if_mapped}
 use Rattle.sys_calls.proofs.GuestMemory.{argument_is}
 use Rattle.sys_calls.proofs.PageCalls.{brk_remapped}
 use Rattle.sys_calls.proofs.memory_calls.brk.Goals as goal

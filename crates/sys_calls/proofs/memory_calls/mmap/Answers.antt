@@ -1,8 +1,5 @@
 -- mmap is refused, or maps pages.
-use Rattle.std.proofs.Common.{◌≡◌, ℕ, ◌/◌, [], ◌∷◌, Ok, Err, Result, None, subst, sym, ◌∙◌}
-use Rattle.sys_calls.proofs.Common.{Errno, IsRemapped, argument}
-use Rattle.block_model.specs.Calls.Memory.{mmap}
-use Rattle.mach_types.specs.Kernel.Pages.{run, zeros_of}
+use Rattle.sys_calls.proofs.Common.{◌≡◌, ℕ, ◌/◌, [], ◌∷◌, Ok, Err, Result, None, subst, sym, ◌∙◌, Errno, IsRemapped, argument, mmap, run, zeros_of}
 use Rattle.sys_calls.proofs.GuestMemory.{argument_is}
 use Rattle.sys_calls.proofs.PageCalls.{mmap_made, mmap_past_flags, mmap_refused, passed_on, prot_from}
 use Rattle.sys_calls.proofs.memory_calls.mmap.Goals as goal

@@ -1,6 +1,5 @@
 -- mprotect is refused, or gives pages another permission.
-use Rattle.std.proofs.Common.{◌≡◌, [], Result, ℕ, subst, sym, ◌∙◌}
-use Rattle.sys_calls.proofs.Common.{Errno, IsRemapped, argument}
+use Rattle.sys_calls.proofs.Common.{◌≡◌, [], Result, ℕ, subst, sym, ◌∙◌, Errno, IsRemapped, argument}
 use Rattle.block_model.specs.Calls.Memory.{mprotect}
 use Rattle.sys_calls.proofs.GuestMemory.{argument_is}
 use Rattle.sys_calls.proofs.PageCalls.{mprotect_made, mprotect_refused, passed_on, prot_from}

@@ -1,6 +1,5 @@
 -- munmap is refused, or removes pages.
-use Rattle.std.proofs.Common.{◌≡◌, ◌∙◌}
-use Rattle.block_model.specs.Calls.Answers.{argument}
+use Rattle.sys_calls.proofs.Common.{◌≡◌, ◌∙◌, argument}
 use Rattle.sys_calls.proofs.GuestMemory.{argument_is}
 use Rattle.sys_calls.proofs.PageCalls.{munmap_made}
 use Rattle.sys_calls.proofs.memory_calls.munmap.Goals as goal

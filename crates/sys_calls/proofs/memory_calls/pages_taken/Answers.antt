@@ -1,10 +1,6 @@
 -- A call that protects pages.
-use Rattle.std.proofs.Common.{◌≡◌, Some, ap, sym, ◌∙◌}
-use Rattle.mach_types.specs.Registers.{register}
+use Rattle.sys_calls.proofs.Common.{◌≡◌, Some, ap, sym, ◌∙◌, register, PageRun, is_in, permission_for, argument, call_number}
 use Rattle.mach_types.specs.declared.registers.Regs.{Regs}
-use Rattle.mach_types.specs.Kernel.Pages.{PageRun, is_in}
-use Rattle.mach_types.specs.Kernel.PageCalls.{permission_for}
-use Rattle.block_model.specs.Calls.Answers.{argument, call_number}
 use Rattle.sys_calls.proofs.PageCalls.{prot_from, taken_protecting}
 use Rattle.sys_calls.proofs.memory_calls.pages_taken.Goals as goal
 

@@ -1,5 +1,5 @@
 -- The break grows: its pages can be read and written.
-use Rattle.std.proofs.Common.{Some}
+use Rattle.sys_calls.proofs.Common.{Some}
 use Rattle.sys_calls.proofs.PageCalls.{zeros_grown}
 use Rattle.sys_calls.proofs.memory_calls.tell_growth.Goals as goal
 

@@ -1,6 +1,5 @@
 -- Another address to clear, and an answer.
-use Rattle.std.proofs.Common.{◌≡◌, [], refl, ap, ◌∙◌, Ok}
-use Rattle.sys_calls.proofs.Common.{Saved, argument, register, with_clear}
+use Rattle.sys_calls.proofs.Common.{◌≡◌, [], refl, ap, ◌∙◌, Ok, Saved, argument, register, with_clear}
 use Rattle.sys_calls.proofs.Laws.{holds_threads}
 use Rattle.sys_calls.proofs.CallerTables.{cleared_runs}
 use Rattle.sys_calls.proofs.numbers.set_tid_address.Goals as goal

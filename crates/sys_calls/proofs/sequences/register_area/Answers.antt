@@ -1,11 +1,6 @@
 -- The area is registered, or the process is killed.
-use Rattle.std.proofs.Common.{◌≡◌, ℕ, Bool, true, false, List, [], length, sym, ap, subst, ◌∙◌, arith, refl, ◌∷◌, length-append, Ok}
-use Rattle.std.proofs.lemmas.List.{length-map}
-use Rattle.mach_types.specs.Kernel.Areas.{are_words_writable, with_area, words_entered, words_on, words_written}
-use Rattle.mach_types.specs.declared.limits.End.TheVariants.{Killed}
-use Rattle.sys_calls.proofs.Common.{Area, CallDone, Here, IsEntered, IsMade, Kernel, RegisteredArea, Write, areas_by_number, is_writable}
-use Rattle.mach_types.specs.declared.signals.TheConstants.{SIGSEGV}
-use Rattle.block_model.specs.Ids.{id_of}
+use Rattle.sys_calls.proofs.Common.{◌≡◌, ℕ, Bool, true, false, List, [], length, sym, ap, subst, ◌∙◌, arith, refl, ◌∷◌, length-append, Ok, length-map, are_words_writable, words_entered, words_on, words_written, Killed, Area, CallDone, Here, IsEntered, IsMade, Kernel, RegisteredArea, Write, areas_by_number, is_writable, SIGSEGV, id_of}
+use Rattle.mach_types.specs.Kernel.Areas.{with_area}
 use Rattle.sys_calls.specs.declared.calling.CallEnd.TheVariants as over
 use Rattle.sys_calls.proofs.CallAnswers.{made_answered, answered_changed, made_ended}
 use Rattle.sys_calls.proofs.AreaRegistration.{registered_done, registers_killed, registers_made, words_can}

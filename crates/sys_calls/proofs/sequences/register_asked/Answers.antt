@@ -1,6 +1,5 @@
 -- A registration that is refused.
-use Rattle.std.proofs.Common.{◌≡◌, ℕ, List, sym, ap, ◌∙◌}
-use Rattle.sys_calls.proofs.Common.{Area, area_of, refused}
+use Rattle.sys_calls.proofs.Common.{◌≡◌, ℕ, List, sym, ap, ◌∙◌, Area, area_of, refused}
 use Rattle.block_model.specs.Calls.Sequences.{registers_or_refused}
 use Rattle.sys_calls.specs.Registered.{area_asked}
 use Rattle.sys_calls.proofs.CallAnswers.{made_refused}

@@ -1,8 +1,6 @@
 -- The call unregisters an area.
-use Rattle.std.proofs.Common.{◌≡◌, ◌%◌, ◌^◌, true, eqb, sym, ap, subst, ◌∙◌}
-use Rattle.sys_calls.proofs.Common.{AreTables, CallDone, IsMade, Saved, area_of, int_argument, register}
-use Rattle.block_model.specs.Calls.Sequences.{rseq, unregisters_or_refused}
-use Rattle.sys_calls.specs.Registered.{unregistration_asked}
+use Rattle.sys_calls.proofs.Common.{◌≡◌, ◌%◌, ◌^◌, true, eqb, sym, ap, subst, ◌∙◌, AreTables, CallDone, IsMade, Saved, area_of, int_argument, register, unregisters_or_refused, unregistration_asked}
+use Rattle.block_model.specs.Calls.Sequences.{rseq}
 use Rattle.sys_calls.proofs.GuestMemory.{if_true}
 use Rattle.sys_calls.proofs.CallAnswers.{made_answered}
 use Rattle.sys_calls.proofs.sequences.rseq.Goals as goal

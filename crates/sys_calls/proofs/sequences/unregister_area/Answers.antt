@@ -1,9 +1,5 @@
 -- An area is unregistered, or its words can't be written.
-use Rattle.std.proofs.Common.{◌≡◌, ℕ, Bool, true, false, List, [], Some, sym, ap, subst, ◌∙◌, refl, Err, Ok}
-use Rattle.mach_types.specs.Kernel.Areas.{are_words_writable, area_of, without_area, words_entered, words_unregistered, words_written}
-use Rattle.sys_calls.proofs.Common.{Area, CallDone, EFAULT, Here, HoldsTables, IsAnswered, IsEntered, Kernel, Saved, Write, is_writable, refused}
-use Rattle.block_model.specs.Calls.Sequences.{unregisters, unregisters_or_refused}
-use Rattle.sys_calls.specs.Registered.{areas_by_number, unregistration_asked}
+use Rattle.sys_calls.proofs.Common.{◌≡◌, ℕ, Bool, true, false, List, [], Some, sym, ap, subst, ◌∙◌, refl, Err, Ok, are_words_writable, area_of, without_area, words_entered, words_unregistered, words_written, Area, CallDone, EFAULT, Here, HoldsTables, IsAnswered, IsEntered, Kernel, Saved, Write, is_writable, refused, unregisters, unregisters_or_refused, areas_by_number, unregistration_asked}
 use Rattle.sys_calls.proofs.CallAnswers.{answered_wrote, answered_changed}
 use Rattle.sys_calls.proofs.AreaRegistration.{unregistered_done, unregisters_made, unregisters_refused, words_can}
 use Rattle.sys_calls.proofs.sequences.unregister_area.Goals as goal

@@ -1,7 +1,5 @@
 -- The three words lie below 2^64.
-use Rattle.std.proofs.Common.{ℕ, ◌+◌, ap, ◌∙◌, arith}
-use Rattle.mach_types.specs.declared.signal_words.Action.{Action}
-use Rattle.block_model.specs.Calls.Answers.{number_at}
+use Rattle.sys_calls.proofs.Common.{ℕ, ◌+◌, ap, ◌∙◌, arith, Action, number_at}
 use Rattle.sys_calls.proofs.ActionWords.{readable_action}
 use Rattle.sys_calls.proofs.GuestMemory.{number_is}
 use Rattle.sys_calls.proofs.signal_calls.action_at.Goals as goal

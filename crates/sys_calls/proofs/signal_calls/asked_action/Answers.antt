@@ -1,10 +1,7 @@
 -- The tests of the call, in their order.
-use Rattle.std.proofs.Common.{◌≡◌, ℕ, Bool, not, ◌||◌, eqb, ◌∷◌, [], Option, is_some, refl, sym, ap, ◌∙◌, eq-eqb}
-use Rattle.mach_types.specs.Kernel.Signals.{refuses_action}
-use Rattle.sys_calls.proofs.Common.{EFAULT, EINVAL, Errors, Here, IsRead, Map, Saved, byte_in, can_write_in, int_in, register, unless}
-use Rattle.mach_types.specs.declared.signal_words.Action.{Action}
+use Rattle.sys_calls.proofs.Common.{◌≡◌, ℕ, Bool, not, ◌||◌, eqb, ◌∷◌, [], Option, is_some, refl, sym, ap, ◌∙◌, eq-eqb, refuses_action, EFAULT, EINVAL, Errors, Here, IsRead, Map, Saved, byte_in, can_write_in, int_in, register, unless, Action, pass_action}
 use Rattle.block_model.specs.Calls.Signals.{action_given, rt_sigaction}
-use Rattle.sys_calls.specs.Signalled.{pass_action, sigaction_with}
+use Rattle.sys_calls.specs.Signalled.{sigaction_with}
 use Rattle.sys_calls.proofs.GuestMemory.{argument_is, if_false, if_true, int_argument_is, met, unmet}
 use Rattle.sys_calls.proofs.signal_calls.asked_action.Goals as goal
 

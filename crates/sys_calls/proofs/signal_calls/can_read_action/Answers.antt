@@ -1,5 +1,5 @@
 -- All bytes can be read.
-use Rattle.std.proofs.Common.{◌∙◌}
+use Rattle.sys_calls.proofs.Common.{◌∙◌}
 use Rattle.sys_calls.proofs.ActionWords.{readable_words}
 use Rattle.sys_calls.proofs.signal_calls.can_read_action.Goals as goal
 

@@ -1,5 +1,5 @@
 -- No word begins past the last address.
-use Rattle.std.proofs.Common.{◌+◌, ◌≤◌, ◌^◌, sym, arith}
+use Rattle.sys_calls.proofs.Common.{◌+◌, ◌≤◌, ◌^◌, sym, arith}
 use Rattle.sys_calls.proofs.ActionWords.{unwritable_action}
 use Rattle.sys_calls.proofs.signal_calls.can_write_action.Goals as goal
 

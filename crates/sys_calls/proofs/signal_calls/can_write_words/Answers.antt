@@ -1,7 +1,5 @@
 -- The first word that can't be written decides, or else the last one.
-use Rattle.std.proofs.Common.{◌≡◌, ℕ, ◌+◌, Bool, true, false, ◌&&◌, refl, sym, ap, ◌∙◌}
-use Rattle.sys_calls.proofs.Common.{Map, can_write_in, each_byte}
-use Rattle.sys_calls.specs.Signalled.{pass_action}
+use Rattle.sys_calls.proofs.Common.{◌≡◌, ℕ, ◌+◌, Bool, true, false, ◌&&◌, refl, sym, ap, ◌∙◌, Map, can_write_in, each_byte, pass_action}
 use Rattle.sys_calls.proofs.ActionWords.{three_words}
 use Rattle.sys_calls.proofs.signal_calls.can_write_words.Goals as goal
 

@@ -1,6 +1,6 @@
 -- The mask is changed where a set is given.
-use Rattle.std.proofs.Common.{ℕ, eqb, sym, ap, ◌∙◌, ne_eqb}
-use Rattle.mach_types.specs.Kernel.Signals.{changed_mask, mask_of, with_mask}
+use Rattle.sys_calls.proofs.Common.{ℕ, eqb, sym, ap, ◌∙◌, ne_eqb, mask_of}
+use Rattle.mach_types.specs.Kernel.Signals.{changed_mask, with_mask}
 use Rattle.sys_calls.proofs.GuestMemory.{if_false}
 use Rattle.sys_calls.proofs.signal_calls.change_mask.Goals as goal
 

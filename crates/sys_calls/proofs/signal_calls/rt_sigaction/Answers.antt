@@ -1,16 +1,11 @@
 -- The action is set, and the old one is written where it is asked for.
-use Rattle.std.proofs.Common.{◌≡◌, ℕ, ◌≤◌, Bool, true, false, ◌||◌, cond, eqb, List, [], Option, refl, sym, ap, subst, ◌∙◌, inl, inr, Ok, nat_lt}
-use Rattle.std.proofs.lemmas.Bool.{cases_lt, false≢true, lt-ltb}
-use Rattle.mach_types.specs.Kernel.Signals.{Signalling, acted, action_of, refuses_action}
-use Rattle.mach_types.specs.declared.signal_words.Action.{Action}
-use Rattle.sys_calls.proofs.Common.{CallDone, Here, IsAnswered, IsEntered, Kernel, Write, argument, can_write_in, int_argument}
+use Rattle.sys_calls.proofs.Common.{◌≡◌, ℕ, ◌≤◌, Bool, true, false, ◌||◌, cond, eqb, List, [], Option, refl, sym, ap, subst, ◌∙◌, inl, inr, Ok, nat_lt, cases_lt, false≢true, lt-ltb, Signalling, action_of, refuses_action, Action, CallDone, Here, IsAnswered, IsEntered, Kernel, Write, argument, can_write_in, int_argument, pass_action, signalled}
+use Rattle.mach_types.specs.Kernel.Signals.{acted}
 use Rattle.block_model.specs.Calls.Signals.{action_written}
-use Rattle.sys_calls.specs.Signalled.{pass_action}
 use Rattle.sys_calls.proofs.GuestMemory.{argument_is, int_argument_is}
 use Rattle.sys_calls.proofs.signal_calls.rt_sigaction.Goals as goal
 use Rattle.sys_calls.proofs.CallAnswers.{answered_changed}
 use Rattle.sys_calls.proofs.Laws.{holds_signals}
-use Rattle.block_model.specs.Kernel.{signalled}
 
 -- a number that isn't refused is one of a signal
 in_range : (n : ℕ) (new : Option Action) → refuses_action n new ≡ false → n ≤ 31

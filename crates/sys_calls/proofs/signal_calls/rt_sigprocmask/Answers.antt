@@ -1,15 +1,11 @@
 -- The mask is changed, and the old one is written where it is asked for.
-use Rattle.std.proofs.Common.{◌≡◌, ℕ, not, ◌&&◌, ◌||◌, cond, eqb, List, [], ◌∷◌, unwrap_or, sym, ap, subst, ◌∙◌, refl, Ok}
-use Rattle.sys_calls.proofs.Common.{Here, IsAnswered, IsEntered, Kernel, Write, byte_in, can_write_in, each_byte, int_in, word_at}
-use Rattle.mach_types.specs.Kernel.Signals.{Signalling, mask_of, refuses_how}
-use Rattle.block_model.specs.Calls.Answers.{CallDone, argument, double_written, int_argument, number_at}
+use Rattle.sys_calls.proofs.Common.{◌≡◌, ℕ, not, ◌&&◌, ◌||◌, cond, eqb, List, [], ◌∷◌, unwrap_or, sym, ap, subst, ◌∙◌, refl, Ok, Here, IsAnswered, IsEntered, Kernel, Write, byte_in, can_write_in, each_byte, int_in, word_at, Signalling, mask_of, refuses_how, CallDone, argument, double_written, int_argument, number_at, signalled}
 use Rattle.block_model.specs.Calls.Signals.{masked}
 use Rattle.sys_calls.specs.Signalled.{mask_changed}
 use Rattle.sys_calls.proofs.GuestMemory.{argument_is, int_argument_is, number_there}
 use Rattle.sys_calls.proofs.signal_calls.rt_sigprocmask.Goals as goal
 use Rattle.sys_calls.proofs.CallAnswers.{answered_changed}
 use Rattle.sys_calls.proofs.Laws.{holds_signals}
-use Rattle.block_model.specs.Kernel.{signalled}
 
 -- the write of the old mask
 writes_are : (h : Here) (t at old : ℕ) (g : Signalling) → at ≡ argument h t 2 → old ≡ mask_of t g → g ≡ h.kernel.signals

@@ -1,11 +1,6 @@
 -- A handler returns where its frame can be read, and else the process is killed.
-use Rattle.std.proofs.Common.{◌≡◌, ℕ, true, false, List, [], Option, Some, None, is_some, refl, sym, ap, subst, ◌∙◌}
-use Rattle.std.proofs.lemmas.Bool.{false≢true}
-use Rattle.mach_types.specs.Kernel.SignalFrames.{frame_read, restored, returned, saved_after_return}
-use Rattle.sys_calls.proofs.Common.{HasPages, Here, HoldsTables, IsCaller, IsMade, IsRead, Kernel, Map, Saved, Signalling, Threads, byte_in, memory, running_on, runs}
-use Rattle.mach_types.specs.declared.limits.End.TheVariants.{Killed}
-use Rattle.mach_types.specs.declared.signals.TheConstants.{SIGSEGV}
-use Rattle.block_model.specs.Calls.Signals.{resumed}
+use Rattle.sys_calls.proofs.Common.{◌≡◌, ℕ, true, false, List, [], Option, Some, None, is_some, refl, sym, ap, subst, ◌∙◌, false≢true, frame_read, HasPages, Here, HoldsTables, IsCaller, IsMade, IsRead, Kernel, Map, Saved, Signalling, Threads, byte_in, memory, running_on, runs, Killed, SIGSEGV, resumed, killed_in_call}
+use Rattle.mach_types.specs.Kernel.SignalFrames.{restored, returned, saved_after_return}
 use Rattle.sys_calls.specs.declared.calling.CallEnd.TheVariants as over
 use Rattle.sys_calls.proofs.Laws.{holds_signals}
 use Rattle.sys_calls.proofs.CallAnswers.{kept_own, own_first, made_ended}
@@ -13,7 +8,6 @@ use Rattle.sys_calls.proofs.ThreadSignals.{caller_signalled}
 use Rattle.sys_calls.proofs.CallerTables.{caller_runs}
 use Rattle.sys_calls.proofs.signal_calls.rt_sigreturn.Goals as goal
 use Rattle.sys_calls.proofs.KernelWrites.{entered_none}
-use Rattle.block_model.specs.Calls.Answers.{killed_in_call}
 
 -- the tables with other signals
 abbrev turned : Kernel → Signalling → Kernel

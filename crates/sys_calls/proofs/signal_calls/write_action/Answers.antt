@@ -1,7 +1,5 @@
 -- The three words lie below 2^64, and enter memory.
-use Rattle.std.proofs.Common.{◌+◌, [], ◌∷◌, ◌∙◌}
-use Rattle.page_map.specs.Map.{can_write_in}
-use Rattle.block_model.specs.Calls.Answers.{double_written}
+use Rattle.sys_calls.proofs.Common.{◌+◌, [], ◌∷◌, ◌∙◌, can_write_in, double_written}
 use Rattle.sys_calls.proofs.ActionWords.{pass_three, still_writable}
 use Rattle.sys_calls.proofs.AreaWords.{writable_below}
 use Rattle.sys_calls.proofs.KernelWrites.{entered_twice}

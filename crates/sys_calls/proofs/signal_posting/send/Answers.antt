@@ -1,7 +1,6 @@
 -- A signal that can be sent is posted.
-use Rattle.std.proofs.Common.{◌≡◌, false, eqb, [], sym, ap, subst, ◌∙◌, Ok, ne_eqb}
-use Rattle.sys_calls.proofs.Common.{CallDone, IsAnswered}
-use Rattle.block_model.specs.Calls.Signals.{post, refuses_signal, send}
+use Rattle.sys_calls.proofs.Common.{◌≡◌, false, eqb, [], sym, ap, subst, ◌∙◌, Ok, ne_eqb, CallDone, IsAnswered, post, send}
+use Rattle.block_model.specs.Calls.Signals.{refuses_signal}
 use Rattle.sys_calls.proofs.GuestMemory.{if_false}
 use Rattle.sys_calls.proofs.signal_posting.send.Goals as goal
 

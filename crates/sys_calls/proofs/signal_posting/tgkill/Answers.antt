@@ -1,7 +1,5 @@
 -- The tests of the call, in their order.
-use Rattle.std.proofs.Common.{◌≡◌, ℕ, Bool, false, true, not, ◌&&◌, ◌||◌, eqb, [], refl, sym, ap, subst, ◌∙◌, Err}
-use Rattle.sys_calls.proofs.Common.{CallDone, EINVAL, ESRCH, IsAnswered, Threads, int_argument, is_live}
-use Rattle.block_model.specs.Calls.Signals.{is_below_one, send, tgkill}
+use Rattle.sys_calls.proofs.Common.{◌≡◌, ℕ, Bool, false, true, not, ◌&&◌, ◌||◌, eqb, [], refl, sym, ap, subst, ◌∙◌, Err, CallDone, EINVAL, ESRCH, IsAnswered, Threads, int_argument, is_live, is_below_one, send, tgkill}
 use Rattle.sys_calls.proofs.SignalPosting.{tgkill_is}
 use Rattle.sys_calls.proofs.GuestMemory.{if_false, if_true, int_argument_is, not_false, not_true}
 use Rattle.sys_calls.proofs.CallAnswers.{answered_said}

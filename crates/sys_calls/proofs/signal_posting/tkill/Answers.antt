@@ -1,7 +1,5 @@
 -- The tests of the call, in their order.
-use Rattle.std.proofs.Common.{◌≡◌, false, true, not, [], refl, sym, ap, subst, ◌∙◌, Err}
-use Rattle.sys_calls.proofs.Common.{CallDone, EINVAL, ESRCH, IsAnswered, int_argument, is_live}
-use Rattle.block_model.specs.Calls.Signals.{is_below_one, send, tkill}
+use Rattle.sys_calls.proofs.Common.{◌≡◌, false, true, not, [], refl, sym, ap, subst, ◌∙◌, Err, CallDone, EINVAL, ESRCH, IsAnswered, int_argument, is_live, is_below_one, send, tkill}
 use Rattle.sys_calls.proofs.SignalPosting.{tkill_is}
 use Rattle.sys_calls.proofs.GuestMemory.{if_false, if_true, int_argument_is, not_false, not_true}
 use Rattle.sys_calls.proofs.CallAnswers.{answered_said}

@@ -1,6 +1,5 @@
 -- The first bytes that fit.
-use Rattle.std.proofs.Common.{◌≡◌, ℕ, ◌+◌, ◌-◌, min, List, length, take, ◌++◌, sym, ap, ◌∙◌, arith}
-use Rattle.sys_calls.proofs.Common.{CONSOLE_ROOM, Map, byte_in, bytes_from}
+use Rattle.sys_calls.proofs.Common.{◌≡◌, ℕ, ◌+◌, ◌-◌, min, List, length, take, ◌++◌, sym, ap, ◌∙◌, arith, CONSOLE_ROOM, Map, byte_in, bytes_from}
 use Rattle.sys_calls.proofs.Spans.{length-bytes_from, take-bytes_from}
 use Rattle.sys_calls.proofs.writing.append_some.Goals as goal
 

@@ -1,9 +1,5 @@
 -- The bytes are those of the spans that the records name.
-use Rattle.std.proofs.Common.{◌≡◌, ℕ, ◌+◌, ◌-◌, ◌<◌, ◌^◌, true, false, leb, List, ◌++◌, length, take, sym, ap, ◌∙◌, arith, length-append, Ok}
-use Rattle.std.proofs.lemmas.Bool.{lt-leb}
-use Rattle.sys_calls.proofs.Common.{CONSOLE_ROOM, memory}
-use Rattle.block_model.specs.Calls.Console.{Span, all_readable, bytes_of, room, spans_at, total}
-use Rattle.sys_calls.specs.Joined.{write_joined}
+use Rattle.sys_calls.proofs.Common.{◌≡◌, ℕ, ◌+◌, ◌-◌, ◌<◌, ◌^◌, true, false, leb, List, ◌++◌, length, take, sym, ap, ◌∙◌, arith, length-append, Ok, lt-leb, CONSOLE_ROOM, memory, Span, all_readable, bytes_of, room, spans_at, total, write_joined}
 use Rattle.sys_calls.proofs.GuestMemory.{if_false}
 use Rattle.sys_calls.proofs.CallAnswers.{answered_printed}
 use Rattle.sys_calls.proofs.ConsoleWrites.{spans_wrote}

@@ -1,8 +1,6 @@
 -- The records, and then the spans that they name.
-use Rattle.std.proofs.Common.{◌≡◌, ℕ, ◌*◌, true, false, not, ltb, [], sym, ap, subst, ◌∙◌, arith, Err, le-ltb}
-use Rattle.sys_calls.proofs.Common.{CallDone, EFAULT, IsAnswered, are_readable, argument}
-use Rattle.block_model.specs.Calls.Console.{is_elsewhere, spans_at, writev}
-use Rattle.sys_calls.specs.Joined.{write_joined}
+use Rattle.sys_calls.proofs.Common.{◌≡◌, ℕ, ◌*◌, true, false, not, ltb, [], sym, ap, subst, ◌∙◌, arith, Err, le-ltb, CallDone, EFAULT, IsAnswered, are_readable, argument, is_elsewhere, spans_at, write_joined}
+use Rattle.block_model.specs.Calls.Console.{writev}
 use Rattle.sys_calls.proofs.GuestMemory.{argument_is, if_false, if_true, not_false, not_true, readable_at}
 use Rattle.sys_calls.proofs.CallAnswers.{answered_said}
 use Rattle.sys_calls.proofs.Spans.{readable_end}

@@ -1,7 +1,5 @@
-use Rattle.std.proofs.Common.{arith, ◌≡◌, ℕ, ◌+◌, ap, ap₂, subst, sym, ◌∙◌}
-use Rattle.block_model.specs.Choosing.{advance_at}
-use Rattle.block_model.specs.Deciding.{history}
-use Rattle.block_model.specs.Setting.{Seen, Setting}
+use Rattle.machine_core.proofs.Common.{arith, ◌≡◌, ℕ, ◌+◌, ap, subst, sym, ◌∙◌, advance_at, history, Seen, Setting}
+use Rattle.std.proofs.Common.{ap₂}
 use Rattle.machine_core.proofs.StretchLending.{IsOnItsWay, goes_its_way, is_there}
 use Rattle.machine_core.proofs.machine.Machine.advance_often.Goals as goal
 

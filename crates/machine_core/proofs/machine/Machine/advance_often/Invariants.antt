@@ -1,6 +1,4 @@
-use Rattle.std.proofs.Common.{◌≡◌}
-use Rattle.block_model.specs.Choosing.{IsChosen}
-use Rattle.block_model.specs.Run.{IsBlockRun}
+use Rattle.machine_core.proofs.Common.{◌≡◌, IsChosen, IsBlockRun}
 use Rattle.machine_core.proofs.StretchLending.{IsOnItsWay}
 use Rattle.machine_core.proofs.machine.Machine.advance_often.Given as goal
 

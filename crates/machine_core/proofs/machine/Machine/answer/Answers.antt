@@ -1,7 +1,5 @@
 -- What would be answered to a choice.
-use Rattle.std.proofs.Common.{sym}
-use Rattle.block_model.specs.Stands.{stand_of}
-use Rattle.machine_core.specs.Machines.{seen}
+use Rattle.machine_core.proofs.Common.{sym, stand_of, seen}
 use Rattle.machine_core.proofs.StretchAppends.{code_open, is_alone, place_open}
 use Rattle.machine_core.proofs.Steps.{allowed, refused}
 use Rattle.machine_core.proofs.machine.Machine.answer.Goals as goal

@@ -1,7 +1,4 @@
-use Rattle.std.proofs.Common.{◌-◌, sym, ap, ◌∙◌, arith}
-use Rattle.machine_core.proofs.Common.{HartState, past_of, setting_of, stretch_of}
-use Rattle.block_model.specs.Deciding.{history}
-use Rattle.block_model.proofs.Laws.{is_lent, length-history}
+use Rattle.machine_core.proofs.Common.{◌-◌, sym, ap, ◌∙◌, arith, HartState, past_of, setting_of, stretch_of, history, is_lent, length-history}
 use Rattle.machine_core.proofs.StretchAppends.{appended_is, has_room, makes}
 use Rattle.machine_core.proofs.machine.Machine.append_local.Goals as goal
 

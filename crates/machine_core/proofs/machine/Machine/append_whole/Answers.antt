@@ -1,5 +1,4 @@
-use Rattle.std.proofs.Common.{◌++◌, map, ◌≡◌, refl, sym, ap, ◌∙◌, subst, arith, Some, true}
-use Rattle.machine_core.proofs.Common.{executed, setting_of, stretch_of}
+use Rattle.machine_core.proofs.Common.{◌++◌, map, ◌≡◌, refl, sym, ap, ◌∙◌, subst, arith, Some, true, executed, setting_of, stretch_of}
 use Rattle.machine_core.proofs.AdvanceAnswers.{all_of, chosen_of}
 use Rattle.machine_core.proofs.StretchAppends.{counts_fit, of_machine, ready, taken_ready, with_hart}
 use Rattle.machine_core.proofs.MachineCredits.{IsSettled}

@@ -1,7 +1,5 @@
 -- A machine at boot is tied to its empty log.
-use Rattle.std.proofs.Common.{◌≡◌, ◌∙◌, ap, arith, length}
-use Rattle.block_model.proofs.Laws.{start_run, start_plain}
-use Rattle.block_model.specs.Setting.{setting_of as setting_by}
+use Rattle.machine_core.proofs.Common.{◌≡◌, ◌∙◌, ap, arith, length, start_run, start_plain, setting_by}
 use Rattle.machine_core.proofs.Boot.{credits_start, generators_start, none_made}
 use Rattle.machine_core.proofs.machine.Machine.boot.Goals as goal
 

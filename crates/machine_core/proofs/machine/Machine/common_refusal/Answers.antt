@@ -1,7 +1,6 @@
 -- The refusal of every choice of a hart.
-use Rattle.std.proofs.Common.{◌<◌, ◌≤◌, length, sym, ◌∙◌, arith}
+use Rattle.machine_core.proofs.Common.{◌<◌, ◌≤◌, length, sym, ◌∙◌, arith, seen}
 use Rattle.block_model.proofs.Laws.{after_end, at_limit, at_no_hart}
-use Rattle.machine_core.specs.Machines.{seen}
 use Rattle.machine_core.proofs.MachineCredits.{machine_goes}
 use Rattle.machine_core.proofs.machine.Machine.common_refusal.Goals as goal
 

@@ -1,5 +1,5 @@
 -- The bytes of the console.
-use Rattle.std.proofs.Common.{◌∙◌}
+use Rattle.machine_core.proofs.Common.{◌∙◌}
 use Rattle.machine_core.proofs.Readings.{console_read}
 use Rattle.machine_core.proofs.machine.Machine.console.Goals as goal
 

@@ -1,9 +1,5 @@
 -- What the interruption of a thread would come to.
-use Rattle.std.proofs.Common.{◌≡◌, sym, ap, ◌∙◌, Ok}
-use Rattle.machine_core.proofs.Common.{Here, done_of, past_of, seen, setting_of}
-use Rattle.block_model.specs.Deciding.{decide}
-use Rattle.block_model.specs.Stands.{stand_of}
-use Rattle.block_model.proofs.Laws.{same_here}
+use Rattle.machine_core.proofs.Common.{◌≡◌, sym, ap, ◌∙◌, Ok, Here, done_of, past_of, seen, setting_of, decide, stand_of, same_here}
 use Rattle.machine_core.proofs.AllowedPlaces.{allowed_place, may_make}
 use Rattle.machine_core.proofs.machine.Machine.foreseen.Goals as goal
 

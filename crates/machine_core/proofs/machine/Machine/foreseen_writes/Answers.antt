@@ -1,9 +1,5 @@
 -- What the kernel would write.
-use Rattle.std.proofs.Common.{◌≡◌, sym, ap, ◌∙◌, Ok}
-use Rattle.machine_core.proofs.Common.{past_of, seen, setting_of}
-use Rattle.block_model.specs.Deciding.{decide}
-use Rattle.block_model.specs.Stands.{stand_of}
-use Rattle.block_model.proofs.Laws.{same_here}
+use Rattle.machine_core.proofs.Common.{◌≡◌, sym, ap, ◌∙◌, Ok, past_of, seen, setting_of, decide, stand_of, same_here}
 use Rattle.process.specs.Foresight.{foreseen_writes}
 use Rattle.machine_core.proofs.AllowedPlaces.{allowed_place, may_make}
 use Rattle.machine_core.proofs.machine.Machine.foreseen_writes.Goals as goal

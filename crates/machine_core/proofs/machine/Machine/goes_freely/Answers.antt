@@ -1,9 +1,5 @@
 -- Whether a hart goes freely.
-use Rattle.std.proofs.Common.{◌≡◌, ◌∙◌, ◌&&◌, Option, ap, false, is_some, not}
-use Rattle.std.specs.Option.{option_map_or}
-use Rattle.rv_inst.specs.declared.effects.Effect.{Effect}
-use Rattle.block_model.specs.Choosing.{credit_at}
-use Rattle.machine_core.proofs.Common.{events, hart_in, ran, sets_register, setting_of}
+use Rattle.machine_core.proofs.Common.{◌≡◌, ◌∙◌, ◌&&◌, Option, ap, false, is_some, not, option_map_or, Effect, credit_at, events, hart_in, ran, sets_register, setting_of}
 use Rattle.machine_core.proofs.FreeSteps.{freely_read}
 use Rattle.machine_core.proofs.Readings.{here_read, history_of}
 use Rattle.machine_core.proofs.machine.Machine.goes_freely.Goals as goal

@@ -1,5 +1,5 @@
 -- A hart, as looking back over the log says it.
-use Rattle.std.proofs.Common.{◌<◌}
+use Rattle.machine_core.proofs.Common.{◌<◌}
 use Rattle.machine_core.proofs.Readings.{hart_read}
 use Rattle.machine_core.proofs.machine.Machine.hart.Goals as goal
 

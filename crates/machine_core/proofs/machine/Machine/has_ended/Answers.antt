@@ -1,4 +1,4 @@
-use Rattle.std.proofs.Common.{sym, ◌∙◌}
+use Rattle.machine_core.proofs.Common.{sym, ◌∙◌}
 use Rattle.machine_core.proofs.AdvanceAnswers.{ended_by_room, over_ended}
 use Rattle.machine_core.proofs.machine.Machine.has_ended.Goals as goal
 

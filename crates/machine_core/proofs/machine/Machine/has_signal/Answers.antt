@@ -1,11 +1,6 @@
 -- Whether a signal can be delivered to the thread on a hart.
-use Rattle.std.proofs.Common.{◌<◌, ap, ◌∙◌}
-use Rattle.machine_core.proofs.Common.{Here, here_of, plain_seen, runs, seen, setting_of}
-use Rattle.block_model.specs.Sights.{is_deliverable_on}
-use Rattle.block_model.specs.Stands.{stand_of}
-use Rattle.block_model.proofs.Laws.{same_here, standing}
+use Rattle.machine_core.proofs.Common.{◌<◌, ap, ◌∙◌, Here, here_of, plain_seen, runs, seen, setting_of, is_deliverable_on, stand_of, same_here, standing, has_signals}
 use Rattle.machine_core.proofs.Sights.{deliverable_read}
-use Rattle.process.proofs.Laws.{has_signals}
 use Rattle.machine_core.proofs.machine.Machine.has_signal.Goals as goal
 
 pub deliverable-requires-clause-held : goal.deliverable-requires-clause-held

@@ -1,6 +1,4 @@
-use Rattle.std.proofs.Common.{ap, sym, ◌∙◌}
-use Rattle.block_model.specs.Choosing.{IsChosen}
-use Rattle.machine_core.proofs.Common.{events, hart_in, here_in_history, past_of, ran, setting_of}
+use Rattle.machine_core.proofs.Common.{ap, sym, ◌∙◌, IsChosen, events, hart_in, here_in_history, past_of, ran, setting_of}
 use Rattle.machine_core.proofs.AdvanceAnswers.{all_of}
 use Rattle.machine_core.proofs.ChoiceCredits.{credit_read}
 use Rattle.machine_core.proofs.StretchLending.{ended_lends_none, lent_is, past_lends_none}

@@ -1,9 +1,6 @@
 -- At which bytes the check of the area of a hart's thread looks.
-use Rattle.std.proofs.Common.{◌<◌, ap, ◌∙◌}
-use Rattle.block_model.specs.Plain.{plain_seen}
-use Rattle.block_model.proofs.Laws.{same_here}
+use Rattle.machine_core.proofs.Common.{◌<◌, ap, ◌∙◌, plain_seen, same_here, seen, setting_of}
 use Rattle.process.specs.Sequences.{looked_at_on}
-use Rattle.machine_core.specs.Machines.{seen, setting_of}
 use Rattle.machine_core.proofs.machine.Machine.looked_at.Goals as goal
 
 pub returns : goal.returns

@@ -1,6 +1,5 @@
 -- A word of memory.
-use Rattle.std.proofs.Common.{ℕ, ◌∙◌, ap, Option}
-use Rattle.mach_types.specs.Bytes.{word_at}
+use Rattle.machine_core.proofs.Common.{ℕ, ◌∙◌, ap, Option, word_at}
 use Rattle.machine_core.proofs.Readings.{bytes_read}
 use Rattle.machine_core.proofs.machine.Machine.memory.Goals as goal
 

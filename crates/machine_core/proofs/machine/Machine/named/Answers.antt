@@ -1,7 +1,5 @@
 -- What the area of a hart's thread names.
-use Rattle.std.proofs.Common.{◌<◌, ap, ◌∙◌}
-use Rattle.machine_core.proofs.Common.{plain_seen, seen, setting_of}
-use Rattle.block_model.proofs.Laws.{same_here}
+use Rattle.machine_core.proofs.Common.{◌<◌, ap, ◌∙◌, plain_seen, seen, setting_of, same_here}
 use Rattle.process.specs.Sequences.{named_on}
 use Rattle.machine_core.proofs.machine.Machine.named.Goals as goal
 

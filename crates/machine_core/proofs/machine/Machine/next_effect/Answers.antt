@@ -1,7 +1,5 @@
 -- What the next instruction of a hart's thread asks for.
-use Rattle.std.proofs.Common.{◌≡◌, ◌∙◌}
-use Rattle.block_model.specs.Choosing.{credit_at}
-use Rattle.machine_core.proofs.Common.{events, hart_in, ran, setting_of}
+use Rattle.machine_core.proofs.Common.{◌≡◌, ◌∙◌, credit_at, events, hart_in, ran, setting_of}
 use Rattle.machine_core.proofs.Readings.{here_read, history_of}
 use Rattle.machine_core.proofs.Sights.{effect_read, is_busy, no_effect_read}
 use Rattle.machine_core.proofs.machine.Machine.next_effect.Goals as goal

@@ -1,10 +1,5 @@
 -- The signal of the fault of the next instruction of a hart's thread.
-use Rattle.std.proofs.Common.{◌≡◌, ◌∙◌}
-use Rattle.page_map.specs.Map.{byte_in, can_write_in}
-use Rattle.block_model.specs.Choosing.{credit_at}
-use Rattle.block_model.specs.History.{events, ran}
-use Rattle.machine_core.specs.Machines.{setting_of}
-use Rattle.process.specs.Harts.{hart_in}
+use Rattle.machine_core.proofs.Common.{◌≡◌, ◌∙◌, byte_in, can_write_in, credit_at, events, ran, setting_of, hart_in}
 use Rattle.machine_core.proofs.Readings.{bytes_read, here_read, history_of, writable_read}
 use Rattle.machine_core.proofs.Sights.{fault_read, is_busy, no_fault_read}
 use Rattle.machine_core.proofs.machine.Machine.next_fault.Goals as goal

@@ -1,12 +1,8 @@
 -- A machine that begins anew is tied to its empty log.
-use Rattle.std.proofs.Common.{◌≡◌, ap, arith, length, subst, sym}
+use Rattle.machine_core.proofs.Common.{◌≡◌, ap, arith, length, subst, sym, start_run, start_plain, setting_by, IsTied, Setting, setting_of}
 use Rattle.elf_load.specs.Start.{Program}
-use Rattle.block_model.proofs.Laws.{start_run, start_plain}
 use Rattle.block_model.specs.Plain.{plain_start}
-use Rattle.block_model.specs.Setting.{setting_of as setting_by}
-use Rattle.process.specs.Refinement.{IsTied}
 use Rattle.machine_core.proofs.Boot.{credits_start, generators_start, none_made}
-use Rattle.machine_core.proofs.Common.{Setting, setting_of}
 use Rattle.machine_core.proofs.machine.Machine.reset.Goals as goal
 
 pub reset-requires-clause-image : goal.reset-requires-clause-image

@@ -1,9 +1,6 @@
 -- A call, and what the kernel wrote in it.
-use Rattle.std.proofs.Common.{◌≡◌, Option, None, false, ap, refl, rules, sym, ◌∙◌, arith, slice_get}
+use Rattle.machine_core.proofs.Common.{◌≡◌, Option, None, false, ap, refl, rules, sym, ◌∙◌, arith, slice_get, Here, Parts, Sight, done_of, past_of, seen, seen_if, setting_of, stand_of, same_here}
 use Rattle.mach_types.specs.declared.events.Choice.TheVariants as asked
-use Rattle.machine_core.proofs.Common.{Here, Parts, Sight, done_of, past_of, seen, seen_if, setting_of}
-use Rattle.block_model.specs.Stands.{stand_of}
-use Rattle.block_model.proofs.Laws.{same_here}
 use Rattle.machine_core.proofs.AdvanceAnswers.{chosen_of}
 use Rattle.machine_core.proofs.AllowedPlaces.{allowed_place, call_step, planned_call}
 use Rattle.machine_core.proofs.MachineCredits.{settled, unfollowed}

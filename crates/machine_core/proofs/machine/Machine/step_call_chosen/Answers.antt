@@ -1,9 +1,6 @@
 -- A call of a machine that makes the choices of `run`, and what the kernel wrote in it.
-use Rattle.std.proofs.Common.{◌≡◌, Some, true, ap, length, refl, rules, sym, ◌∙◌, arith}
+use Rattle.machine_core.proofs.Common.{◌≡◌, Some, true, ap, length, refl, rules, sym, ◌∙◌, arith, Here, Parts, done_of, past_of, seen, seen_if, setting_of, stand_of, same_here}
 use Rattle.mach_types.specs.declared.events.Choice.TheVariants as asked
-use Rattle.machine_core.proofs.Common.{Here, Parts, done_of, past_of, seen, seen_if, setting_of}
-use Rattle.block_model.specs.Stands.{stand_of}
-use Rattle.block_model.proofs.Laws.{same_here}
 use Rattle.machine_core.proofs.AdvanceAnswers.{all_of}
 use Rattle.machine_core.proofs.AllowedPlaces.{allowed_place, call_step, planned_call}
 use Rattle.machine_core.proofs.MachineCredits.{settled}

@@ -1,7 +1,4 @@
-use Rattle.std.proofs.Common.{◌≡◌, ◌<◌, Some, true, ap, length, refl, rules, sym, ◌∙◌, arith}
-use Rattle.std.proofs.lemmas.Result.{IfOk-at_ok}
-use Rattle.machine_core.proofs.Common.{IsAfter, Parts, done_of, here_of, past_of, seen, seen_if, setting_of}
-use Rattle.block_model.specs.Stands.{stand_of}
+use Rattle.machine_core.proofs.Common.{◌≡◌, ◌<◌, Some, true, ap, length, refl, rules, sym, ◌∙◌, arith, IfOk-at_ok, IsAfter, Parts, done_of, here_of, past_of, seen, seen_if, setting_of, stand_of}
 use Rattle.machine_core.proofs.AdvanceAnswers.{all_of}
 use Rattle.machine_core.proofs.StretchAppends.{code_open, goes_on, has_room, is_alone, place_open}
 use Rattle.machine_core.proofs.MachineCredits.{settled}

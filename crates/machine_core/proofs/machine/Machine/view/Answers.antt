@@ -1,7 +1,5 @@
 -- A word as a hart sees it.
-use Rattle.std.proofs.Common.{◌≡◌, ◌∙◌}
-use Rattle.block_model.specs.Choosing.{credit_at}
-use Rattle.machine_core.proofs.Common.{events, hart_in, ran, setting_of}
+use Rattle.machine_core.proofs.Common.{◌≡◌, ◌∙◌, credit_at, events, hart_in, ran, setting_of}
 use Rattle.machine_core.proofs.Readings.{here_read, history_of, word_read}
 use Rattle.machine_core.proofs.machine.Machine.view.Goals as goal
 

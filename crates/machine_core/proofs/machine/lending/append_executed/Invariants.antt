@@ -1,5 +1,5 @@
-use Rattle.std.proofs.Common.{◌≡◌, ◌≤◌, ◌++◌, map, take, vec_capacity}
-use Rattle.machine_core.specs.Stretches.{executed}
+use Rattle.machine_core.proofs.Common.{◌≡◌, ◌≤◌, ◌++◌, map, take, executed}
+use Rattle.std.proofs.Common.{vec_capacity}
 use Rattle.machine_core.proofs.machine.lending.append_executed.Given as goal
 
 -- those of the addresses before are appended

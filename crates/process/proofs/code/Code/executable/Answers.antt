@@ -1,5 +1,4 @@
-use Rattle.std.proofs.Common.{◌≡◌, ap, ◌∙◌}
-use Rattle.process.specs.Pages.{code_of}
+use Rattle.process.proofs.Common.{◌≡◌, ap, ◌∙◌, code_of}
 use Rattle.process.proofs.Codes.{code_rises}
 use Rattle.process.proofs.code.Code.executable.Goals as goal
 

@@ -1,6 +1,5 @@
 -- A word of a page of the image.
-use Rattle.std.proofs.Common.{sym, ap, ◌∙◌, ◌/◌, ◌%◌}
-use Rattle.process.specs.Pages.{word_of_page}
+use Rattle.process.proofs.Common.{sym, ap, ◌∙◌, ◌/◌, ◌%◌, word_of_page}
 use Rattle.process.proofs.Fetches.{not_stack, word_of_image}
 use Rattle.process.proofs.code.Code.fetch.Goals as goal
 

@@ -1,7 +1,5 @@
 -- An instruction of a page of the image, which lies below the stack, or of any other page.
-use Rattle.std.proofs.Common.{sym, ap, ◌∙◌, ◌%◌, arith}
-use Rattle.block_model.specs.Instruction.{instruction_of}
-use Rattle.process.specs.Pages.{word_of_page}
+use Rattle.process.proofs.Common.{sym, ap, ◌∙◌, ◌%◌, arith, instruction_of, word_of_page}
 use Rattle.process.proofs.Fetches.{word_below_stack}
 use Rattle.process.proofs.code.Code.instruction.Goals as goal
 

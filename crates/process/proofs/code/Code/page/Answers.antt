@@ -1,7 +1,5 @@
 -- The page with a number, found by its place among the numbers.
-use Rattle.std.proofs.Common.{◌≡◌, sym, ap, ◌∙◌, arith, Some, None, nat_eq, position}
-use Rattle.std.proofs.lemmas.List.{length-map}
-use Rattle.elf_load.specs.declared.image.ImagePage.{ImagePage}
+use Rattle.process.proofs.Common.{◌≡◌, sym, ap, ◌∙◌, arith, Some, None, nat_eq, position, length-map, ImagePage}
 use Rattle.process.proofs.Lookups.{page_of-none, page_of-rising, numbers, some_stands, none_stands}
 use Rattle.process.proofs.code.Code.page.Goals as goal
 

@@ -1,9 +1,5 @@
 -- The instruction at an offset is the one that is kept there, or that of the word.
-use Rattle.std.proofs.Common.{◌≡◌, ℕ, ◌<◌, ◌*◌, ◌/◌, ap, ◌∙◌, refl, arith, length, Some}
-use Rattle.std.proofs.lemmas.Option.{slice_get_read}
-use Rattle.elf_load.specs.declared.image.ImagePage.{ImagePage}
-use Rattle.block_model.specs.Instruction.{instruction_of}
-use Rattle.process.specs.Pages.{word_of_page}
+use Rattle.process.proofs.Common.{◌≡◌, ℕ, ◌<◌, ◌*◌, ◌/◌, ap, ◌∙◌, refl, arith, length, Some, slice_get_read, ImagePage, instruction_of, word_of_page}
 use Rattle.process.proofs.code_page.CodePage.instruction.Goals as goal
 
 pub returns-then-place-len : goal.returns-then-place-len

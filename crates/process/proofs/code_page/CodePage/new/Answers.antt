@@ -1,7 +1,5 @@
 -- The instructions are those of the copy.
-use Rattle.std.proofs.Common.{sym, subst}
-use Rattle.elf_load.specs.declared.image.ImagePage.{ImagePage}
-use Rattle.process.specs.Pages.{AreDecoded}
+use Rattle.process.proofs.Common.{sym, subst, ImagePage, AreDecoded}
 use Rattle.process.proofs.code_page.CodePage.new.Goals as goal
 
 pub invariant_of-result : goal.invariant_of-result

@@ -1,5 +1,4 @@
-use Rattle.std.proofs.Common.{sym, ap, ◌∙◌, option_and_then}
-use Rattle.process.proofs.Common.{HartState, area_here, area_of, here_in_plain, runs}
+use Rattle.process.proofs.Common.{sym, ap, ◌∙◌, option_and_then, HartState, area_here, area_of, here_in_plain, runs}
 use Rattle.process.proofs.Places.{thread_is}
 use Rattle.process.proofs.HartStates.{hart_tied}
 use Rattle.process.proofs.parts.Parts.area.Goals as goal

@@ -1,9 +1,5 @@
-use Rattle.std.proofs.Common.{◌≡◌, ap, ◌∙◌, subst}
-use Rattle.mach_types.specs.Kernel.Areas.{lowest_cid}
-use Rattle.mach_types.specs.Kernel.Scheduling.{without_ready}
-use Rattle.process.proofs.Common.{Kernel, Table, here_at, next_id, state_of}
+use Rattle.process.proofs.Common.{◌≡◌, ap, ◌∙◌, subst, lowest_cid, without_ready, Kernel, Table, here_at, next_id, state_of, IsReadied}
 use Rattle.scheduler.specs.Holding.{is_ready}
-use Rattle.process.specs.ContextSwitch.{IsReadied}
 use Rattle.process.proofs.ConcurrencyIds.{held_here}
 use Rattle.process.proofs.RunEvent.{begun_killed, begun_running, listed, readied, readied_there, runs_then, some_free}
 use Rattle.process.proofs.parts.Parts.begun.Goals as goal

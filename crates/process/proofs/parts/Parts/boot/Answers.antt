@@ -1,10 +1,5 @@
 -- Parts that have done nothing yet are the plain machine's at its start.
-use Rattle.std.proofs.Common.{◌≡◌, ◌∙◌, ap, None, refl}
-use Rattle.elf_load.specs.Start.{program_of, start_file}
-use Rattle.kernel_threads.specs.Table.{start_table}
-use Rattle.mach_types.specs.Kernel.Barriers.{none_registered}
-use Rattle.sys_calls.specs.Registered.{areas_by_number}
-use Rattle.process.proofs.Common.{Parts}
+use Rattle.process.proofs.Common.{◌≡◌, ◌∙◌, ap, None, refl, program_of, start_file, start_table, none_registered, areas_by_number, Parts}
 use Rattle.process.proofs.Starts.{tied-start}
 use Rattle.process.proofs.parts.Parts.boot.Goals as goal
 

@@ -1,7 +1,5 @@
-use Rattle.std.proofs.Common.{◌+◌, None, arith, refl, sym}
+use Rattle.process.proofs.Common.{◌+◌, None, arith, refl, sym, HartState, by_call, counted, here_at, killed_in_call}
 use Rattle.mach_types.specs.declared.events.Choice.TheVariants as asked
-use Rattle.process.proofs.Common.{HartState, by_call, counted, here_at}
-use Rattle.block_model.specs.Calls.Answers.{killed_in_call}
 use Rattle.process.proofs.Entries.{killed_as}
 use Rattle.process.proofs.ExecEvent.{done_inside}
 use Rattle.process.proofs.HartEvents.{inside_own}

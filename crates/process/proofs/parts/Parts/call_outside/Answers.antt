@@ -1,6 +1,4 @@
-use Rattle.std.proofs.Common.{ap, refl, sym, ◌∙◌}
-use Rattle.process.proofs.Common.{Done, here_at, running_on}
-use Rattle.block_model.specs.Calls.{called}
+use Rattle.process.proofs.Common.{ap, refl, sym, ◌∙◌, Done, here_at, running_on, called}
 use Rattle.process.proofs.SystemCalls.{areas_found, calling, numbers_left, running_found, signals_found, tables_found}
 use Rattle.process.proofs.parts.Parts.call_outside.Goals as goal
 

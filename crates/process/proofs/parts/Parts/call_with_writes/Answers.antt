@@ -1,6 +1,4 @@
-use Rattle.std.proofs.Common.{◌≡◌, sym, ap, ◌∙◌, [], true}
-use Rattle.block_model.specs.Sequences.{is_inside_here}
-use Rattle.process.proofs.Common.{Done, here_at}
+use Rattle.process.proofs.Common.{◌≡◌, sym, ap, ◌∙◌, [], true, is_inside_here, Done, here_at}
 use Rattle.process.proofs.ExecEvent.{done_inside}
 use Rattle.process.proofs.parts.Parts.call_with_writes.Goals as goal
 

@@ -1,8 +1,6 @@
 -- The event of a signal.
-use Rattle.std.proofs.Common.{ap, ◌∙◌}
+use Rattle.process.proofs.Common.{ap, ◌∙◌, here_at, done_here, ended_unless}
 use Rattle.mach_types.specs.declared.events.Kind.TheVariants as kind
-use Rattle.block_model.specs.Stands.{here_at}
-use Rattle.process.specs.Delivering.{done_here, ended_unless}
 use Rattle.process.proofs.Places.{hart_is, still_there}
 use Rattle.process.proofs.SignalEvent.{delivered_event, interrupted_there, receiving, same_signal, some_signal}
 use Rattle.process.proofs.SignalsOfHarts.{entry_runs, has_signals, held_named}

@@ -1,10 +1,5 @@
-use Rattle.std.proofs.Common.{◌≡◌, refl, [], ◌+◌, List, ◌∷◌, eqb, set, slice_get, ap, ◌∙◌, subst, option_map}
-use Rattle.mach_types.specs.Bytes.{all_stored}
+use Rattle.process.proofs.Common.{◌≡◌, refl, [], ◌+◌, List, ◌∷◌, eqb, set, slice_get, ap, ◌∙◌, subst, option_map, all_stored, HartState, IsWritten, Store, counted, here_at, lost_unless, Stored, stores, done_drain_of}
 use Rattle.mach_types.specs.declared.events.Choice.TheVariants as asked
-use Rattle.process.proofs.Common.{HartState, IsWritten, Store, counted, here_at, lost_unless}
-use Rattle.mach_types.specs.declared.user_memory.Write.TheVariants.{Stored}
-use Rattle.hart_state.specs.State.{stores}
-use Rattle.block_model.specs.Events.Drain.{done_drain_of}
 use Rattle.process.proofs.DrainEvent.{can_enter}
 use Rattle.process.proofs.Entries.{uncounted_as, oldest}
 use Rattle.process.proofs.Events.{quietly}

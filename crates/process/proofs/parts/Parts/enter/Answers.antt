@@ -1,8 +1,5 @@
-use Rattle.std.proofs.Common.{[], ◌∷◌, ap, ◌∙◌}
+use Rattle.process.proofs.Common.{[], ◌∷◌, ap, ◌∙◌, Stored, held_in, IsWritten}
 use Rattle.mach_types.specs.Bytes.{after_write}
-use Rattle.mach_types.specs.declared.user_memory.Write.TheVariants.{Stored}
-use Rattle.page_map.specs.Map.{held_in}
-use Rattle.process.specs.Stored.{IsWritten}
 use Rattle.process.proofs.parts.Parts.enter.Goals as goal
 
 pub returns-clause-pages : goal.returns-clause-pages

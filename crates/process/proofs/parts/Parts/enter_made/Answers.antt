@@ -1,4 +1,4 @@
-use Rattle.std.proofs.Common.{slice_get, eqb}
+use Rattle.process.proofs.Common.{slice_get, eqb}
 use Rattle.process.proofs.Interruptions.{lost_nothing, none_written}
 use Rattle.process.proofs.parts.Parts.enter_made.Goals as goal
 

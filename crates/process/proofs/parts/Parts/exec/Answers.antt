@@ -1,6 +1,5 @@
-use Rattle.std.proofs.Common.{sym, subst}
+use Rattle.process.proofs.Common.{sym, subst, IsPlace, IsUncounted, Parts, done_of, here_at}
 use Rattle.std.specs.Prelude.{IfOk}
-use Rattle.process.proofs.Common.{IsPlace, IsUncounted, Parts, done_of, here_at}
 use Rattle.mach_types.specs.declared.events.Choice.TheVariants as asked
 use Rattle.process.specs.Refinement.{HasCode}
 use Rattle.process.proofs.parts.Parts.exec.Goals as goal

@@ -1,8 +1,5 @@
-use Rattle.std.proofs.Common.{Ok, sym, ap, ◌∙◌}
+use Rattle.process.proofs.Common.{Ok, sym, ap, ◌∙◌, entry_in, here_at, answered}
 use Rattle.mach_types.specs.declared.events.Choice.TheVariants as asked
-use Rattle.block_model.specs.Deciding.{entry_in}
-use Rattle.block_model.specs.Stands.{here_at}
-use Rattle.process.specs.Refinement.{answered}
 use Rattle.process.proofs.parts.Parts.exec_any.Goals as goal
 
 pub entry-made-requires : goal.entry-made-requires

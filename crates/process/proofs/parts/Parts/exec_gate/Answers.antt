@@ -1,5 +1,5 @@
 -- A process that is alone shares no segment.
-use Rattle.std.proofs.Common.{None}
+use Rattle.process.proofs.Common.{None}
 use Rattle.process.proofs.ExecGates.{none_of_segment}
 use Rattle.process.proofs.parts.Parts.exec_gate.Goals as goal
 

@@ -1,6 +1,4 @@
-use Rattle.std.proofs.Common.{◌≡◌, Some, None, is_some, ap, refl, ◌∙◌}
-use Rattle.process.proofs.Common.{exec_refusal, here_at}
-use Rattle.block_model.specs.Events.Exec.{is_held, others_gate}
+use Rattle.process.proofs.Common.{◌≡◌, Some, None, is_some, ap, refl, ◌∙◌, exec_refusal, here_at, is_held, others_gate}
 use Rattle.process.proofs.HartStates.{hart_tied}
 use Rattle.process.proofs.ExecGates.{gate_is}
 use Rattle.process.proofs.parts.Parts.exec_gate_beside.Goals as goal

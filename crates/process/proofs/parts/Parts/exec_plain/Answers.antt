@@ -1,13 +1,9 @@
-use Rattle.std.proofs.Common.{◌≡◌, ◌+◌, Ok, refl, sym, ap, ◌∙◌, set}
+use Rattle.process.proofs.Common.{◌≡◌, ◌+◌, Ok, refl, sym, ap, ◌∙◌, set, entry_in, HartState, here_at, stepped, answered}
 use Rattle.mach_types.specs.declared.events.Choice.TheVariants as asked
 use Rattle.mach_types.specs.declared.events.Kind.TheVariants as kind
-use Rattle.block_model.specs.Deciding.{entry_in}
-use Rattle.process.proofs.Common.{HartState, here_at}
 use Rattle.process.proofs.Entries.{entry_here}
 use Rattle.process.proofs.Places.{hart_is}
 use Rattle.process.proofs.PlainSteps.{plain_executed, plain_planned, ran_same, was_some}
-use Rattle.process.specs.PlainSteps.{stepped}
-use Rattle.process.specs.Refinement.{answered}
 use Rattle.process.proofs.parts.Parts.exec_plain.Goals as goal
 
 pub returns-clause-answer : goal.returns-clause-answer

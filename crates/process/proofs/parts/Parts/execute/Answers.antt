@@ -1,7 +1,6 @@
-use Rattle.std.proofs.Common.{rules, ◌≡◌, Some, sym, ap, ◌∙◌, subst}
+use Rattle.process.proofs.Common.{rules, ◌≡◌, Some, sym, ap, ◌∙◌, subst, Next}
 use Rattle.rv_inst.specs.declared.effects.Effect.TheVariants as effect
 use Rattle.process.specs.Planned.{HasPlan, IsExecuted}
-use Rattle.process.specs.declared.next.Next.{Next}
 use Rattle.process.proofs.parts.Parts.execute.Goals as goal
 
 pub call-requires : goal.call-requires

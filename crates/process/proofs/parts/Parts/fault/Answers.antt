@@ -1,12 +1,7 @@
-use Rattle.std.proofs.Common.{◌+◌, ◌≡◌, true, false, not, arith, refl, sym, ap, ◌∙◌}
-use Rattle.std.proofs.lemmas.Bool.{and_parts}
-use Rattle.mach_types.specs.Kernel.Signals.{action_of, has_signal, is_handler, mask_of, with_pending}
+use Rattle.process.proofs.Common.{◌+◌, ◌≡◌, true, false, not, arith, refl, sym, ap, ◌∙◌, and_parts, action_of, is_handler, mask_of, with_pending, HartState, counted, here_at, has_handler, signalled, holds_signals}
+use Rattle.mach_types.specs.Kernel.Signals.{has_signal}
 use Rattle.mach_types.specs.declared.events.Choice.TheVariants as asked
 use Rattle.mach_types.specs.declared.events.Kind.TheVariants as kind
-use Rattle.process.proofs.Common.{HartState, counted, here_at}
-use Rattle.block_model.specs.Events.Exec.{has_handler}
-use Rattle.block_model.specs.Kernel.{signalled}
-use Rattle.sys_calls.proofs.Laws.{holds_signals}
 use Rattle.process.specs.Delivering.{has_handler_in}
 use Rattle.process.proofs.Entries.{killed_as, uncounted_as}
 use Rattle.process.proofs.Events.{none_beside}

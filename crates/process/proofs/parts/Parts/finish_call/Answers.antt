@@ -1,8 +1,6 @@
 -- What a call leaves of the parts, once the tables and the pages are as it leaves them.
-use Rattle.std.proofs.Common.{◌≡◌, ◌+◌, List, length, get_or, set, eqb, arith, ap, ◌∙◌, slice_get, option_map}
-use Rattle.process.proofs.Common.{HartState, Kernel, Parts, asked_by, by_call, counted, credit_of, hart_at, here_at, is_stuck, lost_unless}
+use Rattle.process.proofs.Common.{◌≡◌, ◌+◌, List, length, get_or, set, eqb, arith, ap, ◌∙◌, slice_get, option_map, HartState, Kernel, Parts, asked_by, by_call, counted, credit_of, hart_at, here_at, is_stuck, lost_unless, gives_up}
 use Rattle.mach_types.specs.declared.events.Choice.TheVariants as asked
-use Rattle.sys_calls.specs.Made.{gives_up}
 use Rattle.process.proofs.Membarriers.{call_beside, eighth}
 use Rattle.process.proofs.SystemCalls.{call_own, ended_after, executed, ids_kept, same_ran}
 use Rattle.process.proofs.Entries.{uncounted_as}

@@ -1,6 +1,5 @@
 -- What the interruption of a thread will come to.
-use Rattle.std.proofs.Common.{sym, ◌∙◌}
-use Rattle.block_model.specs.Stands.{here_at}
+use Rattle.process.proofs.Common.{sym, ◌∙◌, here_at}
 use Rattle.process.proofs.Foreseen.{foreseen_is, none_foreseen}
 use Rattle.process.proofs.Places.{in_list}
 use Rattle.process.proofs.parts.Parts.foreseen.Goals as goal

@@ -1,13 +1,5 @@
 -- What the kernel will write.
-use Rattle.std.proofs.Common.{◌≡◌, List, ◌++◌, false, rules, sym, ap, ◌∙◌, Some, option_and_then}
-use Rattle.std.specs.List.{list_any}
-use Rattle.mach_types.specs.Kernel.Areas.{lowest_cid, words_on, writes_of}
-use Rattle.mach_types.specs.declared.events.Choice.{Choice}
-use Rattle.block_model.specs.Deciding.{thread_in}
-use Rattle.block_model.specs.Sequences.{words_to}
-use Rattle.process.proofs.Common.{Write, area_here, done_of, harts_that, here_at, holds, refusal_of, runs}
-use Rattle.process.specs.Foresight.{foreseen_writes}
-use Rattle.process.specs.Sequences.{area_on}
+use Rattle.process.proofs.Common.{◌≡◌, List, ◌++◌, false, rules, sym, ap, ◌∙◌, Some, option_and_then, list_any, lowest_cid, words_on, writes_of, Choice, thread_in, words_to, Write, area_here, done_of, harts_that, here_at, holds, refusal_of, runs, foreseen_writes, area_on}
 use Rattle.process.proofs.ConcurrencyIds.{held_here}
 use Rattle.process.proofs.Interruptions.{clearing}
 use Rattle.process.proofs.KernelWrites.{comes_there, foreseen_there, is_followed, killed_foreseen, nothing_foreseen, run_foreseen, take_foreseen}

@@ -1,8 +1,6 @@
 -- A signal is delivered to a thread.
-use Rattle.std.proofs.Common.{◌≡◌, false, rules, sym, ap, ◌∙◌}
-use Rattle.std.proofs.Math.Path.{fun_ext}
+use Rattle.process.proofs.Common.{◌≡◌, false, rules, sym, ap, ◌∙◌, fun_ext, Kernel, Saved}
 use Rattle.mach_types.specs.Kernel.Signals.{is_held}
-use Rattle.process.proofs.Common.{Kernel, Saved}
 use Rattle.process.proofs.SignalDelivery.{IsHalfway, delivered_by, held_taken}
 use Rattle.process.proofs.Interruptions.{is_fatal}
 use Rattle.process.proofs.parts.Parts.handled.Goals as goal

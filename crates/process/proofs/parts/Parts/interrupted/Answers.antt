@@ -1,5 +1,5 @@
+use Rattle.process.proofs.Common.{writes_of}
 use Rattle.process.proofs.Interruptions.{clearing, written_by}
-use Rattle.mach_types.specs.Kernel.Areas.{writes_of}
 use Rattle.process.proofs.parts.Parts.interrupted.Goals as goal
 
 pub lose_pointer-requires : goal.lose_pointer-requires

@@ -1,9 +1,6 @@
-use Rattle.std.proofs.Common.{◌≡◌, sym, ap, ◌∙◌}
-use Rattle.std.specs.Option.{option_map_or}
-use Rattle.mach_types.specs.Kernel.Areas.{is_inside, is_inside_named}
+use Rattle.process.proofs.Common.{◌≡◌, sym, ap, ◌∙◌, option_map_or, is_inside, HartState, file_on, here_in_plain, named_here}
+use Rattle.mach_types.specs.Kernel.Areas.{is_inside_named}
 use Rattle.mach_types.specs.declared.sequences.Named.TheVariants as names
-use Rattle.process.proofs.Common.{HartState, file_on, here_in_plain}
-use Rattle.block_model.specs.Sequences.{named_here}
 use Rattle.process.proofs.HartStates.{hart_tied}
 use Rattle.process.proofs.parts.Parts.is_inside.Goals as goal
 

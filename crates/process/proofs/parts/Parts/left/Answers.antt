@@ -1,9 +1,6 @@
-use Rattle.std.proofs.Common.{Some, ◌+◌, refl, ap, ◌∙◌}
+use Rattle.process.proofs.Common.{Some, ◌+◌, refl, ap, ◌∙◌, Ready, HartState, counted, here_at, done_preempt_by}
 use Rattle.mach_types.specs.declared.events.Choice.TheVariants as asked
-use Rattle.mach_types.specs.declared.threads.ThreadState.TheVariants.{Ready}
-use Rattle.process.proofs.Common.{HartState, counted, here_at}
 use Rattle.block_model.specs.Kernel.{left}
-use Rattle.block_model.specs.Events.Preempt.{done_preempt_by}
 use Rattle.sys_calls.proofs.Laws.{holds_left}
 use Rattle.process.proofs.Entries.{uncounted_as}
 use Rattle.process.proofs.Events.{none_beside}

@@ -1,9 +1,5 @@
-use Rattle.std.proofs.Common.{◌≡◌, sym, ap, ◌∙◌, Some}
-use Rattle.std.specs.Option.{option_map}
+use Rattle.process.proofs.Common.{◌≡◌, sym, ap, ◌∙◌, Some, option_map, view, here_in_plain, area_on}
 use Rattle.rseq_area.specs.Lookups.{looked_at}
-use Rattle.block_model.specs.Here.{view}
-use Rattle.block_model.specs.Plain.{here_in_plain}
-use Rattle.process.specs.Sequences.{area_on}
 use Rattle.process.proofs.HartStates.{hart_tied}
 use Rattle.process.proofs.RestartableSequences.{view_is}
 use Rattle.process.proofs.parts.Parts.looked_at.Goals as goal

@@ -1,6 +1,4 @@
-use Rattle.std.proofs.Common.{◌≡◌, length, eqb, sym, ap, ◌∙◌, slice_get, option_map}
-use Rattle.std.proofs.lemmas.List.{with_items_is}
-use Rattle.process.specs.Reservations.{lost_unless}
+use Rattle.process.proofs.Common.{◌≡◌, length, eqb, sym, ap, ◌∙◌, slice_get, option_map, with_items_is, lost_unless}
 use Rattle.process.proofs.parts.Parts.lose.Goals as goal
 
 pub returns-clause-harts : goal.returns-clause-harts

@@ -1,8 +1,4 @@
-use Rattle.std.proofs.Common.{◌≡◌, ◌∙◌, List, ap, arith, length, map}
-use Rattle.std.specs.Vec.{vec_len}
-use Rattle.std.proofs.lemmas.List.{length-map, with_items_is}
-use Rattle.process.specs.Reservations.{lost_by_all}
-use Rattle.process.proofs.Common.{HartState}
+use Rattle.process.proofs.Common.{◌≡◌, ◌∙◌, List, ap, arith, length, map, vec_len, length-map, with_items_is, lost_by_all, HartState}
 use Rattle.process.proofs.parts.Parts.lose_all.Goals as goal
 
 pub returns-clause-harts : goal.returns-clause-harts

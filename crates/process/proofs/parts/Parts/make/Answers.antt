@@ -1,6 +1,5 @@
-use Rattle.std.proofs.Common.{sym, ◌∙◌}
+use Rattle.process.proofs.Common.{sym, ◌∙◌, IsUncounted, done_of, here_at}
 use Rattle.std.proofs.lemmas.Result.{IfOk-at_ok}
-use Rattle.process.proofs.Common.{IsUncounted, done_of, here_at}
 use Rattle.process.proofs.parts.Parts.make.Goals as goal
 
 pub count-requires : goal.count-requires

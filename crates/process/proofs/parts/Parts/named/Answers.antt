@@ -1,6 +1,4 @@
-use Rattle.std.proofs.Common.{sym, ap, ◌∙◌}
-use Rattle.process.proofs.Common.{here_in_plain, runs}
-use Rattle.process.specs.Harts.{file_of}
+use Rattle.process.proofs.Common.{sym, ap, ◌∙◌, here_in_plain, runs, file_of}
 use Rattle.process.proofs.HartStates.{hart_tied}
 use Rattle.process.proofs.RestartableSequences.{named_by, view_is}
 use Rattle.process.proofs.parts.Parts.named.Goals as goal

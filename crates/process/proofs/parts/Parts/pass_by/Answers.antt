@@ -1,5 +1,4 @@
-use Rattle.std.proofs.Common.{◌∙◌, true, false}
-use Rattle.sys_calls.specs.Made.{barrier_of}
+use Rattle.process.proofs.Common.{◌∙◌, true, false, barrier_of}
 use Rattle.process.proofs.PassingEvents.{passed_taken, passed_untaken, tied_passed}
 use Rattle.process.proofs.parts.Parts.pass_by.Goals as goal
 

@@ -1,9 +1,6 @@
-use Rattle.std.proofs.Common.{refl, ◌≡◌, ◌+◌, List, eqb, arith, sym, ap, ◌∙◌, slice_get, set, subst, option_map}
-use Rattle.mach_types.specs.Bytes.{all_stored}
+use Rattle.process.proofs.Common.{refl, ◌≡◌, ◌+◌, List, eqb, arith, sym, ap, ◌∙◌, slice_get, set, subst, option_map, all_stored, HartState, IsWritten, Store, by_outcome, counted, here_at, lost_unless, hart_after, stores}
 use Rattle.mach_types.specs.declared.events.Choice.TheVariants as asked
-use Rattle.process.proofs.Common.{HartState, IsWritten, Store, by_outcome, counted, here_at, lost_unless}
 use Rattle.rv_inst.specs.Execution.{Outcome}
-use Rattle.hart_state.specs.State.{hart_after, stores}
 use Rattle.process.proofs.Entries.{uncounted_as}
 use Rattle.process.proofs.Events.{quietly}
 use Rattle.process.proofs.HartEvents.{plain_own}

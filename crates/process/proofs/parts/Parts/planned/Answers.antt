@@ -1,8 +1,4 @@
-use Rattle.std.proofs.Common.{◌∙◌, ◌&&◌, Option, None, false, is_some, not, ap, refl, sym}
-use Rattle.std.specs.Option.{option_map_or}
-use Rattle.rv_inst.specs.Class.{sets_register}
-use Rattle.block_model.specs.Instruction.{fault_by, fetched}
-use Rattle.process.proofs.Common.{Effect, byte_in, can_write_in, credit_of}
+use Rattle.process.proofs.Common.{◌∙◌, ◌&&◌, Option, None, false, is_some, not, ap, refl, sym, option_map_or, sets_register, fault_by, fetched, Effect, byte_in, can_write_in, credit_of}
 use Rattle.process.proofs.Places.{hart_is, in_list}
 use Rattle.process.proofs.FreeInstructions.{free_is_allowed, free_tells, no_fault_of_free}
 use Rattle.process.proofs.NextInstruction.{gate_at, next_read, planned}

@@ -1,6 +1,4 @@
-use Rattle.std.proofs.Common.{rules, ◌≡◌, sym, ap, ◌∙◌, false}
-use Rattle.std.proofs.Math.Path.{fun_ext}
-use Rattle.process.proofs.Common.{Saved, can_write_in, is_writable}
+use Rattle.process.proofs.Common.{rules, ◌≡◌, sym, ap, ◌∙◌, false, fun_ext, Saved, can_write_in, is_writable}
 use Rattle.process.proofs.Interruptions.{is_fatal, readied_told}
 use Rattle.process.proofs.parts.Parts.readied.Goals as goal
 

@@ -1,7 +1,5 @@
 -- Why no signal is delivered to the thread on a hart.
-use Rattle.std.proofs.Common.{◌≡◌, ◌≢◌, length, rules, refl, sym, ◌∙◌, true, false, is_some}
-use Rattle.block_model.specs.Stands.{here_at}
-use Rattle.process.specs.Delivering.{next_on}
+use Rattle.process.proofs.Common.{◌≡◌, ◌≢◌, length, rules, refl, sym, ◌∙◌, true, false, is_some, here_at, next_on}
 use Rattle.process.proofs.Places.{hart_is}
 use Rattle.process.proofs.SignalEvent.{no_store, refusal_as, some_store}
 use Rattle.process.proofs.SignalsOfHarts.{has_signals}

@@ -1,11 +1,5 @@
-use Rattle.std.proofs.Common.{◌≡◌, ◌∙◌, All, ap, length, refl, subst, sym}
-use Rattle.std.proofs.lemmas.List.{length-map}
-use Rattle.elf_load.specs.Start.{program_of, start_file}
-use Rattle.hart_state.specs.State.{idle_hart}
-use Rattle.kernel_threads.specs.Table.{start_table}
-use Rattle.sys_calls.specs.Registered.{areas_by_number}
+use Rattle.process.proofs.Common.{◌≡◌, ◌∙◌, All, ap, length, refl, subst, sym, length-map, program_of, start_file, idle_hart, start_table, areas_by_number, HartState}
 use Rattle.process.proofs.Starts.{all_idle, tied-start}
-use Rattle.process.proofs.Common.{HartState}
 use Rattle.process.proofs.parts.Parts.reset.Goals as goal
 
 pub returns-clause-idle : goal.returns-clause-idle

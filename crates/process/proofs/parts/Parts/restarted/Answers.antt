@@ -1,6 +1,5 @@
 -- The thread on a hart is interrupted where a request asks for it.
-use Rattle.std.proofs.Common.{◌≡◌, true, Some, sym, ap, ◌∙◌}
-use Rattle.process.proofs.Common.{HartState, area_of, file_on, here_at, runs}
+use Rattle.process.proofs.Common.{◌≡◌, true, Some, sym, ap, ◌∙◌, HartState, area_of, file_on, here_at, runs}
 use Rattle.process.proofs.Places.{bytes_at, hart_is, thread_is, writable_at}
 use Rattle.process.proofs.TakeEvent.{restarted}
 use Rattle.process.proofs.parts.Parts.restarted.Goals as goal

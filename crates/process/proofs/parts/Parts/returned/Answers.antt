@@ -1,8 +1,6 @@
 -- The barrier of a thread returns.
-use Rattle.std.proofs.Common.{◌+◌, Some, None, refl, ap}
+use Rattle.process.proofs.Common.{◌+◌, Some, None, refl, ap, HartState, counted, file_among, here_at, done_done_by}
 use Rattle.mach_types.specs.declared.events.Choice.TheVariants as asked
-use Rattle.process.proofs.Common.{HartState, counted, file_among, here_at}
-use Rattle.block_model.specs.Events.Finish.{done_done_by}
 use Rattle.process.proofs.DoneEvent.{file_apart, returned_own, returner}
 use Rattle.process.proofs.Entries.{uncounted_as}
 use Rattle.process.proofs.Events.{none_beside}

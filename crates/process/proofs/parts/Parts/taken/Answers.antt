@@ -1,8 +1,5 @@
 -- A hart takes its requests.
-use Rattle.std.proofs.Common.{ap, ◌∙◌}
-use Rattle.block_model.specs.Events.Take.{done_take}
-use Rattle.block_model.specs.Stands.{here_at}
-use Rattle.process.specs.Barriers.{ended_by}
+use Rattle.process.proofs.Common.{ap, ◌∙◌, done_take, here_at, ended_by}
 use Rattle.process.proofs.Places.{still_there}
 use Rattle.process.proofs.TakeEvent.{taken_event}
 use Rattle.process.proofs.parts.Parts.taken.Goals as goal

@@ -1,7 +1,4 @@
-use Rattle.std.proofs.Common.{◌≡◌, ℕ, sym, ap, ◌∙◌, eqb, List, slice_get, option_map}
-use Rattle.mach_types.specs.Bytes.{after_writes}
-use Rattle.mach_types.specs.Kernel.Areas.{Words, words_entered, words_on, words_written}
-use Rattle.process.proofs.Common.{Write, byte_in, lost_unless}
+use Rattle.process.proofs.Common.{◌≡◌, ℕ, sym, ap, ◌∙◌, eqb, List, slice_get, option_map, after_writes, Words, words_entered, words_on, words_written, Write, byte_in, lost_unless}
 use Rattle.process.proofs.Interruptions.{lost_nothing, told_all, told_answer, told_none, told_pages, words_visible}
 use Rattle.process.proofs.parts.Parts.told.Goals as goal
 

@@ -1,8 +1,6 @@
 -- The frame of a handler, behind the writes of an interruption.
-use Rattle.std.proofs.Common.{◌≡◌, ap}
+use Rattle.process.proofs.Common.{◌≡◌, ap, here_at, Saved}
 use Rattle.mach_types.specs.declared.events.Kind.TheVariants as kind
-use Rattle.block_model.specs.Stands.{here_at}
-use Rattle.process.proofs.Common.{Saved}
 use Rattle.process.proofs.KernelWrites.{frame_behind}
 use Rattle.process.proofs.Places.{hart_is}
 use Rattle.process.proofs.SignalEvent.{interrupted_there, receiving, same_signal, some_signal}

@@ -1,9 +1,5 @@
 -- The words of an area, behind other writes.
-use Rattle.std.proofs.Common.{◌≡◌, ℕ, length, List, append-nil, sym, ap, ◌++◌, ◌∙◌, arith}
-use Rattle.std.specs.List.{list_any}
-use Rattle.mach_types.specs.Kernel.Areas.{lowest_cid, words_on, words_written}
-use Rattle.process.proofs.Common.{Write, harts_that, holds}
-use Rattle.block_model.specs.Sequences.{words_to}
+use Rattle.process.proofs.Common.{◌≡◌, ℕ, length, List, append-nil, sym, ap, ◌++◌, ◌∙◌, arith, list_any, lowest_cid, words_on, words_written, Write, harts_that, holds, words_to}
 use Rattle.process.proofs.Interruptions.{told_all, told_none}
 use Rattle.process.proofs.parts.Parts.with_words.Goals as goal
 

@@ -1,6 +1,5 @@
 -- One more byte is appended.
-use Rattle.std.proofs.Common.{ℕ, List, [], ◌∷◌, ◌++◌, length, sym, ap, ◌∙◌, arith, length-append, append_assoc}
-use Rattle.sys_calls.proofs.Common.{byte_in, bytes_from}
+use Rattle.sys_calls.proofs.Common.{ℕ, List, [], ◌∷◌, ◌++◌, length, sym, ap, ◌∙◌, arith, length-append, append_assoc, byte_in, bytes_from}
 use Rattle.sys_calls.proofs.Spans.{bytes_from-more, length-bytes_from}
 use Rattle.sys_calls.proofs.console.Console.append.Goals as goal
 

@@ -1,6 +1,5 @@
 -- So far the first bytes were appended.
-use Rattle.std.proofs.Common.{◌≡◌, ◌++◌}
-use Rattle.sys_calls.proofs.Common.{byte_in, bytes_from}
+use Rattle.sys_calls.proofs.Common.{◌≡◌, ◌++◌, byte_in, bytes_from}
 use Rattle.sys_calls.proofs.console.Console.append.Given as goal
 
 abbrev pub invariant-loop-k : goal.invariant-loop-k

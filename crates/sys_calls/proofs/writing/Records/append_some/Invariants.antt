@@ -1,6 +1,5 @@
 -- So far the first bytes were appended, and the rest follows as far as it fits.
-use Rattle.std.proofs.Common.{◌≡◌, ◌+◌, ◌-◌, ◌*◌, ◌≤◌, ◌++◌, length, take}
-use Rattle.sys_calls.proofs.Common.{CONSOLE_ROOM, Here, byte_in, bytes_of, memory, spans_at}
+use Rattle.sys_calls.proofs.Common.{◌≡◌, ◌+◌, ◌-◌, ◌*◌, ◌≤◌, ◌++◌, length, take, CONSOLE_ROOM, Here, byte_in, bytes_of, memory, spans_at}
 use Rattle.sys_calls.proofs.writing.Records.append_some.Given as goal
 
 abbrev pub invariant-loop-index : goal.invariant-loop-index

@@ -1,6 +1,5 @@
 -- The next record's bytes can be read, or not.
-use Rattle.std.proofs.Common.{◌≡◌, ℕ, ◌+◌, ◌-◌, ◌*◌, ◌<◌, Bool, true, false, ◌&&◌, Option, is_some, sym, ap, ◌∙◌, arith}
-use Rattle.sys_calls.proofs.Common.{Here, Map, all_readable, are_readable, byte_in, each_byte, memory, number_at, spans_at}
+use Rattle.sys_calls.proofs.Common.{◌≡◌, ℕ, ◌+◌, ◌-◌, ◌*◌, ◌<◌, Bool, true, false, ◌&&◌, Option, is_some, sym, ap, ◌∙◌, arith, Here, Map, all_readable, are_readable, byte_in, each_byte, memory, number_at, spans_at}
 use Rattle.sys_calls.proofs.Spans.{spans_all, spans_more, spans_none}
 use Rattle.sys_calls.proofs.writing.Records.are_readable.Goals as goal
 

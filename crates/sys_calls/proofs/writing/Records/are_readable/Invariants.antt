@@ -1,6 +1,5 @@
 -- So far all bytes can be read, and the rest decides.
-use Rattle.std.proofs.Common.{◌≡◌, ◌+◌, ◌-◌, ◌*◌}
-use Rattle.sys_calls.proofs.Common.{Here, all_readable, byte_in, memory, spans_at}
+use Rattle.sys_calls.proofs.Common.{◌≡◌, ◌+◌, ◌-◌, ◌*◌, Here, all_readable, byte_in, memory, spans_at}
 use Rattle.sys_calls.proofs.writing.Records.are_readable.Given as goal
 
 abbrev pub invariant-loop-index : goal.invariant-loop-index

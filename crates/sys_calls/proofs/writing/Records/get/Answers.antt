@@ -1,6 +1,5 @@
 -- The record as a rule reads it.
-use Rattle.std.proofs.Common.{◌≡◌, ℕ, ◌+◌, ◌*◌, Option, unwrap_or, ap, ◌∙◌}
-use Rattle.sys_calls.proofs.Common.{Here, byte_in, memory, number_at, word_at}
+use Rattle.sys_calls.proofs.Common.{◌≡◌, ℕ, ◌+◌, ◌*◌, Option, unwrap_or, ap, ◌∙◌, Here, byte_in, memory, number_at, word_at}
 use Rattle.sys_calls.proofs.writing.Records.get.Goals as goal
 
 there : (h : Here) (byte : ℕ → Option ℕ) (at size : ℕ) → byte ≡ memory h → unwrap_or (word_at byte at size) 0 ≡ number_at h at size

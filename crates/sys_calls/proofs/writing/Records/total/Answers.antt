@@ -1,6 +1,5 @@
 -- One more length is added, unless they are too many.
-use Rattle.std.proofs.Common.{◌≡◌, ℕ, ◌+◌, ◌-◌, ◌*◌, ◌<◌, ap, ◌∙◌, arith}
-use Rattle.sys_calls.proofs.Common.{Here, number_at, spans_at, total}
+use Rattle.sys_calls.proofs.Common.{◌≡◌, ℕ, ◌+◌, ◌-◌, ◌*◌, ◌<◌, ap, ◌∙◌, arith, Here, number_at, spans_at, total}
 use Rattle.sys_calls.proofs.Spans.{spans_all, spans_more, spans_none}
 use Rattle.sys_calls.proofs.writing.Records.total.Goals as goal
 

@@ -1,6 +1,5 @@
 -- So far the records name so many bytes, and the others the rest.
-use Rattle.std.proofs.Common.{◌≡◌, ◌+◌, ◌-◌, ◌*◌, ◌<◌, ◌^◌}
-use Rattle.sys_calls.proofs.Common.{Here, byte_in, memory, spans_at, total}
+use Rattle.sys_calls.proofs.Common.{◌≡◌, ◌+◌, ◌-◌, ◌*◌, ◌<◌, ◌^◌, Here, byte_in, memory, spans_at, total}
 use Rattle.sys_calls.proofs.writing.Records.total.Given as goal
 
 abbrev pub invariant-loop-index : goal.invariant-loop-index
