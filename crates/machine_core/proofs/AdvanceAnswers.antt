@@ -1,5 +1,6 @@
 -- What an attempt to go on by the choice of `run` comes to.
-use Rattle.machine_core.proofs.Common.{◌≡◌, ℕ, ◌<◌, ◌≤◌, List, length, refl, sym, ap, ◌∙◌, arith, Bool, true, false, leb, ◌||◌, Option, Some, None, is_some, Ok, Err, Result, option_map, le-ltb, Ended, Choice, Entry, History, Inside, IsMachine, Setting, Sight, here_in_history, here_of, past_of, ran, seen, setting_of, Why, Pick, draws, pick, generator_in, word, IsChosen, advance_at, all_chosen, choice_at, credit_at, has_ended, next_entry, pick_at, decide, entry_in, history, over_at, refusal_of, sight_in, length-history, same_here, is_picked, answered}
+use Rattle.machine_core.proofs.Common.{◌≡◌, ℕ, ◌<◌, ◌≤◌, List, length, refl, sym, ap, ◌∙◌, arith, true, false, leb, ◌||◌, Option, Some, None, is_some, Ok, Err, Result, option_map, le-ltb, Ended, Choice, Entry, History, Inside, IsMachine, Setting, Sight, here_in_history, here_of, past_of, ran, seen, setting_of, Why, Pick, draws, pick, generator_in, word, IsChosen, advance_at, all_chosen, choice_at, credit_at, has_ended, next_entry, pick_at, decide, entry_in, history, over_at, refusal_of, sight_in, length-history, same_here, is_picked, answered}
+use Rattle.std.proofs.lemmas.Bool.{or_right}
 use Rattle.std.proofs.Common.{le-leb}
 use Rattle.mach_types.specs.declared.events.Advance.TheVariants.{Made, NoneNow}
 use Rattle.chooser.specs.declared.cases.Case.{Case}
@@ -28,11 +29,7 @@ pub full_ended : (m : Inside) → m.limits.steps ≤ length m.log.items → has_
 unfolding has_ended
 full_ended m full =
     let long = length-history (setting_of m) m.log.items in
-    rw (le-leb m.limits.steps (length (past_of m)) (omega (arith, full, long))) (or_true (is_some (over_at (setting_of m) (past_of m))))
-  where
-    or_true : (b : Bool) → (b || true) ≡ true
-    or_true true = refl
-    or_true false = refl
+    rw (le-leb m.limits.steps (length (past_of m)) (omega (arith, full, long))) (or_right (is_some (over_at (setting_of m) (past_of m))) true refl)
 
 -- and a machine that no event ended has ended where its log is full
 pub ended_by_room : (m : Inside) (made : ℕ) → IsMachine m → false ≡ is_some m.parts.ended → made ≡ length m.log.items

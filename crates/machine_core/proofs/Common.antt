@@ -1,5 +1,5 @@
 -- The words that most proofs of this crate speak of, in one place for their imports.
-pub use Rattle.block_model.proofs.Laws.{Steps, is_lent, length-history, plain_made, same_here, same_state, standing, start_plain, start_run}
+pub use Rattle.block_model.proofs.Laws.{Steps, is_lent, length-history, same_here, same_state, standing, start_plain, start_run}
 pub use Rattle.block_model.specs.Choosing.{Luck, all_chosen, luck, pick_at, sight_with}
 pub use Rattle.block_model.specs.Deciding.{decide, entry_in, over_at}
 pub use Rattle.block_model.specs.Events.{done_of, refusal_of}
@@ -46,10 +46,11 @@ pub use Rattle.rv_inst.specs.Class.{sets_register}
 pub use Rattle.rv_inst.specs.Execution.{instruction_gate}
 pub use Rattle.rv_inst.specs.declared.effects.Effect.{Effect}
 pub use Rattle.std.proofs.Common.{Bool, Err, IsSome, List, None, Ok, Option, Result, Some, [], ap, append-nil, arith, cond, eq-eqb, eqb, false, get_or, inl, inr, is_none, is_some, le-ltb, leb, length, ltb, map, not, refl, rules, set, slice_get, subst, suc, sym, take, true, zero, ℕ, ◌&&◌, ◌++◌, ◌+◌, ◌-◌, ◌<◌, ◌||◌, ◌∙◌, ◌∷◌, ◌≡◌, ◌≢◌, ◌≤◌, ◌⊎◌}
-pub use Rattle.std.proofs.lemmas.Bool.{cases_eq, lt-ltb, ne_eqb}
+pub use Rattle.std.proofs.lemmas.Bool.{and_right, cases_eq, lt-ltb, ne_eqb}
 pub use Rattle.std.proofs.lemmas.Option.{same_Some, slice_get-get_or}
 pub use Rattle.std.proofs.lemmas.Result.{IfOk-at_ok}
 pub use Rattle.std.specs.Option.{option_and_then, option_map, option_map_or, option_or}
+pub use Rattle.std.specs.Prelude.{vec_capacity}
 pub use Rattle.std.specs.Vec.{with_item}
 unfoldable pub use Rattle.block_model.specs.Choosing.{IsChosen, advance_at, choice_at, credit_at, has_ended, next_entry}
 unfoldable pub use Rattle.block_model.specs.Deciding.{history}

@@ -1,5 +1,5 @@
 -- A hart goes freely where a thread runs that waits in no barrier, and its next instruction sets a register and does nothing else.
-use Rattle.machine_core.proofs.Common.{◌≡◌, ℕ, ◌&&◌, length, sym, ap, ◌∙◌, refl, not, Bool, true, false, is_none, is_some, Option, Some, None, option_map, option_map_or, option_or, HartState, Here, runs, sets_register, thread, instruction_gate, Effect, is_held, effect_at, fault_at, others_gate, refusal_exec_by, unless_in_barrier, is_storable, reached, waiting_here, fault_by, fetched, next_effect, is_local_on, file_of, file_on, hart_in}
+use Rattle.machine_core.proofs.Common.{and_right, ◌≡◌, ℕ, ◌&&◌, length, sym, ap, ◌∙◌, refl, not, Bool, true, false, is_none, is_some, Option, Some, None, option_map, option_map_or, option_or, HartState, Here, runs, sets_register, thread, instruction_gate, Effect, is_held, effect_at, fault_at, others_gate, refusal_exec_by, unless_in_barrier, is_storable, reached, waiting_here, fault_by, fetched, next_effect, is_local_on, file_of, file_on, hart_in}
 use Rattle.process.proofs.Laws.{gate_of_free, no_fault_of_free, others_of_free}
 use Rattle.machine_core.specs.Free.{goes_freely}
 use Rattle.machine_core.proofs.Sights.{next_local}
@@ -9,10 +9,6 @@ gate_is_open : (waiting : ℕ) (byte : ℕ → Option ℕ) (writable : ℕ → B
     → option_map_or sets_register o false ≡ true → instruction_gate waiting o (is_some (fault_by byte writable pc word o)) ≡ None
 gate_is_open waiting byte writable pc word o sets =
     ap (λ f. instruction_gate waiting o (is_some f)) (sym (no_fault_of_free byte writable pc word o sets)) ∙ gate_of_free waiting o sets
-
-and_false : (b : Bool) → (b && false) ≡ false
-and_false true = refl
-and_false false = refl
 
 -- of a thread
 module _ (here : Here) (t : ℕ) where
@@ -33,13 +29,13 @@ module _ (here : Here) (t : ℕ) where
       let none : option_or (instruction_gate (length (waiting_here here)) (effect_at here t) (is_some (fault_at here t))) (others_gate (is_held here t) (effect_at here t)) ≡ None =
       ap (λ g. option_or g (others_gate (is_held here t) (effect_at here t))) gate ∙ sym (others_of_free (is_held here t) (effect_at here t) sets) in
       rw none refl
-  by_barrier waits false sets = sym (and_false _)
+  by_barrier waits false sets = sym (and_right _ false refl)
 
 freely_by : (here : Here) (o : Option ℕ)
     → (option_map_or sets_register (next_effect here.setting.program.pages (file_on here o)) false && is_some (option_map thread o) && not (is_some here.awaits))
     ≡ (is_none (refusal_exec_by here o) && is_local_on here o)
 freely_by here None =
-    ap (λ b. b && not (is_some here.awaits)) (and_false (option_map_or sets_register (next_effect here.setting.program.pages (file_on here None)) false))
+    ap (λ b. b && not (is_some here.awaits)) (and_right (option_map_or sets_register (next_effect here.setting.program.pages (file_on here None)) false) false refl)
 freely_by here (Some t) =
     by_barrier here t here.awaits (is_local here t) refl
     ∙ ap (λ b. is_none (refusal_exec_by here (Some t)) && b) (local_is here t)

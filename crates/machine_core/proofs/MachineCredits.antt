@@ -1,9 +1,9 @@
 -- A machine after an event, with the credits and the generators that follow it.
-use Rattle.machine_core.proofs.Common.{◌≡◌, ℕ, ◌<◌, List, [], ◌∷◌, ◌++◌, length, refl, sym, ap, ◌∙◌, arith, Bool, true, false, cond, Option, Some, None, is_some, slice_get, set, option_map, option_map_or, InRange, Choice, Entry, Hart, HartState, History, Inside, Parts, Setting, Sight, credit_of, draws, hart_at, seen_if, Generator, generator_in, next_generator, all_chosen, credit_at, has_ended, history, over_at, Plain, plain_after, length-history, followed, generators_after, is_followed, IsTied, IsMachine, generator_at, past_of, seen, setting_of}
+use Rattle.machine_core.proofs.Common.{vec_capacity, ◌≡◌, ℕ, ◌<◌, List, [], ◌∷◌, ◌++◌, length, refl, sym, ap, ◌∙◌, arith, Bool, true, false, cond, Option, Some, None, is_some, slice_get, set, option_map, option_map_or, InRange, Choice, Entry, Hart, HartState, History, Inside, Parts, Setting, Sight, credit_of, draws, hart_at, seen_if, Generator, generator_in, next_generator, all_chosen, credit_at, has_ended, history, over_at, Plain, plain_after, length-history, followed, generators_after, is_followed, IsTied, IsMachine, generator_at, past_of, seen, setting_of, IsBlockRun, ◌≤◌}
 use Rattle.std.proofs.lemmas.Bool.{lt-leb}
 use Rattle.std.proofs.lemmas.List.{length-set}
 use Rattle.machine_core.proofs.ChoiceCredits.{IsFollowing, chosen_after, credit_after, generator_after}
-use Rattle.process.proofs.Laws.{same_length}
+use Rattle.process.proofs.Laws.{same_length, mapped_is}
 use Rattle.machine_core.proofs.Readings.{over_read}
 use Rattle.machine_core.proofs.Steps.{IsStep}
 
@@ -23,26 +23,17 @@ credit_alone : (sight : Option Sight) (generators : List Generator) (s : Setting
 credit_alone None generators s p h c k credit = refl
 credit_alone (Some seen) generators s p h c k credit = refl
 
--- nothing is done to what is there
+-- nothing is done to what is there, as where nothing was seen of its hart
 pub mapped_itself : (o : Option HartState) → o ≡ option_map (λ x. x) o
 mapped_itself None = refl
 mapped_itself (Some x) = refl
-
--- where nothing was seen nothing is done to a hart
-pub unfollowed : (generators : List Generator) (h : ℕ) (c : Choice) (k : ℕ) (o : Option HartState) → o ≡ option_map (followed None generators h c k) o
-unfollowed generators h c k None = refl
-unfollowed generators h c k (Some x) = refl
-
-some_mapped : (f : HartState → HartState) (o : Option HartState) → is_some (option_map f o) ≡ is_some o
-some_mapped f None = refl
-some_mapped f (Some x) = refl
 
 -- parts that are tied stay so, whatever the credits are
 pub tied_with : (s : Setting) (p : Plain) (m m' : Parts) (sight : Option Sight) (generators : List Generator) (h : ℕ) (c : Choice) → IsTied s p m
     → ((k : ℕ) → slice_get m'.harts.items k ≡ option_map (followed sight generators h c k) (slice_get m.harts.items k))
     → m'.pages ≡ m.pages → m'.kernel ≡ m.kernel → m'.ended ≡ m.ended → IsTied s p m'
 tied_with s p m m' sight generators h c tied harts pages kernel ended = record {
-  all_harts = same_length m.harts.items m'.harts.items (λ k. ap is_some (harts k) ∙ some_mapped (followed sight generators h c k) (slice_get m.harts.items k)) ∙ tied.all_harts;
+  all_harts = same_length m.harts.items m'.harts.items (λ k. ap is_some (harts k) ∙ mapped_is (followed sight generators h c k) (slice_get m.harts.items k)) ∙ tied.all_harts;
   harts = λ k lt.
       let x : HartState = hart_at s p k (credit_of m.harts.items k) in
       let at : slice_get m'.harts.items k ≡ Some (followed sight generators h c k x) = harts k ∙ ap (option_map (followed sight generators h c k)) (tied.harts k lt) in
@@ -128,3 +119,17 @@ pub settled : (m : Inside) (h : Hart) (c : Choice) (e : Entry) (p p' : Parts) (s
 settled m h c e p p' sight machine goes room lt step credits sees harts pages kernel ended =
     settled_next (setting_of m) m.seed m.log.items m.parts m.chooser m.chosen h c e p p' sight (machine_settled m machine) machine.limits
     (machine_goes m machine goes room) lt step credits sees harts pages kernel ended
+
+-- so it is a machine again, with a log that has room
+pub machine_so : (m : Inside) (log : List Entry) → m.log.items ≡ log → IsBlockRun (setting_of m) log → IsSettled (setting_of m) m.seed log m.parts m.chooser m.chosen
+    → InRange m.limits → m.limits.steps ≤ vec_capacity m.log → IsMachine m
+machine_so m log is run set limits room = record {
+  run = rw is run;
+  tied = rw is set.tied;
+  chosen = rw is set.chosen;
+  credits = rw is set.credits;
+  generators = rw is set.generators;
+  held = set.held;
+  limits = limits;
+  room = room;
+}

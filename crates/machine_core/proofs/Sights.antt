@@ -1,5 +1,5 @@
 -- What a scheduler sees of a hart, told by the hart's state.
-use Rattle.machine_core.proofs.Common.{◌≡◌, ℕ, ◌&&◌, List, sym, ap, ◌∙◌, refl, not, Bool, true, false, is_none, is_some, Option, Some, None, option_and_then, option_map, option_map_or, HartState, Here, ImagePage, Saved, Sight, runs, sets_register, Tid, is_storable, reached, fault_by, fetched, next_effect, effect_here, effect_on, fault_here, fault_on, is_deliverable_on, is_local_on, thread, file_of, file_on, hart_in}
+use Rattle.machine_core.proofs.Common.{◌≡◌, ℕ, ◌&&◌, List, sym, ap, ◌∙◌, refl, not, Bool, true, false, is_none, is_some, Option, Some, None, option_and_then, option_map, option_map_or, HartState, Here, ImagePage, Saved, runs, sets_register, Tid, is_storable, reached, fault_by, fetched, next_effect, effect_here, effect_on, fault_here, fault_on, is_deliverable_on, is_local_on, thread, file_of, file_on, hart_in}
 use Rattle.mach_types.specs.Kernel.Signals.{next_for}
 use Rattle.rv_inst.proofs.Laws.{local-rows}
 use Rattle.rv_inst.specs.Local.{is_register_only}
@@ -73,12 +73,10 @@ local_read here x n k credit is = ap (λ (y : HartState). is_some y.running && o
 
 -- a test that is made on a hart with a thread alone
 pub tested : (busy idle answer test : Bool) → idle ≡ not busy → idle ≡ false → answer ≡ test → answer ≡ (busy && test)
-tested true idle answer test is off same = same
-tested false idle answer test is off same = cc
+tested busy idle answer test is off same = grind arith
 
 pub untested : (busy idle answer test : Bool) → idle ≡ not busy → idle ≡ true → answer ≡ not idle → answer ≡ (busy && test)
-untested true idle answer test is on same = cc
-untested false idle answer test is on same = cc
+untested busy idle answer test is on same = grind arith
 
 -- a hart that isn't idle has a thread
 pub is_busy : (o : Option Tid) (idle : Bool) → idle ≡ not (is_some o) → idle ≡ false → is_some o ≡ true
@@ -95,40 +93,6 @@ none_is (Some x) false e = refl
 pub numbered : (o : Option Tid) → o ≡ option_map thread (option_map (λ (t : Tid). t.0) o)
 numbered None = refl
 numbered (Some t) = refl
-
--- a sight, field by field
-abbrev pub sight_by : Bool → Option Tid → Bool → Bool → Bool → ℕ → Bool → Bool → Bool → ℕ → ℕ → Sight
-sight_by idle first waits taken requested stores deliverable enabled is_local ran credit = record {
-  idle = idle;
-  first_ready = first;
-  in_barrier = waits;
-  all_taken = taken;
-  requested = requested;
-  stores = stores;
-  deliverable = deliverable;
-  exec_enabled = enabled;
-  local = is_local;
-  ran = ran;
-  credit = credit;
-}
-
-pub record AreSame (a b : Sight) : Type 0 where
-  pub idle : a.idle ≡ b.idle
-  pub first_ready : a.first_ready ≡ b.first_ready
-  pub in_barrier : a.in_barrier ≡ b.in_barrier
-  pub all_taken : a.all_taken ≡ b.all_taken
-  pub requested : a.requested ≡ b.requested
-  pub stores : a.stores ≡ b.stores
-  pub deliverable : a.deliverable ≡ b.deliverable
-  pub exec_enabled : a.exec_enabled ≡ b.exec_enabled
-  pub local : a.local ≡ b.local
-  pub ran : a.ran ≡ b.ran
-  pub credit : a.credit ≡ b.credit
-
-pub same_sight : (i i' : Bool) (f f' : Option Tid) (w w' t t' q q' : Bool) (s s' : ℕ) (d d' e e' l l' : Bool) (r r' c c' : ℕ)
-    → AreSame (sight_by i f w t q s d e l r c) (sight_by i' f' w' t' q' s' d' e' l' r' c') → sight_by i f w t q s d e l r c ≡ sight_by i' f' w' t' q' s' d' e' l' r' c'
-same_sight i i' f f' w w' t t' q q' s s' d d' e e' l l' r r' c c' same =
-    rw (same.idle, same.first_ready, same.in_barrier, same.all_taken, same.requested, same.stores, same.deliverable, same.exec_enabled, same.local, same.ran, same.credit) refl
 
 -- whether a signal can be delivered to the thread on a hart
 some_next : (here : Here) (o : Option ℕ) → is_some (option_and_then (λ t. next_for t here.kernel.signals) o) ≡ is_deliverable_on here o

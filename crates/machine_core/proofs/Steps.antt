@@ -1,5 +1,6 @@
 -- One step: what is decided at a place, and a machine that made the event.
-use Rattle.machine_core.proofs.Common.{◌≡◌, ℕ, ◌<◌, [], ◌∷◌, ◌++◌, length, sym, ap, ◌∙◌, subst, arith, Option, Some, None, Ok, Err, Result, IfOk-at_ok, choice_of, Choice, Entry, Hart, Inside, IsBlockRun, IsMachine, Parts, Seen, seen, Why, decide, entry_in, history, done_of, refusal_of, here_of, plain_after, plain_seen, stand_of, plain_made, standing, IsAfter, IsTied, answer_to, answered}
+use Rattle.machine_core.proofs.Common.{InRange, ◌≡◌, ℕ, ◌<◌, [], ◌∷◌, ◌++◌, length, sym, ap, ◌∙◌, subst, arith, Option, Some, None, Ok, Err, Result, IfOk-at_ok, choice_of, Choice, Entry, Hart, Inside, IsBlockRun, IsMachine, Parts, Seen, seen, Why, decide, entry_in, history, done_of, refusal_of, here_of, plain_after, plain_seen, stand_of, standing, IsAfter, IsTied, answer_to, answered}
+use Rattle.block_model.proofs.Laws.{plain_made}
 use Rattle.std.proofs.Common.{IfOk}
 use Rattle.block_model.specs.declared.refusals.Refused.TheVariants.{NotEnabled}
 use Rattle.block_model.specs.Deciding.{unless}
@@ -66,16 +67,21 @@ pub stepped_so : (v : Seen) (m m' : Parts) (h : Hart) (c : Choice) (r : Result E
     → IfOk r (λ _. IsAfter (stand_of v) h.0 (done_of c (here_of v h.0)) m m') → IsStep v h c e m'
 stepped_so v m m' h c r e place answer is after = stepped v m m' h c r e place answer is (IfOk-at_ok (λ _. IsAfter (stand_of v) h.0 (done_of c (here_of v h.0)) m m') is after)
 
--- the place of a machine whose run goes on
-pub place_of : (m : Inside) (h : ℕ) → IsMachine m → m.parts.ended ≡ None → length m.log.items < m.limits.steps → h < m.limits.harts → IsLogPlace (seen m) m.parts h
-place_of m h machine goes room lt = record {
-  run = machine.run;
+-- the place that a log has come to, whose run goes on
+pub log_place : (v : Seen) (m : Parts) (h : ℕ) → IsBlockRun v.setting v.log → IsTied v.setting (plain_seen v) m → InRange v.setting.limits → m.ended ≡ None
+    → length v.log < v.setting.limits.steps → h < v.setting.limits.harts → IsLogPlace v m h
+log_place v m h run tied limits goes room lt = record {
+  run = run;
   at = record {
-    stands = standing (seen m) machine.run;
-    tied = machine.tied;
-    limits = machine.limits;
-    goes = sym machine.tied.ended ∙ goes;
-    room = let made = plain_made (seen m) machine.run in omega (arith, made, room);
+    stands = standing v run;
+    tied = tied;
+    limits = limits;
+    goes = sym tied.ended ∙ goes;
+    room = let made = plain_made v run in omega (arith, made, room);
     lt = lt;
   };
 }
+
+-- that of a machine
+pub place_of : (m : Inside) (h : ℕ) → IsMachine m → m.parts.ended ≡ None → length m.log.items < m.limits.steps → h < m.limits.harts → IsLogPlace (seen m) m.parts h
+place_of m h machine goes room lt = log_place (seen m) m.parts h machine.run machine.tied machine.limits goes room lt

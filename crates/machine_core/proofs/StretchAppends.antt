@@ -1,15 +1,15 @@
 -- A machine that takes a stretch in: the hart is as it was when the stretch was lent.
-use Rattle.machine_core.proofs.Common.{List, [], ◌∷◌, ◌-◌, take, zero, suc, eqb, eq-eqb, ◌+◌, map, Bool, leb, ◌||◌, is_some, not, ◌&&◌, ◌≡◌, ℕ, ◌<◌, ◌≤◌, ◌++◌, length, refl, sym, ap, ◌∙◌, subst, true, false, get_or, Option, None, Some, arith, option_map, IsSome, with_item, same_Some, slice_get-get_or, Hart, HartState, ImagePage, Inside, IsBlockRun, IsMachine, Parts, Saved, Setting, past_of, plain_seen, seen, setting_of, thread, Tid, IsChosen, Luck, all_chosen, has_ended, history, over_at, History, events, stand_of, Stretch, advanced, stepped, Steps, is_lent, length-history, credit_of, file_of, file_on, hart_at, executed}
+use Rattle.machine_core.proofs.Common.{List, [], ◌∷◌, ◌-◌, take, zero, suc, eqb, eq-eqb, ◌+◌, map, Bool, leb, is_some, not, ◌&&◌, ◌≡◌, ℕ, ◌<◌, ◌≤◌, ◌++◌, length, refl, sym, ap, ◌∙◌, subst, true, false, get_or, None, Some, arith, option_map, IsSome, with_item, same_Some, slice_get-get_or, Hart, HartState, ImagePage, Inside, IsBlockRun, IsMachine, Parts, Saved, Setting, past_of, plain_seen, seen, setting_of, thread, Tid, IsChosen, Luck, all_chosen, has_ended, history, over_at, History, events, stand_of, Stretch, advanced, stepped, Steps, is_lent, length-history, credit_of, file_of, file_on, hart_at, executed}
+use Rattle.std.proofs.lemmas.Bool.{or_parts}
 use Rattle.std.proofs.Common.{min, ◌^◌, leb-false}
 use Rattle.std.proofs.lemmas.Option.{get_or_from_slice_get}
 use Rattle.std.proofs.lemmas.List.{length-take-le}
-use Rattle.mach_types.specs.declared.limits.End.{End}
 use Rattle.block_model.specs.History.{awaits}
 use Rattle.block_model.specs.Stretches.{IsStretchOf, appended}
 use Rattle.block_model.proofs.Laws.{HasStayed, events_few, ran_few, stays, steps_of, worked_keeps}
 use Rattle.process.specs.Refinement.{HasCode, IsAlone}
 use Rattle.machine_core.specs.Stretches.{taken_in}
-use Rattle.machine_core.proofs.AdvanceAnswers.{all_of}
+use Rattle.machine_core.proofs.AdvanceAnswers.{all_of, none_of}
 use Rattle.machine_core.proofs.StretchSteps.{AreAllOn, IsOnWay, all_on, own_is, settled_alike}
 use Rattle.machine_core.proofs.ChoiceCredits.{credit_read}
 use Rattle.machine_core.proofs.Readings.{hart_read, here_read, over_read}
@@ -32,22 +32,13 @@ pub record IsReady (m : Inside) (h : Hart) (l : Stretch) (x : HartState) : Type 
 -- a run that hasn't ended was ended by no event
 pub goes_on : (m : Inside) → IsMachine m → has_ended (setting_of m) (past_of m) ≡ false → m.parts.ended ≡ None
 unfolding has_ended
-goes_on m machine goes = over_read m machine ∙ none_first (over_at (setting_of m) (past_of m)) (leb m.limits.steps (length (past_of m))) goes
-  where
-    none_first : (o : Option End) (b : Bool) → (is_some o || b) ≡ false → o ≡ None
-    none_first None b is = refl
-    none_first (Some e) b is = cc
+goes_on m machine goes =
+    let both = or_parts (is_some (over_at (setting_of m) (past_of m))) (leb m.limits.steps (length (past_of m))) goes in
+    over_read m machine ∙ none_of (over_at (setting_of m) (past_of m)) (sym both.0)
 
 -- a hart on credit waits in no barrier
 out_of_barrier : (idle in_barrier credit : Bool) → not idle && not in_barrier && credit ≡ true → in_barrier ≡ false
-out_of_barrier true true credit is = cc
-out_of_barrier true false credit is = refl
-out_of_barrier false true credit is = cc
-out_of_barrier false false credit is = refl
-
-none_some : (o : Option ℕ) → is_some o ≡ false → o ≡ None
-none_some None is = refl
-none_some (Some x) is = cc
+out_of_barrier idle in_barrier credit is = grind arith
 
 pub ready : (m : Inside) (h : Hart) (l : Stretch) (x : HartState) → IsMachine m → IsChosen (setting_of m) m.seed m.log.items
     → IsStretchOf (setting_of m) m.seed h.0 m.log.items l → has_ended (setting_of m) (past_of m) ≡ false → events h.0 (past_of m) ≡ l.events
@@ -79,7 +70,7 @@ ready m h l x machine chosen fits goes same value =
         lt = began.lt;
         there = slice_get-get_or m.parts.harts.items h.0 x in_list ∙ ap Some (sym value);
         busy = ap (λ (y : HartState). y.running) is ∙ ap (option_map thread) stayed.runs;
-        no_barrier = ap (λ (y : HartState). y.waits) is ∙ none_some (awaits h.0 (past_of m)) (stayed.same_waits ∙ out_of_barrier _ _ _ began.on_credit);
+        no_barrier = ap (λ (y : HartState). y.waits) is ∙ none_of (awaits h.0 (past_of m)) (sym (stayed.same_waits ∙ out_of_barrier _ _ _ began.on_credit));
       };
       first = fits.first;
       file = ap (λ (a : Stretch). a.file) began.is ∙ (sym stayed.same_file
@@ -136,12 +127,8 @@ pub has_room : (m : Inside) → has_ended (setting_of m) (past_of m) ≡ false �
 unfolding has_ended
 has_room m goes =
     let long = length-history (setting_of m) m.log.items in
-    let within = room_left (is_some (over_at (setting_of m) (past_of m))) (leb m.limits.steps (length (past_of m))) goes in
-    omega (arith, long, leb-false m.limits.steps (length (past_of m)) within)
-  where
-    room_left : (a b : Bool) → (a || b) ≡ false → b ≡ false
-    room_left false b is = is
-    room_left true b is = cc
+    let within = or_parts (is_some (over_at (setting_of m) (past_of m))) (leb m.limits.steps (length (past_of m))) goes in
+    omega (arith, long, leb-false m.limits.steps (length (past_of m)) within.1)
 
 -- the first instructions of a stretch are steps too
 first_steps : (pages : List ImagePage) (n : ℕ) (pcs : List ℕ) (a l : Stretch) → Steps pages a pcs l → (b : Stretch) × Steps pages a (take n pcs) b

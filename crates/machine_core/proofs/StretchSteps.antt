@@ -1,9 +1,9 @@
 -- Instructions that touch registers alone, one after another, as `run` chooses them on credit: what becomes of the parts of a
 -- machine and of its log.
-use Rattle.machine_core.proofs.Common.{◌≡◌, ◌≢◌, ℕ, ◌+◌, ◌-◌, ◌<◌, ◌≤◌, ◌&&◌, List, [], ◌∷◌, ◌++◌, length, map, refl, sym, ap, ◌∙◌, subst, arith, Bool, true, false, cond, eqb, ltb, leb, get_or, set, slice_get, Option, None, Some, Ok, is_none, is_some, append-nil, suc, eq-eqb, ◌⊎◌, inl, inr, option_and_then, option_map, option_map_or, option_or, with_item, cases_eq, ne_eqb, same_Some, slice_get-get_or, InRange, Choice, Entry, Hart, HartState, History, ImagePage, IsBlockRun, Parts, Saved, Seen, Setting, Sight, executed, here_in_history, ran, sets_register, Tid, instruction_gate, Effect, draws, pick, Generator, generator_in, word, Pick, after_pick-settled, byte_in, all_chosen, choice_at, credit_at, has_ended, next_entry, pick_at, entry_in, history, over_at, done_of, refusal_of, is_held, effect_at, fault_at, others_gate, refusal_exec_by, unless_in_barrier, Here, is_storable, is_writable, memory, reached, runs, waiting_here, fault_by, fetched, next_effect, here_of, plain_after, plain_over, plain_seen, is_local_on, sight_in, stand_of, Stretch, advanced, goes_on, longest, stepped, Steps, length-history, plain_made, same_here, same_state, standing, credit_of, file_of, file_on, hart_at, IsAfter, answer_to, answered, followed, generators_after, is_followed, is_picked, IsPlanned}
+use Rattle.machine_core.proofs.Common.{◌≡◌, ◌≢◌, ℕ, ◌+◌, ◌-◌, ◌<◌, ◌≤◌, ◌&&◌, List, [], ◌∷◌, ◌++◌, length, map, refl, sym, ap, ◌∙◌, subst, arith, Bool, true, false, cond, eqb, ltb, leb, get_or, set, slice_get, Option, None, Some, Ok, is_none, is_some, append-nil, suc, eq-eqb, ◌⊎◌, inl, inr, option_and_then, option_map, option_map_or, option_or, with_item, cases_eq, ne_eqb, same_Some, slice_get-get_or, InRange, Choice, Entry, Hart, HartState, History, ImagePage, IsBlockRun, Parts, Saved, Seen, Setting, Sight, executed, here_in_history, ran, sets_register, Tid, instruction_gate, Effect, draws, pick, Generator, generator_in, word, Pick, after_pick-settled, byte_in, all_chosen, choice_at, credit_at, has_ended, next_entry, pick_at, entry_in, history, over_at, done_of, refusal_of, is_held, effect_at, fault_at, others_gate, refusal_exec_by, unless_in_barrier, Here, is_storable, is_writable, memory, reached, runs, waiting_here, fault_by, fetched, next_effect, here_of, plain_after, plain_over, plain_seen, is_local_on, sight_in, stand_of, Stretch, advanced, goes_on, longest, stepped, Steps, length-history, same_here, same_state, credit_of, file_of, file_on, hart_at, IsAfter, answer_to, answered, followed, generators_after, is_followed, is_picked, IsPlanned, and_right}
 use Rattle.std.proofs.Common.{append_assoc}
 use Rattle.std.proofs.lemmas.List.{length-append}
-use Rattle.std.proofs.lemmas.Bool.{and_parts}
+use Rattle.std.proofs.lemmas.Bool.{and_parts, and_from}
 use Rattle.mach_types.specs.Registers.{with_register}
 use Rattle.mach_types.specs.Bytes.{all_stored, written}
 use Rattle.mach_types.specs.declared.events.Choice.TheVariants as asked
@@ -24,7 +24,7 @@ use Rattle.machine_core.proofs.ChoiceCredits.{choice_where, pick_read}
 use Rattle.process.proofs.Laws.{changed_as, entry_exec, get_set_other, get_set_same, in_list, none_beside, performing, plain_next, plain_own, runs_there, saved_plain, thread_is}
 use Rattle.machine_core.proofs.MachineCredits.{IsSettled, mapped_itself, not_ended, settled_next, tied_with}
 use Rattle.machine_core.proofs.Sights.{next_local}
-use Rattle.machine_core.proofs.Steps.{IsLogPlace, stepped as stepped_by}
+use Rattle.machine_core.proofs.Steps.{IsLogPlace, stepped as stepped_by, log_place}
 
 -- an instruction that sets a register and the pc, and does nothing else
 pub record IsLocal (pages : List ImagePage) (f : Saved) : Type 0 where
@@ -36,16 +36,7 @@ pub record IsLocal (pages : List ImagePage) (f : Saved) : Type 0 where
 local_of : (pages : List ImagePage) (f : Saved) (o : Option Effect) → next_effect pages f ≡ o → option_map_or sets_register o false ≡ true → IsLocal pages f
 local_of pages f None at sets = cc
 local_of pages f (Some (effect.Next rd value to)) at sets = record { rd = rd; value = value; to = to; effect = at }
-local_of pages f (Some (effect.Load a size is_signed rd)) at sets = cc
-local_of pages f (Some (effect.Store a size value)) at sets = cc
-local_of pages f (Some (effect.Amo op a size value rd)) at sets = cc
-local_of pages f (Some (effect.Lr a size rd)) at sets = cc
-local_of pages f (Some (effect.Sc a size value rd)) at sets = cc
-local_of pages f (Some (effect.Fence full)) at sets = cc
-local_of pages f (Some effect.FenceI) at sets = cc
-local_of pages f (Some effect.Call) at sets = cc
-local_of pages f (Some effect.Break) at sets = cc
-local_of pages f (Some effect.Misaligned) at sets = cc
+local_of pages f (Some e) at sets = cc
 
 -- what is known where a stretch goes on
 pub record GoesOn (pages : List ImagePage) (a : Stretch) : Type 0 where
@@ -78,17 +69,8 @@ at_log s seed log = record { setting = s; seed = seed; log = log }
 
 place_on : (s : Setting) (seed : ℕ) (log : List Entry) (m : Parts) (words : List Generator) (h : Hart) (t : Tid) (x : HartState) → IsOnWay s seed log m words h t x → length log < s.limits.steps
     → IsLogPlace (at_log s seed log) m h.0
-place_on s seed log m words h t x way room = record {
-  run = way.run;
-  at = record {
-    stands = standing (at_log s seed log) way.run;
-    tied = way.settled.tied;
-    limits = way.limits;
-    goes = sym way.settled.tied.ended ∙ way.goes;
-    room = let made = plain_made (at_log s seed log) way.run in omega (arith, made, room);
-    lt = way.lt;
-  };
-}
+place_on s seed log m words h t x way room =
+    log_place (at_log s seed log) m h.0 way.run way.settled.tied way.limits way.goes room way.lt
 
 -- the hart's state is the plain machine's
 pub own_is : (s : Setting) (seed : ℕ) (log : List Entry) (m : Parts) (words : List Generator) (h : Hart) (t : Tid) (x : HartState) → IsOnWay s seed log m words h t x
@@ -129,10 +111,7 @@ free_by_effect here t rd value to at none is =
     (ap (others_gate (is_held here t)) is)
   where
     passes : (some full : Bool) → cond (some && false) (Some Waiting) (cond (full && false) (Some FullBuffer) None) ≡ None
-    passes true true = refl
-    passes true false = refl
-    passes false true = refl
-    passes false false = refl
+    passes some full = rw (and_right some false refl, and_right full false refl) refl
 
 -- the hart's state after such an instruction, but for its credit
 abbrev moved : HartState → ℕ → ℕ → ℕ → HartState
@@ -208,10 +187,6 @@ pick_on_credit seen w busy free credit = rw (busy, free, credit) refl
 no_draw_on_credit : (seen : Sight) → seen.idle ≡ false → seen.in_barrier ≡ false → has_credit seen ≡ true → draws seen ≡ false
 no_draw_on_credit seen busy free credit = rw (busy, free, credit) refl
 
--- small steps of the proof that follows
-both : (b c : Bool) → b ≡ true → c ≡ true → (b && c) ≡ true
-both b c first second = rw (first, second) refl
-
 next_by : (s : Setting) (seed h : ℕ) (before : History) (o : Option Choice) → choice_at s seed h before ≡ o
     → next_entry s seed h before ≡ option_map (λ c. entry_in c (here_in_history s before h)) o
 unfolding next_entry
@@ -279,7 +254,7 @@ one_on s seed log m words h t x a way room file credit goes =
     let is_local : seen.«local» ≡ true =
     ap (is_local_on there) at ∙ (sym (next_local (memory there) (is_writable there) s.program.pages (there.file t.0)) ∙ (ap (λ f. option_map_or sets_register (next_effect s.program.pages f) false) (sym its_file) ∙ go.sets)) in
     let out : seen.in_barrier ≡ false = ap (λ (k : Here). is_some k.awaits) (sym (same_here v h.0 way.run)) ∙ ap is_some (waits_is s seed log m words h t x way) in
-    let on_it : has_credit seen ≡ true = both (ltb 0 (credit_at s seed h.0 past)) seen.«local» (ap (ltb 0) shown ∙ go.credit) is_local in
+    let on_it : has_credit seen ≡ true = and_from (ltb 0 (credit_at s seed h.0 past)) seen.«local» (ap (ltb 0) shown ∙ go.credit) is_local in
     let picks : pick seen (word (generator_in words h.0)) ≡ Some (on_credit seen) = pick_on_credit seen (word (generator_in words h.0)) busy out on_it in
     let no_draw = no_draw_on_credit seen busy out on_it in
     let all : true ≡ all_chosen s seed past = way.settled.chosen in
@@ -343,18 +318,16 @@ state_after_more a l credit n x =
     one_first a n = omega arith
 
 get_set_twice : (xs : List HartState) (h k : ℕ) (x y1 y : HartState) → slice_get xs h ≡ Some x → slice_get (set (set xs h y1) h y) k ≡ slice_get (set xs h y) k
-get_set_twice xs h k x y1 y there = go (cases_eq k h)
-  where
-    go : (k ≡ h) ⊎ (k ≢ h) → slice_get (set (set xs h y1) h y) k ≡ slice_get (set xs h y) k
-    go (inl same) = rw (same, get_set_same (set xs h y1) h y1 y (get_set_same xs h x y1 there), get_set_same xs h x y there) refl
-    go (inr ne) = rw (get_set_other (set xs h y1) h k y ne, get_set_other xs h k y1 ne, get_set_other xs h k y ne) refl
+get_set_twice xs h k x y1 y there = elim (cases_eq k h) [
+  | inl same ↦ rw (same, get_set_same (set xs h y1) h y1 y (get_set_same xs h x y1 there), get_set_same xs h x y there) refl
+  | inr ne ↦ rw (get_set_other (set xs h y1) h k y ne, get_set_other xs h k y1 ne, get_set_other xs h k y ne) refl
+]
 
 get_set_itself : (xs : List HartState) (h k : ℕ) (x : HartState) → slice_get xs h ≡ Some x → slice_get xs k ≡ slice_get (set xs h x) k
-get_set_itself xs h k x there = go (cases_eq k h)
-  where
-    go : (k ≡ h) ⊎ (k ≢ h) → slice_get xs k ≡ slice_get (set xs h x) k
-    go (inl same) = rw (same, get_set_same xs h x x there) there
-    go (inr ne) = sym (get_set_other xs h k x ne)
+get_set_itself xs h k x there = elim (cases_eq k h) [
+  | inl same ↦ rw (same, get_set_same xs h x x there) there
+  | inr ne ↦ sym (get_set_other xs h k x ne)
+]
 
 pub all_on : (s : Setting) (seed : ℕ) (pcs : List ℕ) (log : List Entry) (m : Parts) (words : List Generator) (h : Hart) (t : Tid) (x : HartState) (a l : Stretch)
     → IsOnWay s seed log m words h t x → length log + length pcs ≤ s.limits.steps → a.file ≡ file_of x → a.credit ≡ x.credit → Steps s.program.pages a pcs l

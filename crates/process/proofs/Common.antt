@@ -25,21 +25,20 @@ pub use Rattle.block_model.specs.Sequences.{area_here, can_write_words, files_in
 pub use Rattle.block_model.specs.Setting.{Setting}
 pub use Rattle.block_model.specs.Sights.{thread}
 pub use Rattle.block_model.specs.Stands.{Stand, here_at}
-pub use Rattle.block_model.specs.Tables.{AreSignalsOfLive, IsTables}
+pub use Rattle.block_model.specs.Tables.{IsTables}
 pub use Rattle.elf_load.specs.Start.{code_word, image_run, page_of, program_of, return_run, stack_run, start_file, start_runs}
 pub use Rattle.elf_load.specs.declared.image.ImagePage.{ImagePage}
 pub use Rattle.hart_state.specs.State.{entered, exec_refusal, hart_after, idle_hart, outcome_on, stores}
 pub use Rattle.hart_state.specs.declared.hart.HartState.{HartState}
-pub use Rattle.kernel_threads.proofs.Laws.{emptied, is_kept, running_saves_nothing, saved_of_others}
+pub use Rattle.kernel_threads.proofs.Laws.{is_kept, running_saves_nothing, saved_of_others}
 pub use Rattle.kernel_threads.specs.Table.{IsTable, Table, saved_of, start_table, with_saved}
-pub use Rattle.mach_types.proofs.Laws.{each_byte-split}
 pub use Rattle.mach_types.specs.Bytes.{after_writes, all_stored, each_byte, written}
 pub use Rattle.mach_types.specs.Kernel.Areas.{Words, area_of, interruption, is_inside, lowest_cid, named, pc_after, words_entered, words_on, words_written, writes_of}
 pub use Rattle.mach_types.specs.Kernel.Barriers.{harts_that, none_registered}
 pub use Rattle.mach_types.specs.Kernel.Pages.{Pages, can_read, can_write, is_in, permission_at, permission_of}
 pub use Rattle.mach_types.specs.Kernel.Scheduling.{Scheduling, without_ready}
 pub use Rattle.mach_types.specs.Kernel.SignalFrames.{frame_writes, stack_pointer}
-pub use Rattle.mach_types.specs.Kernel.Signals.{Signalling, action_of, is_handler, is_ignored, is_ignored_by_default, is_of, mask_of, with_pending}
+pub use Rattle.mach_types.specs.Kernel.Signals.{Signalling, action_of, is_handler, is_ignored, is_ignored_by_default, mask_of, with_pending}
 pub use Rattle.mach_types.specs.Kernel.Threads.{Thread, Threads, is_live, is_ready, is_ready_state, is_stuck, is_thread, running_on, state_if, state_of, with_state}
 pub use Rattle.mach_types.specs.Registers.{no_registers}
 pub use Rattle.mach_types.specs.declared.events.Choice.{Choice}
@@ -55,7 +54,6 @@ pub use Rattle.mach_types.specs.declared.sequences.Area.{Area}
 pub use Rattle.mach_types.specs.declared.sequences.BadWhy.{BadWhy}
 pub use Rattle.mach_types.specs.declared.sequences.Outcome.{Outcome}
 pub use Rattle.mach_types.specs.declared.signal_words.Action.{Action}
-pub use Rattle.mach_types.specs.declared.signal_words.ThreadSignals.{ThreadSignals}
 pub use Rattle.mach_types.specs.declared.signals.TheConstants.{SIGSEGV}
 pub use Rattle.mach_types.specs.declared.threads.Saved.{Saved}
 pub use Rattle.mach_types.specs.declared.threads.ThreadState.{ThreadState}
@@ -90,7 +88,8 @@ pub use Rattle.rv_inst.specs.declared.instruction.Inst.{Inst}
 pub use Rattle.std.proofs.Common.{All, Bool, Err, IfSome, List, None, Ok, Option, Some, [], ap, append-nil, arith, cond, drop, eq-eqb, eqb, false, filter, find, get_or, inl, inr, is_some, length, ltb, map, nat_cmp, nat_eq, nat_le, nat_lt, not, position, refl, rules, set, slice_get, subst, suc, sym, take, true, zero, ℕ, ◌%◌, ◌&&◌, ◌*◌, ◌++◌, ◌+◌, ◌-◌, ◌/◌, ◌<◌, ◌^◌, ◌||◌, ◌∙◌, ◌∷◌, ◌≡◌, ◌≢◌, ◌≤◌, ◌⊎◌}
 pub use Rattle.std.proofs.Math.Path.{fun_ext}
 pub use Rattle.std.proofs.Math.Seq.{take-length}
-pub use Rattle.std.proofs.lemmas.Bool.{and_parts, cases_eq, cases_lt, eqb-true, false≢true, le-leb, le-ltb, lt-leb, lt-ltb, ne_eqb}
+pub use Rattle.std.proofs.lemmas.Bool.{and_parts, and_right, cases_eq, cases_lt, eqb-true, false≢true, le-ltb, lt-ltb, ne_eqb, not-true}
+pub use Rattle.std.proofs.lemmas.Bool.Decides.{nat_tests}
 pub use Rattle.std.proofs.lemmas.Grind.{common_steps}
 pub use Rattle.std.proofs.lemmas.List.{drop_all, length-map, length-set, length_push, take_all, with_items_is}
 pub use Rattle.std.proofs.lemmas.List.Edits.{map_over_more}
@@ -99,8 +98,9 @@ pub use Rattle.std.proofs.lemmas.List.Kept.{AllPairs-from_increasing}
 pub use Rattle.std.proofs.lemmas.Option.{same_Some, slice_get-get_or, slice_get_past, slice_get_read}
 pub use Rattle.std.specs.List.{list_any}
 pub use Rattle.std.specs.List.Sorted.{IsStrictlyIncreasing}
-pub use Rattle.std.specs.Option.{IsSome, option_and_then, option_map, option_map_or, option_or}
+pub use Rattle.std.specs.Option.{option_and_then, option_map, option_map_or, option_or}
 pub use Rattle.std.specs.Vec.{vec_len}
+pub use Rattle.sys_calls.proofs.CallerTables.{live_in}
 pub use Rattle.sys_calls.proofs.Laws.{holds_signals}
 pub use Rattle.sys_calls.specs.Made.{AreSaved, HoldsPages, barrier_of, gives_up}
 pub use Rattle.sys_calls.specs.Registered.{areas_by_number}

@@ -15,19 +15,18 @@ same_length (x ∷ xs) (y ∷ ys) same = ap suc (same_length xs ys (λ k. same (
 abbrev pub HaveLost : ℕ → Done → List HartState → List HartState → Type 0
 HaveLost h d xs ys = (k : ℕ) → slice_get ys k ≡ option_map (lost_unless (eqb k h) d.entered) (slice_get xs k)
 
-mapped_is : (f : HartState → HartState) (o : Option HartState) → is_some (option_map f o) ≡ is_some o
+pub mapped_is : (f : HartState → HartState) (o : Option HartState) → is_some (option_map f o) ≡ is_some o
 mapped_is f None = refl
 mapped_is f (Some x) = refl
 
 -- where nothing was written they are as they were
-pub none_lost : (h : ℕ) (d : Done) (xs : List HartState) → d.entered ≡ [] → HaveLost h d xs xs
-none_lost h d xs none k = rw none (keep (eqb k h) (slice_get xs k))
-  where
-    keep : (b : Bool) (o : Option HartState) → o ≡ option_map (lost_unless b []) o
-    keep true None = refl
-    keep false None = refl
-    keep true (Some x) = refl
-    keep false (Some x) = refl
+pub lost_nothing : (b : Bool) (o : Option HartState) → o ≡ option_map (lost_unless b []) o
+lost_nothing b None = refl
+lost_nothing true (Some x) = refl
+lost_nothing false (Some x) = refl
+
+none_lost : (h : ℕ) (d : Done) (xs : List HartState) → d.entered ≡ [] → HaveLost h d xs xs
+none_lost h d xs none k = rw none (lost_nothing (eqb k h) (slice_get xs k))
 
 -- each hart but one is as an event of that one leaves it
 abbrev pub AreBeside : ℕ → Done → List HartState → List HartState → Type 0

@@ -1,8 +1,9 @@
 -- Stores that wait on pages, and the gate of the next instruction.
-use Rattle.process.proofs.Common.{◌≡◌, ℕ, zero, suc, ◌+◌, ◌-◌, ◌/◌, ◌<◌, ◌≤◌, ◌⊎◌, List, [], ◌∷◌, length, take, get_or, refl, sym, ap, ◌∙◌, arith, inl, inr, Bool, true, false, cond, not, ◌&&◌, ◌||◌, Option, Some, None, is_some, nat_le, nat_lt, list_any, option_or, cases_eq, cases_lt, le-leb, lt-leb, le-ltb, lt-ltb, take-length, list_any_more, slice_get-get_or, each_byte, is_in, HartState, IsTied, Next, Parts, Plain, Setting, Stand, Store, Why, exec_refusal, hart_at, here_at, runs, Idle, InBarrier, instruction_gate, Neighbour, or_in_segment, lies_waiting_on, is_held, next_effect, next_fault, others_gate, refusal_exec, unless_in_barrier, IsNextAt, lies_in, lies_outside}
+use Rattle.process.proofs.Common.{and_right, not-true, ◌≡◌, ℕ, zero, suc, ◌+◌, ◌-◌, ◌/◌, ◌<◌, ◌≤◌, List, [], ◌∷◌, length, take, get_or, refl, sym, ap, ◌∙◌, arith, Bool, true, false, cond, not, ◌&&◌, ◌||◌, Option, Some, None, is_some, nat_le, nat_lt, list_any, option_or, le-ltb, take-length, list_any_more, slice_get-get_or, each_byte, is_in, HartState, IsTied, Next, Parts, Plain, Setting, Stand, Store, Why, exec_refusal, hart_at, here_at, runs, Idle, InBarrier, instruction_gate, Neighbour, or_in_segment, lies_waiting_on, is_held, next_effect, next_fault, others_gate, refusal_exec, unless_in_barrier, IsNextAt, lies_in, lies_outside, nat_tests}
+use Rattle.page_map.proofs.Laws.{each_byte-fails}
+use Rattle.std.proofs.lemmas.Bool.{not-false, not_from_false}
 use Rattle.std.proofs.Common.{◌↔◌, min, max, IsTrue}
 use Rattle.std.specs.List.{Any}
-use Rattle.std.proofs.lemmas.Bool.Decides.{nat_tests}
 use Rattle.std.proofs.lemmas.List.Folds.{Any-from_list_any, list_any-from_Any}
 use Rattle.mach_types.proofs.Laws.{each_byte-same}
 use Rattle.mach_types.specs.Bytes.{covers}
@@ -28,17 +29,6 @@ covers-tells w a is = (grind (arith, nat_tests), grind (arith, nat_tests))
 covers-from : (w : Store) (a : ℕ) → w.at ≤ a → a < w.at + w.size → covers w a ≡ true
 covers-from w a low high = grind (arith, nat_tests)
 
-and_false : (b c : Bool) → c ≡ false → (b && c) ≡ false
-and_false true c is = is
-and_false false c is = refl
-
-each_fails : (test : ℕ → Bool) (at n a : ℕ) → at ≤ a → a < at + n → test a ≡ false → each_byte test at n ≡ false
-each_fails test at zero a low high fails = absurd (omega arith)
-each_fails test at (suc n) a low high fails = elim (cases_eq a at) [
-  | inl same ↦ let here : test at ≡ false = ap test (sym same) ∙ fails in rw here refl
-  | inr other ↦ and_false (test at) (each_byte test (at + 1) n) (each_fails test (at + 1) n a (omega arith) (omega arith) fails)
-]
-
 -- where a test fails of one of the bytes, it fails of this one
 record FailsAt (test : ℕ → Bool) (at n : ℕ) : Type 0 where
   pub byte : ℕ
@@ -59,29 +49,19 @@ fails_at : (test : ℕ → Bool) (at n : ℕ) → each_byte test at n ≡ false 
 fails_at test at zero fails = cc
 fails_at test at (suc n) fails = fails_by test at n (test at) refl fails (fails_at test (at + 1) n)
 
-not_false : (b : Bool) → b ≡ false → not b ≡ true
-not_false b is = rw is refl
-
-not_true : (b : Bool) → not b ≡ true → b ≡ false
-not_true true is = cc
-not_true false is = refl
-
-not_not : (b : Bool) → not b ≡ false → b ≡ true
-not_not true is = refl
-not_not false is = cc
-
 among_lies : (pages : PageSpan) (w : Store) → HasByteAmong pages.first pages.count w → lies_in pages w ≡ true
 among_lies pages w has =
     let there = covers-tells w has.0 has.1 in
     let on : has_page pages (has.0 / 4096) ≡ true = has_page-from pages (has.0 / 4096) has.2 has.3 in
     let fails : not (has_page pages (has.0 / 4096)) ≡ false = ap not on in
-    not_false (each_byte (λ a. not (has_page pages (a / 4096))) w.at w.size)
-    (each_fails (λ a. not (has_page pages (a / 4096))) w.at w.size has.0 there.0 there.1 fails)
+    let test : ℕ → Bool = λ a. not (has_page pages (a / 4096)) in
+    let place : w.at + (has.0 - w.at) ≡ has.0 = omega (arith, there.0) in
+    not_from_false (each_byte test w.at w.size) (each_byte-fails test w.at w.size (has.0 - w.at) (omega (arith, there.0, there.1)) (ap test place ∙ fails))
 
 lies_among : (pages : PageSpan) (w : Store) → lies_in pages w ≡ true → HasByteAmong pages.first pages.count w
 lies_among pages w lies =
-    let is = fails_at (λ a. not (has_page pages (a / 4096))) w.at w.size (not_true (each_byte (λ a. not (has_page pages (a / 4096))) w.at w.size) lies) in
-    let on = has_page-tells pages (is.byte / 4096) (not_not (has_page pages (is.byte / 4096)) is.fails) in
+    let is = fails_at (λ a. not (has_page pages (a / 4096))) w.at w.size (not-true (each_byte (λ a. not (has_page pages (a / 4096))) w.at w.size) lies) in
+    let on = has_page-tells pages (is.byte / 4096) (not-false (has_page pages (is.byte / 4096)) is.fails) in
     (is.byte, covers-from w is.byte is.low is.high, on.0, on.1)
 
 same_truth : (a b : Bool) → (a ≡ true → b ≡ true) → (b ≡ true → a ≡ true) → a ≡ b
@@ -96,96 +76,23 @@ touches_is pages ws r told = same_truth r (list_any (lies_in pages) ws)
     (λ is. let has = Any-from_list_any (lies_in pages) ws is in told.1 (has.0, has.1, has.2, has.3, lies_among pages has.1 has.4))
 
 -- some pages below one, and from one on
-below_is : (first count end most few n : ℕ) → most ≡ end - first → few ≡ min count most
-    → (nat_le first n && nat_lt n (first + few)) ≡ ((nat_le first n && nat_lt n (first + count)) && nat_lt n end)
-below_is first count end most few n most_is few_is =
-    elim (cases_lt n first) [
-      | inl low ↦ rw (lt-leb first n low) refl
-      | inr from ↦
-          elim (cases_lt n end) [
-            | inl under ↦
-                elim (cases_lt n (first + count)) [
-                  | inl within ↦
-                      let is : (few ≡ count) ⊎ (few ≡ most) = grind arith in
-                      let lt : n < first + few = elim is [ inl whole ↦ omega (arith, whole) | inr cut ↦ omega (arith, cut, most_is) ] in
-                      rw (le-leb first n from, lt-ltb n (first + few) lt, lt-ltb n (first + count) within, lt-ltb n end under) refl
-                  | inr past ↦
-                      let few_le : few ≤ count = omega arith in
-                      rw (le-leb first n from, le-ltb n (first + few) (omega arith), le-ltb n (first + count) past) refl
-                ]
-            | inr over ↦
-                let few_le : few ≤ most = omega arith in
-                let past : first + few ≤ n = omega (arith, few_le, most_is) in
-                rw (le-leb first n from, le-ltb n (first + few) past, le-ltb n end over)
-                (sym (and_false (nat_lt n (first + count)) false refl))
-          ]
-    ]
-
-from_is : (first count start skipped low left n : ℕ) → skipped ≡ start - first → low ≡ max first start → left ≡ count - skipped
-    → (nat_le low n && nat_lt n (low + left)) ≡ ((nat_le first n && nat_lt n (first + count)) && nat_le start n)
-from_is first count start skipped low left n skipped_is low_is left_is =
-    let either : (low ≡ first) ⊎ (low ≡ start) = grind arith in
-    let first_le : first ≤ low = omega arith in
-    let start_le : start ≤ low = omega arith in
-    elim (cases_lt n low) [
-      | inl under ↦
-          rw (lt-leb low n under)
-          (elim either [
-            | inl is ↦ rw (lt-leb first n (omega (arith, is, under))) refl
-            | inr is ↦
-                rw (lt-leb start n (omega (arith, is, under)))
-                (sym (and_false (nat_le first n && nat_lt n (first + count)) false refl))
-          ])
-      | inr from ↦
-          elim (cases_lt n (first + count)) [
-            | inl within ↦
-                let lt : n < low + left = elim either [ inl is ↦ omega arith | inr is ↦ omega arith ] in
-                rw (le-leb low n from, lt-ltb n (low + left) lt, le-leb first n (omega arith), lt-ltb n (first + count) within, le-leb start n (omega arith)) refl
-            | inr past ↦
-                let over : low + left ≤ n = elim either [ inl is ↦ omega arith | inr is ↦ omega arith ] in
-                rw (le-leb low n from, le-ltb n (low + left) over, le-leb first n (omega arith), le-ltb n (first + count) past) refl
-          ]
-    ]
-
 pub span_below : (pages span : PageSpan) (end most : ℕ) → most ≡ end - pages.first → span.first ≡ pages.first → span.count ≡ min pages.count most
     → (n : ℕ) → has_page span n ≡ (has_page pages n && nat_lt n end)
-span_below pages span end most most_is first_is count_is n =
-    ap (λ f. nat_le f n && nat_lt n (f + span.count)) first_is
-    ∙ below_is pages.first pages.count end most span.count n most_is count_is
+span_below pages span end most most_is first_is count_is n = grind (arith, nat_tests)
 
 pub span_from : (pages span : PageSpan) (start skipped : ℕ) → skipped ≡ start - pages.first → span.first ≡ max pages.first start → span.count ≡ pages.count - skipped
     → (n : ℕ) → has_page span n ≡ (has_page pages n && nat_le start n)
-span_from pages span start skipped skipped_is first_is count_is n =
-    from_is pages.first pages.count start skipped span.first span.count n skipped_is first_is count_is
+span_from pages span start skipped skipped_is first_is count_is n = grind (arith, nat_tests)
 
 -- a store that lies on pages, but not on those that are kept, lies on those below these, or from their end on
-le_is_not_lt : (a b : ℕ) → nat_le a b ≡ not (nat_lt b a)
-le_is_not_lt a b = elim (cases_lt b a) [
-  | inl lt ↦ rw (lt-leb a b lt, lt-ltb b a lt) refl
-  | inr le ↦ rw (le-leb a b le, le-ltb b a le) refl
-]
-
-lt_is_not_le : (a b : ℕ) → nat_lt a b ≡ not (nat_le b a)
-lt_is_not_le a b = elim (cases_lt a b) [
-  | inl lt ↦ rw (lt-leb b a lt, lt-ltb a b lt) refl
-  | inr le ↦ rw (le-leb b a le, le-ltb a b le) refl
-]
-
-neither : (on under past : Bool) → (not (on && under) && not (on && past)) ≡ not (on && not (not under && not past))
-neither false under past = refl
-neither true true past = refl
-neither true false true = refl
-neither true false false = refl
-
 one_fails : (a b : Bool) → (not a || not b) ≡ not (a && b)
-one_fails true b = refl
-one_fails false b = refl
+one_fails a b = grind arith
 
 and_four : (a b c d : Bool) → ((a && b) && (c && d)) ≡ ((a && c) && (b && d))
-and_four false b c d = refl
-and_four true true c d = refl
-and_four true false true d = refl
-and_four true false false d = refl
+and_four a b c d = grind arith
+
+or_four : (a b c d : Bool) → ((a || b) || (c || d)) ≡ ((a || c) || (b || d))
+or_four a b c d = grind arith
 
 both_of_each : (f g : ℕ → Bool) (at n : ℕ) → (each_byte f at n && each_byte g at n) ≡ each_byte (λ a. f a && g a) at n
 both_of_each f g at zero = refl
@@ -198,12 +105,7 @@ module _ (pages kept low high : PageSpan)
     (high_is : (n : ℕ) → has_page high n ≡ (has_page pages n && nat_le (kept.first + kept.count) n))
   where
     parted_page : (n : ℕ) → (not (has_page low n) && not (has_page high n)) ≡ not (has_page pages n && not (has_page kept n))
-    parted_page n =
-        ap (λ b. not b && not (has_page high n)) (low_is n)
-        ∙ ap (λ b. not (has_page pages n && nat_lt n kept.first) && not b) (high_is n)
-        ∙ neither (has_page pages n) (nat_lt n kept.first) (nat_le (kept.first + kept.count) n)
-        ∙ ap (λ b. not (has_page pages n && not (b && not (nat_le (kept.first + kept.count) n)))) (sym (le_is_not_lt kept.first n))
-        ∙ ap (λ b. not (has_page pages n && not (nat_le kept.first n && b))) (sym (lt_is_not_le n (kept.first + kept.count)))
+    parted_page n = rw (low_is n, high_is n) (grind (arith, nat_tests))
 
     parted : (w : Store) → (lies_in low w || lies_in high w) ≡ lies_outside pages kept w
     parted w =
@@ -212,12 +114,6 @@ module _ (pages kept low high : PageSpan)
         let both = λ (a : ℕ). not (has_page pages (a / 4096) && not (has_page kept (a / 4096))) in
         one_fails (each_byte f w.at w.size) (each_byte g w.at w.size)
         ∙ ap not (both_of_each f g w.at w.size ∙ each_byte-same both (λ a. f a && g a) (λ a. parted_page (a / 4096)) w.at w.size)
-
-    or_four : (a b c d : Bool) → ((a || b) || (c || d)) ≡ ((a || c) || (b || d))
-    or_four true b c d = refl
-    or_four false true true d = refl
-    or_four false true false d = refl
-    or_four false false c d = refl
 
     either_any : (f g : Store → Bool) (ws : List Store) → (list_any f ws || list_any g ws) ≡ list_any (λ w. f w || g w) ws
     either_any f g [] = refl
@@ -234,18 +130,10 @@ either_way None test a = refl
 either_way (Some other) test a = by (is_in_segment a)
   where
     by : (b : Bool) → (b || test a) ≡ ((b || false) || test a)
-    by true = refl
-    by false = refl
+    by b = grind arith
 
 one_page_kept : (on run kept shared : Bool) → on ≡ run → shared ≡ kept → not (on && not kept) ≡ (shared || not run)
-one_page_kept true true true true is same = refl
-one_page_kept true true false false is same = refl
-one_page_kept true true true false is same = cc
-one_page_kept true true false true is same = cc
-one_page_kept true false kept shared is same = cc
-one_page_kept false true kept shared is same = cc
-one_page_kept false false kept true is same = refl
-one_page_kept false false kept false is same = refl
+one_page_kept on run kept shared is same = grind arith
 
 lies_same : (beside : Option Neighbour) (pages kept : PageSpan) (r : PageRun) (w : Store) → ((n : ℕ) → has_page pages n ≡ is_in r n)
     → AreOfSegment beside kept → lies_outside pages kept w ≡ lies_on beside r w
@@ -263,10 +151,7 @@ any_same beside pages kept r ws same shared = ap (λ (test : Store → Bool). li
 
 -- the harts' buffers are the plain machine's
 or_swapped : (a b : Bool) → (a || b) ≡ (b || a)
-or_swapped true true = refl
-or_swapped true false = refl
-or_swapped false true = refl
-or_swapped false false = refl
+or_swapped a b = grind arith
 
 module _ (beside : Option Neighbour) (pages kept : PageSpan) (r : PageRun) (waiting : ℕ → List Store) (xs : List HartState) (some : HartState)
     (same : (n : ℕ) → has_page pages n ≡ is_in r n) (shared : AreOfSegment beside kept) (harts : (k : ℕ) → k < length xs → (get_or xs k some).buffer ≡ waiting k)
@@ -326,4 +211,4 @@ gate_is v h credit x next o r own is first then idle = go (runs (here_at v h)) r
 
 -- where the process shares no segment no page is one of it
 pub none_of_segment : AreOfSegment None (record { first = 0; count = 0 })
-none_of_segment a = sym (and_false (nat_le 0 (a / 4096)) (nat_lt (a / 4096) 0) (le-ltb (a / 4096) 0 (omega arith)))
+none_of_segment a = sym (and_right (nat_le 0 (a / 4096)) (nat_lt (a / 4096) 0) (le-ltb (a / 4096) 0 (omega arith)))

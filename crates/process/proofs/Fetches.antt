@@ -1,7 +1,7 @@
 -- The instruction word at an address that is a multiple of 4: its four bytes lie in one page.
-use Rattle.process.proofs.Common.{◌≡◌, ◌≢◌, ℕ, ◌+◌, ◌*◌, ◌/◌, ◌%◌, ◌<◌, ◌≤◌, ◌&&◌, inl, inr, List, [], ◌∷◌, map, Option, Some, None, Bool, true, false, cond, nat_le, nat_lt, nat_eq, nat_cmp, refl, ap, sym, ◌∙◌, arith, eq-eqb, option_map, ne_eqb, cases_eq, cases_lt, le-leb, lt-leb, le-ltb, lt-ltb, is_in, permission_of, ImagePage, code_word, image_run, page_of, return_run, stack_run, start_runs, word_of_page}
-use Rattle.std.proofs.Common.{is_le, is_lt, Less, Equal, slice_index}
-use Rattle.std.specs.Cmp.{nat_cmp_is}
+use Rattle.process.proofs.Common.{nat_tests, ◌≡◌, ◌≢◌, ℕ, ◌+◌, ◌*◌, ◌/◌, ◌%◌, ◌<◌, ◌&&◌, List, [], ◌∷◌, map, Option, Some, None, Bool, true, false, cond, nat_le, nat_lt, nat_eq, nat_cmp, refl, ap, sym, ◌∙◌, arith, option_map, ne_eqb, is_in, permission_of, ImagePage, code_word, image_run, page_of, return_run, stack_run, start_runs, word_of_page}
+use Rattle.std.proofs.lemmas.Bool.{lt-leb}
+use Rattle.std.proofs.Common.{is_le, is_lt, slice_index}
 use Rattle.mach_types.specs.Bytes.{joined}
 use Rattle.mach_types.specs.Kernel.Pages.{can_execute}
 use Rattle.elf_load.specs.Start.{code_byte, image_byte, page_byte}
@@ -28,13 +28,7 @@ four_bytes pages a aligned =
     ∙ ap (λ x. joined (code_in pages (a / 4096) (a % 4096)) (joined (code_in pages (a / 4096) (a % 4096 + 1)) (joined (code_in pages (a / 4096) (a % 4096 + 2)) (joined x (Some 0))))) e3
 
 one_page : (m n : ℕ) → (nat_le m n && nat_lt n (m + 1)) ≡ nat_eq m n
-one_page m n = elim (cases_lt m n) [
-  | inl less ↦ rw (le-leb m n (omega arith), le-ltb n (m + 1) (omega arith), ne_eqb m n (λ e. omega arith)) refl
-  | inr not_less ↦ elim (cases_eq m n) [
-    | inl same ↦ rw (le-leb m n (omega arith), lt-ltb n (m + 1) (omega arith), eq-eqb m n same) refl
-    | inr two ↦ rw (lt-leb m n (omega arith), ne_eqb m n two) refl
-  ]
-]
+one_page m n = grind (arith, nat_tests)
 
 abbrev image_permission : Option ImagePage → Option ℕ
 image_permission o = option_map (λ (p : ImagePage). p.perm) o
@@ -66,24 +60,9 @@ by_page (Some p) permission k is = rw is (go (can_execute (Some p.perm)))
     go true = ap Some (last 0 _ _ _ _)
     go false = refl
 
-is_le-true : (m n : ℕ) → m ≤ n → is_le (nat_cmp m n) ≡ true
-is_le-true m n le = elim (cases_eq m n) [
-  | inl same ↦ sym (ap is_le (nat_cmp_is m n Equal same))
-  | inr two ↦ sym (ap is_le (nat_cmp_is m n Less (omega arith)))
-]
-
-is_lt-true : (m n : ℕ) → m < n → is_lt (nat_cmp m n) ≡ true
-is_lt-true m n lt = sym (ap is_lt (nat_cmp_is m n Less lt))
-
 -- a page that a comparison of its number finds outside the stack
 pub not_stack : (n : ℕ) (b : Bool) → b ≡ (is_le (nat_cmp 0x3FFFF00 n) && is_lt (nat_cmp n 0x3FFFF40)) → b ≡ false → is_in stack_run n ≡ false
-not_stack n b is outside = elim (cases_lt n 0x3FFFF00) [
-  | inl low ↦ rw (lt-leb 0x3FFFF00 n low) refl
-  | inr from ↦ elim (cases_lt n 0x3FFFF40) [
-    | inl to ↦ let inside : b ≡ true = is ∙ (rw (is_le-true 0x3FFFF00 n from, is_lt-true n 0x3FFFF40 to) refl) in absurd (cc)
-    | inr past ↦ rw (le-leb 0x3FFFF00 n from, le-ltb n 0x3FFFF40 past) refl
-  ]
-]
+not_stack n b is outside = grind (arith, nat_tests)
 
 -- a page of the image
 pub word_of_image : (pages : List ImagePage) (a : ℕ) → a % 4 ≡ 0 → is_in stack_run (a / 4096) ≡ false → a / 4096 ≢ 0x3FFFFF0 → code_word pages a ≡ word_of_page (page_of pages (a / 4096)) (a % 4096)

@@ -33,8 +33,7 @@ preempt_none here (Some t) = refl
 
 -- one that does
 take_comes : (here : Here) (b : Bool) (r : Option ℕ) → (done_take_by here b r).interrupted ≡ cond (b && is_some r) (option_map (interruption_here here) r) None
-take_comes here false None = refl
-take_comes here false (Some t) = refl
+take_comes here false r = refl
 take_comes here true None = refl
 take_comes here true (Some t) = refl
 
@@ -66,13 +65,10 @@ running true None is = absurd cc
 running false r is = absurd cc
 
 named : (c : Choice) (here : Here) → refusal_of c here ≡ None → interrupts c here ≡ true → (t : ℕ) × (thread_in c here ≡ Some t)
-named asked.Exec here free is = absurd cc
-named asked.Drain here free is = absurd cc
 named asked.Take here free is = running here.restart (runs here) is
-named asked.Done here free is = absurd cc
-named asked.Preempt here free is = absurd cc
 named (asked.Run t) here free is = (t.0, refl)
 named asked.Signal here free is = let its = receiving here free in (its.thread, its.at)
+named c here free is = absurd cc
 
 -- what was foreseen is what it comes to
 pub foreseen_is : (v : Stand) (m : Parts) (h : Hart) (c : Choice) → IsPlace v m h.0 → refusal_of c (here_at v h.0) ≡ None → interrupts c (here_at v h.0) ≡ true

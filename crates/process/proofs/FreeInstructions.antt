@@ -1,5 +1,5 @@
 -- An instruction that sets a register and does nothing else makes no fault, and may be executed whatever waits.
-use Rattle.process.proofs.Common.{◌≡◌, ℕ, Bool, true, false, cond, ltb, ◌&&◌, is_some, not, length, Option, Some, None, refl, sym, option_map_or, option_or, and_parts, false≢true, Waiting, sets_register, instruction_gate, exec_refusal, is_held, others_gate, refusal_exec, fault_by, Effect, HartState, IsNextAt, Next, Plain, Setting, hart_at, here_in_plain}
+use Rattle.process.proofs.Common.{and_right, not-true, ◌≡◌, ℕ, Bool, true, false, cond, ltb, ◌&&◌, is_some, not, length, Option, Some, None, refl, sym, option_map_or, option_or, and_parts, false≢true, Waiting, sets_register, instruction_gate, exec_refusal, is_held, others_gate, refusal_exec, fault_by, Effect, HartState, IsNextAt, Next, Plain, Setting, hart_at, here_in_plain}
 use Rattle.mach_types.specs.declared.events.Why.TheVariants.{FullBuffer}
 use Rattle.rv_inst.specs.declared.effects.Effect.TheVariants as effect
 use Rattle.process.proofs.ExecGates.{gate_is}
@@ -14,10 +14,7 @@ no_fault_of_free byte writable pc word (Some (effect.Next rd value pc')) sets = 
 no_fault_of_free byte writable pc word (Some e) sets = absurd (false≢true sets)
 
 nothing_waits : (some full : Bool) → cond (some && false) (Some Waiting) (cond (full && false) (Some FullBuffer) None) ≡ None
-nothing_waits true true = refl
-nothing_waits true false = refl
-nothing_waits false true = refl
-nothing_waits false false = refl
+nothing_waits some full = rw (and_right some false refl, and_right full false refl) refl
 
 pub gate_of_free : (waiting : ℕ) (o : Option Effect) → is_local o ≡ true → instruction_gate waiting o false ≡ None
 gate_of_free waiting None sets = absurd (false≢true sets)
@@ -29,10 +26,6 @@ others_of_free held None sets = absurd (false≢true sets)
 others_of_free held (Some (effect.Next rd value pc)) sets = refl
 others_of_free held (Some e) sets = absurd (false≢true sets)
 
-not_true : (b : Bool) → not b ≡ true → b ≡ false
-not_true true is = cc
-not_true false is = refl
-
 -- what the test of it tells
 pub record IsFree (x : HartState) (o : Option Effect) : Type 0 where
   pub sets : is_local o ≡ true
@@ -43,7 +36,7 @@ pub free_tells : (x : HartState) (o : Option Effect) → (is_local o && is_some 
 free_tells x o is =
     let both = and_parts (is_local o && is_some x.running) (not (is_some x.waits)) is in
     let first = and_parts (is_local o) (is_some x.running) both.0 in
-    record { sets = first.0; runs = first.1; waits = not_true (is_some x.waits) both.1 }
+    record { sets = first.0; runs = first.1; waits = not-true (is_some x.waits) both.1 }
 
 -- where a thread runs that waits in no barrier
 pub free_is_allowed : (s : Setting) (p : Plain) (h credit : ℕ) (x : HartState) (next : Next) → x ≡ hart_at s p h credit

@@ -1,5 +1,5 @@
 -- The own hart after each kind of event.
-use Rattle.process.proofs.Common.{◌≡◌, ℕ, ◌+◌, ◌<◌, List, ◌∷◌, drop, refl, ◌∙◌, arith, true, Option, Some, None, append-nil, eq-eqb, option_map, no_registers, HartState, IsTables, Plain, Saved, Setting, Store, by_call, by_outcome, counted, file_among, file_on, files_interrupted, hart_at, here_in_plain, id_on, is_ready, runs, thread, entered, hart_after, killed_in_call, done_drain_of, done_preempt_by, done_killed, done_running, id_of, with_id, begun_without}
+use Rattle.process.proofs.Common.{◌≡◌, ℕ, ◌+◌, ◌<◌, List, ◌∷◌, drop, refl, ◌∙◌, arith, true, Some, None, append-nil, eq-eqb, no_registers, HartState, IsTables, Plain, Saved, Setting, Store, by_call, by_outcome, counted, file_among, files_interrupted, hart_at, here_in_plain, is_ready, runs, thread, entered, hart_after, killed_in_call, done_drain_of, done_preempt_by, done_killed, done_running, id_of, with_id, begun_without}
 use Rattle.mach_types.specs.declared.sequences.Outcome.{Outcome as Comes}
 use Rattle.rv_inst.specs.Execution.{Outcome}
 use Rattle.block_model.proofs.Laws.{left_idle, ran_runs}
@@ -9,32 +9,10 @@ use Rattle.process.proofs.HartStates.{own_after}
 pub zero_more : (n : ℕ) → n + 0 ≡ n
 zero_more n = omega arith
 
--- a hart of these parts, whose barriers are those of hart h of the plain machine
-abbrev made_of : Plain → ℕ → Saved → Option ℕ → List Store → Option ℕ → ℕ → ℕ → ℕ → ℕ → HartState
-made_of p h f o buffer reserved ran events credit cid = record {
-  file = f.file;
-  pc = f.pc;
-  buffer = buffer;
-  running = option_map thread o;
-  requests = p.requests h;
-  restart = p.restart h;
-  waits = p.awaits h;
-  reserved = reserved;
-  ran = ran;
-  credit = credit;
-  events = events;
-  cid = cid;
-}
-
 -- drain
 pub drain_own : (credit : ℕ) (s : Setting) (p : Plain) (h : ℕ) (w : Store) (ws : List Store) (x y : HartState) → x ≡ hart_at s p h credit →
     y ≡ record x { buffer = drop 1 x.buffer; events = x.events + 1 } → y ≡ own_after s p h (done_drain_of (here_in_plain s p h) (w ∷ ws)) credit
-drain_own credit s p h w ws x y at is = is ∙ rw (at, append-nil, zero_more (p.ran h)) (go (runs (here_in_plain s p h)))
-  where
-    go : (o : Option ℕ) → made_of p h (file_on (here_in_plain s p h) o) o (drop 1 (p.waiting h)) (p.reserved h) (p.ran h) (p.events h + 1) credit (id_on (here_in_plain s p h) o)
-        ≡ made_of p h (file_on (here_in_plain s p h) o) o (drop 1 (p.waiting h)) (p.reserved h) (p.ran h) (p.events h + 1) credit (id_on (here_in_plain s p h) o)
-    go None = refl
-    go (Some t) = refl
+drain_own credit s p h w ws x y at is = is ∙ rw (at, append-nil, zero_more (p.ran h)) refl
 
 -- preempt
 pub preempt_own : (credit : ℕ) (s : Setting) (p : Plain) (h t : ℕ) (x y : HartState) → x ≡ hart_at s p h credit → IsTables s.limits.harts p.kernel.threads p.kernel.scheduling → runs (here_in_plain s p h) ≡ Some t →
@@ -56,21 +34,11 @@ killed_own credit s p h t o x y at idle is = is ∙ rw (at, append-nil, idle) re
 -- a fault, whether its thread has a handler or not
 pub pending_own : (credit : ℕ) (s : Setting) (p : Plain) (h t signal : ℕ) (x y : HartState) → x ≡ hart_at s p h credit →
     y ≡ record x { ran = x.ran + 1; events = x.events + 1 } → y ≡ own_after s p h (fault_pending (here_in_plain s p h) t signal) credit
-pending_own credit s p h t signal x y at is = is ∙ rw (at, append-nil) (go (runs (here_in_plain s p h)))
-  where
-    go : (o : Option ℕ) → made_of p h (file_on (here_in_plain s p h) o) o (p.waiting h) (p.reserved h) (p.ran h + 1) (p.events h + 1) credit (id_on (here_in_plain s p h) o)
-        ≡ made_of p h (file_on (here_in_plain s p h) o) o (p.waiting h) (p.reserved h) (p.ran h + 1) (p.events h + 1) credit (id_on (here_in_plain s p h) o)
-    go None = refl
-    go (Some t) = refl
+pending_own credit s p h t signal x y at is = is ∙ rw (at, append-nil) refl
 
 pub killing_own : (credit : ℕ) (s : Setting) (p : Plain) (h signal : ℕ) (x y : HartState) → x ≡ hart_at s p h credit →
     y ≡ record x { ran = x.ran + 1; events = x.events + 1 } → y ≡ own_after s p h (fault_killing (here_in_plain s p h) signal) credit
-killing_own credit s p h signal x y at is = is ∙ rw (at, append-nil) (go (runs (here_in_plain s p h)))
-  where
-    go : (o : Option ℕ) → made_of p h (file_on (here_in_plain s p h) o) o (p.waiting h) (p.reserved h) (p.ran h + 1) (p.events h + 1) credit (id_on (here_in_plain s p h) o)
-        ≡ made_of p h (file_on (here_in_plain s p h) o) o (p.waiting h) (p.reserved h) (p.ran h + 1) (p.events h + 1) credit (id_on (here_in_plain s p h) o)
-    go None = refl
-    go (Some t) = refl
+killing_own credit s p h signal x y at is = is ∙ rw (at, append-nil) refl
 
 -- an instruction other than a call
 pub plain_own : (credit : ℕ) (s : Setting) (p : Plain) (h t : ℕ) (o : Outcome) (x y : HartState) → x ≡ hart_at s p h credit → runs (here_in_plain s p h) ≡ Some t →

@@ -14,11 +14,7 @@ hart_tied s p m h x tied lt value =
 
 -- what holds of one hart, and of each other, holds of all
 pub of_each : (P : ℕ → Type 0) (h k : ℕ) → P h → (k ≢ h → P k) → P k
-of_each P h k own other = go (cases_eq k h)
-  where
-    go : (k ≡ h) ⊎ (k ≢ h) → P k
-    go (inl same) = subst P (sym same) own
-    go (inr ne) = other ne
+of_each P h k own other = elim (cases_eq k h) [ inl same ↦ subst P (sym same) own | inr ne ↦ other ne ]
 
 -- the own hart
 abbrev pub own_after : Setting → Plain → ℕ → Done → ℕ → HartState

@@ -1,12 +1,13 @@
 -- A thread that is interrupted on its way to a hart: what is written, and which harts lose reservations of it.
-use Rattle.process.proofs.Common.{◌≡◌, ◌≢◌, ℕ, ◌+◌, ◌<◌, ◌≤◌, ◌^◌, ◌&&◌, List, [], ◌∷◌, ◌++◌, append-nil, refl, sym, ap, ◌∙◌, subst, arith, Bool, true, false, not, cond, eqb, eq-eqb, Option, Some, None, is_some, set, slice_get, inl, inr, IfSome, IsSome, option_map, and_parts, cases_lt, ne_eqb, after_writes, each_byte, written, each_byte-split, Words, interruption, is_inside, named, pc_after, words_entered, words_on, words_written, writes_of, Area, Done, HartState, Here, IsWritten, Outcome, Parts, Saved, Write, file_among, is_writable, lost_unless, next_id, BadWhy, IsAlike, Map, are_visible, byte_in, can_write_in, held_in, writable_is_visible, done_killed, done_run, done_running, lives_on, area_here, can_write_words, files_interrupted, interruption_here, words_to, IsChanged, IsReadied, IsWaiting}
-use Rattle.mach_types.specs.Bytes.{byte_after}
+use Rattle.process.proofs.Common.{◌≡◌, ◌≢◌, ℕ, ◌+◌, ◌<◌, ◌^◌, List, [], ◌++◌, append-nil, refl, sym, ap, ◌∙◌, subst, Bool, true, false, not, cond, eqb, eq-eqb, Option, Some, None, is_some, set, slice_get, IfSome, option_map, ne_eqb, after_writes, each_byte, written, Words, interruption, is_inside, named, pc_after, words_entered, words_on, words_written, writes_of, Area, Done, HartState, Here, IsWritten, Outcome, Parts, Saved, Write, file_among, is_writable, lost_unless, next_id, BadWhy, IsAlike, Map, are_visible, byte_in, can_write_in, held_in, writable_is_visible, done_killed, done_run, done_running, lives_on, area_here, can_write_words, files_interrupted, interruption_here, words_to, IsChanged, IsReadied, IsWaiting}
+use Rattle.std.proofs.lemmas.Bool.{and_from}
+use Rattle.sys_calls.proofs.AreaWords.{pass_each, writable_below, words_visible as area_words_visible}
+use Rattle.sys_calls.proofs.KernelWrites.{twice, none_written as none_written_by}
 use Rattle.mach_types.specs.Kernel.Areas.{are_words_writable, is_clearable, outcome_of, pointer_cleared}
 use Rattle.mach_types.specs.declared.sequences.BadWhy.TheVariants as bad
 use Rattle.mach_types.specs.declared.sequences.Named.{Named}
 use Rattle.mach_types.specs.declared.sequences.Named.TheVariants as names
 use Rattle.mach_types.specs.declared.sequences.Outcome.TheVariants as comes_to
-use Rattle.page_map.specs.MapLaws.{byte_in-ends, byte_in-readable}
 use Rattle.page_map.proofs.Laws.{alike_holds}
 use Rattle.process.proofs.Events.{AreBeside, HaveLost, IsQuiet, quietly}
 use Rattle.process.proofs.HartStates.{get_set_other, get_set_same, of_each}
@@ -53,39 +54,21 @@ pub lost_twice : (b : Bool) (ws vs : List Write) (o : Option HartState) → opti
 lost_twice b ws vs None = refl
 lost_twice b ws vs (Some x) = ap Some (lost_both b ws vs x)
 
-pub lost_nothing : (b : Bool) (o : Option HartState) → o ≡ option_map (lost_unless b []) o
-lost_nothing true None = refl
-lost_nothing false None = refl
-lost_nothing true (Some x) = refl
-lost_nothing false (Some x) = refl
-
 -- PAGES
-
-written_app : (ws vs : List Write) (a b : ℕ) → written vs a (written ws a b) ≡ written (ws ++ vs) a b
-written_app [] vs a b = refl
-written_app (w ∷ ws) vs a b = written_app ws vs a (byte_after w a b)
-
-written_twice : (ws vs : List Write) (a : ℕ) (o : Option ℕ) → option_map (written vs a) (option_map (written ws a) o) ≡ option_map (written (ws ++ vs) a) o
-written_twice ws vs a None = refl
-written_twice ws vs a (Some b) = ap Some (written_app ws vs a b)
 
 pub written_both : (ws vs : List Write) (m m1 m2 : Map) → IsWritten ws m m1 → IsWritten vs m1 m2 → IsWritten (ws ++ vs) m m2
 written_both ws vs m m1 m2 first then = record {
   permissions = λ n. then.permissions n ∙ first.permissions n;
-  held = λ a. then.held a ∙ ap (option_map (written vs a)) (first.held a) ∙ written_twice ws vs a (held_in m a);
+  held = λ a. then.held a ∙ ap (option_map (written vs a)) (first.held a) ∙ twice ws vs a (held_in m a);
   free = then.free ∙ first.free;
   break_at = then.break_at ∙ first.break_at;
   break_start = then.break_start ∙ first.break_start;
 }
 
-unwritten : (a : ℕ) (o : Option ℕ) → o ≡ option_map (written [] a) o
-unwritten a None = refl
-unwritten a (Some b) = refl
-
 pub none_written : (m : Map) → IsWritten [] m m
 none_written m = record {
   permissions = λ n. refl;
-  held = λ a. unwritten a (held_in m a);
+  held = λ a. none_written_by (held_in m a) a;
   free = refl;
   break_at = refl;
   break_start = refl;
@@ -100,23 +83,6 @@ written_by m m' ws alike visible bytes = record {
   break_at = alike.break_at;
   break_start = alike.break_start;
 }
-
--- an address that can be written is below 2^64
-within : (a : ℕ) (o : Option ℕ) → (2 ^ 64 ≤ a → o ≡ None) → IsSome o → a < 2 ^ 64
-within a o past some = elim (cases_lt a (2 ^ 64)) [
-  | inl lt ↦ lt
-  | inr le ↦ let none = past le in absurd (nothing o none some)
-]
-  where
-    nothing : (o : Option ℕ) → o ≡ None → IsSome o → ⊥
-    nothing None e is = cc
-    nothing (Some b) e is = cc
-
-writable_fits : (m : Map) (a : ℕ) → can_write_in m a ≡ true → a < 2 ^ 64
-writable_fits m a may = within a (byte_in m a) (byte_in-ends m a) (byte_in-readable m a may)
-
-and_true : (b : Bool) → b ≡ true → (b && true) ≡ true
-and_true b is = rw is refl
 
 -- THE POINTER
 
@@ -133,8 +99,8 @@ clears_nothing m area o none = record {
 
 clears_pointer : (m : Map) (area : Area) (o : Outcome) → is_clearable (can_write_in m) area ≡ true → writes_of (Some area) o ≡ pointer_cleared (Some area) → IsClearing m (Some area) o
 clears_pointer m area o may is = record {
-  visible = ap (are_visible m) is ∙ and_true (each_byte (λ a. is_some (byte_in m a)) (area.at + 8) 8) (writable_is_visible m (area.at + 8) 8 may);
-  fits = λ some. writable_fits m (area.at + 8) (and_parts (can_write_in m (area.at + 8)) (each_byte (can_write_in m) (area.at + 8 + 1) 7) may).0;
+  visible = ap (are_visible m) is ∙ and_from (each_byte (λ a. is_some (byte_in m a)) (area.at + 8) 8) true (writable_is_visible m (area.at + 8) 8 may) refl;
+  fits = λ some. writable_below m (area.at + 8) 7 may;
 }
 
 clears : (m : Map) (area : Area) (pc : ℕ) (n : Named) → IsClearing m (Some area) (outcome_of (can_write_in m) area pc n)
@@ -161,23 +127,11 @@ pub record AreWords (m : Map) (area : Area) (w : Words) : Type 0 where
   pub visible : are_visible m (words_written area w) ≡ true
   pub fits : area.at + 24 < 2 ^ 64
 
-four_true : (a b c d : Bool) → a ≡ true → b ≡ true → c ≡ true → d ≡ true → (a && (b && (c && (d && true)))) ≡ true
-four_true a b c d p q r s = rw (p, q, r, s) refl
-
 pub words_visible : (m : Map) (area : Area) (w : Words) → are_words_writable (can_write_in m) area ≡ true → AreWords m area w
-words_visible m area w may =
-    let test : ℕ → Bool = λ a. is_some (byte_in m a) in
-    let parts = and_parts (each_byte (can_write_in m) area.at 8) (each_byte (can_write_in m) (area.at + 20) 8) may in
-    let low = and_parts (each_byte test area.at 4) (each_byte test (area.at + 4) 4) (sym (each_byte-split test area.at 4 4) ∙ writable_is_visible m area.at 8 parts.0) in
-    let high = and_parts (each_byte test (area.at + 20) 4) (each_byte test (area.at + 20 + 4) 4) (sym (each_byte-split test (area.at + 20) 4 4) ∙ writable_is_visible m (area.at + 20) 8 parts.1) in
-    let last : area.at + 20 + 4 ≡ area.at + 24 = omega arith in
-    let top = and_parts (each_byte (can_write_in m) (area.at + 20) 4) (each_byte (can_write_in m) (area.at + 20 + 4) 4) (sym (each_byte-split (can_write_in m) (area.at + 20) 4 4) ∙ parts.1) in
-    let there = writable_fits m (area.at + 20 + 4) (and_parts (can_write_in m (area.at + 20 + 4)) (each_byte (can_write_in m) (area.at + 20 + 4 + 1) 3) top.1).0 in
-    record {
-      visible = four_true (each_byte test area.at 4) (each_byte test (area.at + 4) 4) (each_byte test (area.at + 20) 4) (each_byte test (area.at + 24) 4)
-          low.0 low.1 high.0 (ap (λ a. each_byte test a 4) (sym last) ∙ high.1);
-      fits = omega (arith, there);
-    }
+words_visible m area w may = record {
+  visible = area_words_visible m area w may;
+  fits = writable_below m (area.at + 24) 3 (pass_each (can_write_in m) area may).cid;
+}
 
 -- what is written where they were
 pub words_there : (h : Here) (area : Area) (w : Words) (can_write : ℕ → Bool) (made : Bool) → is_writable h ≡ can_write → made ≡ are_words_writable can_write area
@@ -187,10 +141,8 @@ words_there h area w can_write made same is = ap (λ b. words_entered b area w) 
 -- THE FILE
 
 pub file_is : (here : Here) (t : ℕ) (o : Outcome) (x : Saved) → x ≡ here.file t → record x { pc = pc_after x.pc o } ≡ file_among (files_interrupted here t o) t (here.file t)
-file_is here t comes_to.Nothing x is = is
-file_is here t comes_to.Cleared x is = is
 file_is here t (comes_to.Aborted at) x is = rw (eq-eqb t t refl, is) refl
-file_is here t (comes_to.Killed why) x is = is
+file_is here t o x is = is
 
 either_files : (here : Here) (t : ℕ) (o : Outcome) (b : Bool) → (cond b (done_running here t o) (done_killed here t o)).files ≡ files_interrupted here t o
 either_files here t o true = refl
@@ -205,10 +157,8 @@ is_fatal (comes_to.Aborted at) = false
 is_fatal (comes_to.Killed why) = true
 
 pub lives_by_words : (here : Here) (t : ℕ) (o : Outcome) → is_fatal o ≡ false → lives_on here t o ≡ can_write_words here (area_here here t)
-lives_by_words here t comes_to.Nothing goes = refl
-lives_by_words here t comes_to.Cleared goes = refl
-lives_by_words here t (comes_to.Aborted at) goes = refl
 lives_by_words here t (comes_to.Killed why) goes = cc
+lives_by_words here t o goes = refl
 
 no_words : (here : Here) (area : Option Area) (w : Words) → can_write_words here area ≡ false → words_to here area w ≡ []
 no_words here None w fails = cc

@@ -1,5 +1,5 @@
 -- What the kernel writes by an event: the pointer of an area that an interruption clears, and behind it the words of the area or the frame of a handler.
-use Rattle.process.proofs.Common.{◌≡◌, ◌≢◌, ℕ, List, [], ◌++◌, append-nil, refl, sym, ap, ◌∙◌, Bool, true, false, ◌&&◌, cond, is_some, Option, Some, None, option_and_then, option_map, same_Some, interruption, pc_after, words_on, writes_of, mask_of, Choice, Entry, Tid, Area, Done, Hart, Here, IsPlace, Outcome, Parts, Saved, Stand, Write, area_here, area_of, byte_in, can_write_in, done_of, here_at, interruption_here, next_id, refusal_of, runs, areas_by_number, entry_in, number_of, thread_in, done_done_by, done_preempt_by, done_killed, done_run, done_running, lives_on, done_delivery, file_interrupted, handled_unless_killed, kills, kills_unhandled, done_take_by, killed_by, can_write_words, words_to, IsInterrupted, frame_unless, killer_of, foreseen_writes, interrupts, area_on}
+use Rattle.process.proofs.Common.{◌≡◌, ◌≢◌, ℕ, List, [], ◌++◌, append-nil, refl, sym, ap, ◌∙◌, Bool, true, false, cond, is_some, Option, Some, None, option_and_then, option_map, same_Some, interruption, pc_after, words_on, writes_of, mask_of, Choice, Entry, Tid, Area, Done, Hart, Here, IsPlace, Outcome, Parts, Saved, Stand, Write, area_here, area_of, byte_in, can_write_in, done_of, here_at, interruption_here, next_id, refusal_of, runs, areas_by_number, entry_in, number_of, thread_in, done_done_by, done_preempt_by, done_killed, done_run, done_running, lives_on, done_delivery, file_interrupted, handled_unless_killed, kills, kills_unhandled, done_take_by, killed_by, can_write_words, words_to, IsInterrupted, frame_unless, killer_of, foreseen_writes, interrupts, area_on}
 use Rattle.mach_types.specs.declared.events.Choice.TheVariants as asked
 use Rattle.mach_types.specs.declared.sequences.Outcome.TheVariants as comes_to
 use Rattle.block_model.specs.Events.Run.{done_run_by}
@@ -15,11 +15,7 @@ use Rattle.process.proofs.SignalEvent.{IsReceiving, receiving}
 pub foreseen_entered : (c : Choice) (here : Here) → c ≢ asked.Exec → c ≢ asked.Drain → foreseen_writes c here ≡ (done_of c here).entered
 foreseen_entered asked.Exec here no_exec no_drain = absurd (no_exec refl)
 foreseen_entered asked.Drain here no_exec no_drain = absurd (no_drain refl)
-foreseen_entered asked.Take here no_exec no_drain = refl
-foreseen_entered asked.Done here no_exec no_drain = refl
-foreseen_entered asked.Preempt here no_exec no_drain = refl
-foreseen_entered (asked.Run t) here no_exec no_drain = refl
-foreseen_entered asked.Signal here no_exec no_drain = refl
+foreseen_entered c here no_exec no_drain = refl
 
 -- WHO IS INTERRUPTED
 
@@ -94,10 +90,8 @@ nothing_foreseen asked.Signal here free none =
 -- ONE THREAD IS INTERRUPTED
 
 fatal : (o : Outcome) → is_some (killed_by o) ≡ true → is_fatal o ≡ true
-fatal comes_to.Nothing dies = cc
-fatal comes_to.Cleared dies = cc
-fatal (comes_to.Aborted at) dies = cc
 fatal (comes_to.Killed why) dies = refl
+fatal o dies = cc
 
 nothing_comes : {A : Type 0} {x : A} → Some x ≡ None → ⊥
 nothing_comes is = cc
@@ -113,10 +107,8 @@ is_followed (asked.Run t) = true
 is_followed asked.Signal = true
 
 pub kills_none : (o : Outcome) → is_some (killed_by o) ≡ false → is_fatal o ≡ false
-kills_none comes_to.Nothing lives = refl
-kills_none comes_to.Cleared lives = refl
-kills_none (comes_to.Aborted at) lives = refl
 kills_none (comes_to.Killed why) lives = cc
+kills_none o lives = refl
 
 -- where requests are taken
 take_writes : (here : Here) (b : Bool) (r : Option ℕ) (t : ℕ) (area : Option Area) (o : Outcome) → r ≡ Some t → area ≡ area_here here t → o ≡ interruption_here here t
@@ -135,10 +127,8 @@ run_writes here t area o has comes goes =
     ∙ ap (λ p. (done_run_by here t p).entered) comes
 
 killed_run : (here : Here) (t : ℕ) (o : Outcome) → is_fatal o ≡ true → (done_run_by here t o).entered ≡ writes_of (area_here here t) o
-killed_run here t comes_to.Nothing fatal = cc
-killed_run here t comes_to.Cleared fatal = cc
-killed_run here t (comes_to.Aborted at) fatal = cc
 killed_run here t (comes_to.Killed why) fatal = refl
+killed_run here t o fatal = cc
 
 -- a thread that enters a handler, and one that is killed before
 delivery_writes : (here : Here) (t signal : ℕ) (o : Outcome) (killer : Option ℕ)
@@ -147,21 +137,15 @@ delivery_writes here t signal o None = refl
 delivery_writes here t signal o (Some killer) = sym (append-nil (writes_of (area_here here t) o))
 
 killed_delivery : (here : Here) (t signal : ℕ) (o : Outcome) → is_fatal o ≡ true → (handled_unless_killed here t signal o (kills here t signal o)).entered ≡ writes_of (area_here here t) o
-killed_delivery here t signal comes_to.Nothing fatal = cc
-killed_delivery here t signal comes_to.Cleared fatal = cc
-killed_delivery here t signal (comes_to.Aborted at) fatal = cc
 killed_delivery here t signal (comes_to.Killed why) fatal = refl
+killed_delivery here t signal o fatal = cc
 
 -- ONE INTERRUPTION, BY THE KIND OF ITS EVENT
 
 -- it kills the process: nothing follows it
 pub killed_foreseen : (c : Choice) (here : Here) (area : Option Area) (o : Outcome) → refusal_of c here ≡ None → IsForeseen c here area o → Some o ≡ (done_of c here).interrupted
     → is_some (killed_by o) ≡ true → writes_of area o ≡ foreseen_writes c here
-killed_foreseen asked.Exec here area o free there is dies = absurd (nothing_comes (is ∙ interrupted_is asked.Exec here free))
-killed_foreseen asked.Drain here area o free there is dies = absurd (nothing_comes (is ∙ interrupted_is asked.Drain here free))
 killed_foreseen asked.Take here area o free there is dies = take_writes here here.restart (runs here) there.thread area o there.at there.has there.comes is
-killed_foreseen asked.Done here area o free there is dies = absurd (nothing_comes (is ∙ interrupted_is asked.Done here free))
-killed_foreseen asked.Preempt here area o free there is dies = absurd (nothing_comes (is ∙ interrupted_is asked.Preempt here free))
 killed_foreseen (asked.Run t) here area o free there is dies =
     let same : there.thread ≡ t.0 = same_Some there.thread t.0 (sym there.at) in
     let has : area ≡ area_here here t.0 = there.has ∙ ap (area_here here) same in
@@ -174,17 +158,15 @@ killed_foreseen asked.Signal here area o free there is dies =
     let comes : o ≡ interruption_here here its.thread = there.comes ∙ ap (interruption_here here) same in
     ap (λ a. writes_of a o) has ∙ sym (killed_delivery here its.thread its.signal o (fatal o dies))
     ∙ ap (λ p. (done_delivery here its.thread its.signal p).entered) comes ∙ sym (ap (λ (d : Done). d.entered) its.done)
+killed_foreseen c here area o free there is dies = absurd (nothing_comes (is ∙ interrupted_is c here free))
 
 -- nothing follows it where requests are taken either
 pub take_foreseen : (c : Choice) (here : Here) (area : Option Area) (o : Outcome) → refusal_of c here ≡ None → IsForeseen c here area o → Some o ≡ (done_of c here).interrupted
     → is_followed c ≡ false → writes_of area o ≡ foreseen_writes c here
-take_foreseen asked.Exec here area o free there is alone = absurd (nothing_comes (is ∙ interrupted_is asked.Exec here free))
-take_foreseen asked.Drain here area o free there is alone = absurd (nothing_comes (is ∙ interrupted_is asked.Drain here free))
 take_foreseen asked.Take here area o free there is alone = take_writes here here.restart (runs here) there.thread area o there.at there.has there.comes is
-take_foreseen asked.Done here area o free there is alone = absurd (nothing_comes (is ∙ interrupted_is asked.Done here free))
-take_foreseen asked.Preempt here area o free there is alone = absurd (nothing_comes (is ∙ interrupted_is asked.Preempt here free))
 take_foreseen (asked.Run t) here area o free there is alone = absurd cc
 take_foreseen asked.Signal here area o free there is alone = absurd cc
+take_foreseen c here area o free there is alone = absurd (nothing_comes (is ∙ interrupted_is c here free))
 
 -- the words follow it where a thread begins to run
 pub run_foreseen : (c : Choice) (here : Here) (t : Tid) (area : Option Area) (o : Outcome) → c ≡ asked.Run t → IsForeseen c here area o → is_some (killed_by o) ≡ false

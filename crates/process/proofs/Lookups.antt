@@ -1,5 +1,5 @@
 -- A page found by a search of rising numbers.
-use Rattle.process.proofs.Common.{position, Bool, true, false, cond, nat_eq, nat_lt, ◌≡◌, ◌≢◌, ℕ, ◌<◌, ◌≤◌, List, [], ◌∷◌, length, map, Some, None, nat_cmp, refl, sym, ap, arith, zero, suc, get_or, eq-eqb, inl, inr, Ok, Err, IsStrictlyIncreasing, ne_eqb, cases_eq, cases_lt, lt-ltb, le-ltb, eqb-true, ImagePage, page_of}
+use Rattle.process.proofs.Common.{position, Bool, true, false, cond, nat_eq, nat_lt, ◌≡◌, ◌≢◌, ℕ, ◌<◌, ◌≤◌, List, [], ◌∷◌, length, map, Some, None, nat_cmp, refl, sym, ap, arith, zero, suc, get_or, eq-eqb, inl, inr, Ok, Err, IsStrictlyIncreasing, ne_eqb, cases_eq, cases_lt, lt-ltb, le-ltb, eqb-true, ImagePage, page_of, AllPairs-from_increasing}
 use Rattle.std.specs.List.{position_or_len}
 use Rattle.std.proofs.lemmas.List.Quantifiers.{position-Some}
 use Rattle.std.proofs.lemmas.List.Sums.{position_or_len_is, fails_before_first}
@@ -10,13 +10,7 @@ use Rattle.std.proofs.lemmas.List.Sorted.{searched}
 
 -- among rising numbers, a later one is greater
 pub rises : (xs : List ℕ) (i j : ℕ) → IsStrictlyIncreasing xs → i < j → j < length xs → get_or xs i 0 < get_or xs j 0
-rises xs i zero up lt within = absurd (omega arith)
-rises xs i (suc j) up lt within =
-    let next : get_or xs j 0 < get_or xs (suc j) 0 = rw add-one at (up j (omega arith)) in
-    elim (cases_eq i j) [
-      | inl same ↦ rw same next
-      | inr ne ↦ let below = rises xs i j up (omega arith) (omega arith) in omega (arith, below, next)
-    ]
+rises xs i j up lt within = AllPairs-from_increasing xs up i j 0 lt within
 
 -- and no later one is smaller
 pub never_falls : (xs : List ℕ) (i j : ℕ) → IsStrictlyIncreasing xs → i ≤ j → j < length xs → get_or xs i 0 ≤ get_or xs j 0

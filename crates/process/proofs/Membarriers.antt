@@ -17,18 +17,15 @@ is_run : (o : Option ℕ) → is_some (option_map thread o) ≡ is_some o
 is_run None = refl
 is_run (Some t) = refl
 
+plus_none : (n : ℕ) → n + 0 ≡ n
+plus_none n = omega arith
+
 past_all : (f : ℕ → Bool) (n d : ℕ) → ((k : ℕ) → n ≤ k → f k ≡ false) → harts_that f (n + d) ≡ harts_that f n
 past_all f n zero none = ap (harts_that f) (plus_none n)
-  where
-    plus_none : (n : ℕ) → n + 0 ≡ n
-    plus_none n = omega arith
 past_all f n (suc d) none =
     let next : n + suc d ≡ suc (n + d) = omega arith in
     let last = none (n + d) (omega arith) in
     ap (harts_that f) next ∙ ap (λ b. harts_that f (n + d) + cond b (2 ^ (n + d)) 0) last ∙ plus_none (harts_that f (n + d)) ∙ past_all f n d none
-  where
-    plus_none : (n : ℕ) → n + 0 ≡ n
-    plus_none n = omega arith
 
 pub running_tied : (s : Setting) (p : Plain) (m : Parts) → IsTied s p m → s.limits.harts ≤ 8
     → harts_that (is_busy m.harts.items) 8 ≡ running_harts p.kernel.threads s.limits.harts

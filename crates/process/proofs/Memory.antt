@@ -1,5 +1,6 @@
 -- Memory as the page map shows it where it holds the pages of the process, and the pages after writes.
-use Rattle.process.proofs.Common.{◌≡◌, ℕ, ◌/◌, ◌%◌, List, [], ◌∷◌, refl, sym, ap, ◌∙◌, Bool, true, false, ◌&&◌, cond, Option, Some, None, option_map, fun_ext, written, all_stored, IsWritten, Store, Write, Pages, can_read, can_write, permission_at, permission_of, Map, byte_in, can_write_in, held_in, permission_in, HoldsPages, IsReadable}
+use Rattle.process.proofs.Common.{◌≡◌, ℕ, ◌/◌, ◌%◌, List, [], ◌∷◌, refl, sym, ap, ◌∙◌, Bool, true, false, cond, Option, Some, None, option_map, fun_ext, written, all_stored, IsWritten, Store, Write, Pages, can_read, can_write, permission_at, permission_of, Map, byte_in, can_write_in, held_in, permission_in, HoldsPages, IsReadable}
+use Rattle.sys_calls.proofs.KernelWrites.{both, if_readable, over_held}
 use Rattle.mach_types.specs.Bytes.{overlay, byte_over}
 use Rattle.mach_types.specs.Kernel.Pages.{lets}
 use Rattle.block_model.specs.Record.{Kernel}
@@ -21,15 +22,6 @@ shown (Some p) offset = go (lets 4 (Some p.permission))
     go true = refl
     go false = refl
 
-if_readable : (b : ℕ) (o : Option ℕ) → cond (can_read o) (option_map (λ _. b) o) None ≡ cond (can_read o) (Some b) None
-if_readable b None = refl
-if_readable b (Some permission) = refl
-
-both : (b c : Bool) → (c ≡ true → b ≡ true) → (b && c) ≡ c
-both true c only = refl
-both false true only = only refl
-both false false only = refl
-
 -- what can be read, and which bytes can be written, is the record's
 pub bytes_held : (k : Kernel) (lowest : ℕ) (byte : ℕ → ℕ) (m : Map) → HoldsPages k.pages lowest byte m → byte_in m ≡ memory_in k byte
 bytes_held k lowest byte m holds = fun_ext (λ a.
@@ -44,15 +36,11 @@ writable_held k lowest byte m holds readable = fun_ext (λ a.
     ∙ ap can_write (holds.permissions (a / 4096)))
 
 -- the pages after writes
-written_over : (ws : List Write) (a b : ℕ) (o : Option ℕ) → option_map (written ws a) (option_map (λ _. b) o) ≡ option_map (λ _. written ws a b) o
-written_over ws a b None = refl
-written_over ws a b (Some permission) = refl
-
 pub pages_written : (ps : Pages) (lowest : ℕ) (byte : ℕ → ℕ) (ws : List Write) (m m' : Map) → HoldsPages ps lowest byte m → IsWritten ws m m'
     → HoldsPages ps lowest (λ a. written ws a (byte a)) m'
 pages_written ps lowest byte ws m m' holds is = record {
   permissions = λ n. is.permissions n ∙ holds.permissions n;
-  held = λ a. is.held a ∙ ap (option_map (written ws a)) (holds.held a) ∙ written_over ws a (byte a) (permission_of ps.runs (a / 4096));
+  held = λ a. is.held a ∙ ap (option_map (written ws a)) (holds.held a) ∙ over_held (byte a) (written ws a) (permission_of ps.runs (a / 4096));
   free = is.free ∙ holds.free;
   break_at = is.break_at ∙ holds.break_at;
   break_start = is.break_start ∙ holds.break_start;

@@ -1,7 +1,7 @@
 -- The parts of a process after an event of another process, which passed it by.
-use Rattle.process.proofs.Common.{◌≡◌, ℕ, List, [], ◌∷◌, map, refl, sym, ap, ◌∙◌, Bool, true, false, eqb, ◌&&◌, Option, Some, None, is_some, slice_get, option_map, zero, suc, eq-eqb, inl, inr, option_map_or, cases_eq, ne_eqb, Write, Barrier, Done, Plain, Setting, HartState, IsTied, Parts, asked_by, credit_of, hart_at, taken_aside, lost_by_all}
+use Rattle.process.proofs.Common.{and_right, ◌≡◌, ℕ, List, [], ◌∷◌, map, refl, sym, ap, ◌∙◌, Bool, true, false, eqb, Option, Some, None, is_some, slice_get, option_map, zero, suc, eq-eqb, inl, inr, option_map_or, cases_eq, ne_eqb, Write, Barrier, Done, Plain, Setting, HartState, IsTied, Parts, asked_by, credit_of, hart_at, taken_aside, lost_by_all}
 use Rattle.block_model.specs.Stands.{aside}
-use Rattle.process.proofs.Events.{same_length}
+use Rattle.process.proofs.Events.{same_length, mapped_is}
 use Rattle.process.specs.Passing.{passed_by}
 
 -- each hart is as the event leaves it
@@ -14,14 +14,10 @@ get_mapped f (x ∷ xs) zero = refl
 get_mapped f (x ∷ xs) (suc k) = get_mapped f xs k
 
 -- one that lost what was written and was asked, and then heard that requests were taken, or not
-not_own : (b : Bool) → (b && false) ≡ false
-not_own true = refl
-not_own false = refl
-
 heard_none : (k h : ℕ) (barrier : Option Barrier) (ws : List Write) (o : Option HartState)
     → option_map (asked_by k h barrier) (option_map (lost_by_all ws) o) ≡ option_map (passed_by k h false barrier ws) o
 heard_none k h barrier ws None = refl
-heard_none k h barrier ws (Some x) = rw (not_own (eqb h k)) refl
+heard_none k h barrier ws (Some x) = rw (and_right (eqb h k) false refl) refl
 
 heard_one : (k h : ℕ) (barrier : Option Barrier) (ws : List Write) (x : HartState)
     → taken_aside (eqb k h) h (asked_by k h barrier (lost_by_all ws x)) ≡ passed_by k h true barrier ws x
@@ -61,15 +57,6 @@ credit_passed : (k h : ℕ) (took : Bool) (barrier : Option Barrier) (ws : List 
 credit_passed k h took barrier ws None = refl
 credit_passed k h took barrier ws (Some x) = refl
 
-mapped_is : (f : HartState → HartState) (o : Option HartState) → is_some (option_map f o) ≡ is_some o
-mapped_is f None = refl
-mapped_is f (Some x) = refl
-
--- a hart of the plain machine is passed as the plain machine says
-hart_passed : (s : Setting) (p : Plain) (h k credit : ℕ) (d : Done) (ws : List Write)
-    → passed_by k h d.took d.barrier ws (hart_at s p k credit) ≡ hart_at s (aside h d ws p) k credit
-hart_passed s p h k credit d ws = refl
-
 -- so the parts stand as the plain machine does
 pub tied_passed : (s : Setting) (p : Plain) (h : ℕ) (d : Done) (took : Bool) (barrier : Option Barrier) (ws : List Write) (m m' : Parts)
     → IsTied s p m → d.took ≡ took → d.barrier ≡ barrier → ArePassed h took barrier ws m.harts.items m'.harts.items
@@ -84,7 +71,6 @@ tied_passed s p h d took barrier ws m m' tied took_is barrier_is passed pages ke
       ∙ ap (option_map (passed_by k h took barrier ws)) (tied.harts k lt)
       ∙ ap (λ b. Some (passed_by k h b barrier ws (hart_at s p k (credit_of m.harts.items k)))) (sym took_is)
       ∙ ap (λ (b : Option Barrier). Some (passed_by k h d.took b ws (hart_at s p k (credit_of m.harts.items k)))) (sym barrier_is)
-      ∙ ap Some (hart_passed s p h k (credit_of m.harts.items k) d ws)
       ∙ ap (λ n. Some (hart_at s (aside h d ws p) k n)) (sym credit);
   pages = rw pages tied.pages;
   readable = rw pages tied.readable;

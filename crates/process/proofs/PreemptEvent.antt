@@ -1,10 +1,9 @@
 -- The thread that leaves a hart.
-use Rattle.process.proofs.Common.{◌≡◌, sym, ap, ◌∙◌, true, false, eqb, Some, None, get_or, list_any, option_map_or, Scheduling, is_live, is_ready_state, state_of, Entry, Hart, HartState, IsPlace, Parts, Running, Stand, credit_of, entry_from, file_on, hart_at, here_at, refusal_of, runs, number_of, ready_listed, running_is}
+use Rattle.process.proofs.Common.{live_in, ◌≡◌, sym, ap, ◌∙◌, true, false, eqb, Some, None, get_or, list_any, option_map_or, Scheduling, is_live, is_ready_state, state_of, Entry, Hart, HartState, IsPlace, Parts, Running, Stand, credit_of, entry_from, file_on, hart_at, here_at, refusal_of, runs, number_of, ready_listed, running_is}
 use Rattle.mach_types.specs.Kernel.Scheduling.{is_of}
 use Rattle.mach_types.specs.declared.events.Choice.TheVariants as asked
 use Rattle.mach_types.specs.declared.events.Kind.TheVariants as kind
 use Rattle.process.proofs.Entries.{entry_here, leaver}
-use Rattle.process.proofs.StuckProcess.{live_with}
 use Rattle.process.proofs.Places.{hart_is, tables_at}
 
 -- the entry names the thread that runs on the hart, which is live and held, and isn't in the ready list; its file is the hart's
@@ -29,7 +28,7 @@ leaving v m h x e place free value is =
     let sc = v.plain.kernel.scheduling in
     let tables = tables_at v m h.0 place in
     let state = running_is harts h.0 e.tid.0 ts sc tables at in
-    let live = live_with e.tid.0 (Running h) ts state in
+    let live = live_in e.tid.0 ts (Running h) state in
     record {
       own = own;
       at = at;

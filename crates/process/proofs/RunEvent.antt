@@ -1,5 +1,6 @@
 -- A thread that begins to run, and one that stays ready since the process is killed first.
-use Rattle.process.proofs.Common.{◌≡◌, ◌≢◌, ℕ, suc, ◌<◌, List, [], ◌∷◌, find, map, length, get_or, slice_get, refl, sym, ap, ◌∙◌, subst, arith, Bool, true, false, cond, eqb, Option, Some, None, ◌⊎◌, inl, inr, list_any, IsStrictlyIncreasing, IsSome, option_map, option_map_or, cases_eq, eqb-true, ne_eqb, AllPairs-from_increasing, area_of, lowest_cid, AreSaved, Area, Done, Hart, HartState, Here, IsPlace, IsUncounted, IsWritten, Kernel, Map, Outcome, Parts, Saved, Stand, Write, counted, credit_of, file_among, files_interrupted, hart_at, harts_that, here_at, holds, interruption_here, lost_unless, refusal_of, Scheduling, without_ready, Thread, Threads, is_ready, is_ready_state, is_thread, state_if, state_of, with_state, Tid, Killed, SIGSEGV, ThreadState, Ready, Running, entered, IsTable, Table, saved_of, with_saved, emptied, is_kept, saved_of_others, areas_by_number, HoldsTables, done_killed, done_run, done_running, lives_on, id_of, next_id, with_id, ready_listed, HasHart, IsChanged, IsReadied, IsWaiting, begun_without}
+use Rattle.process.proofs.Common.{◌≡◌, ◌≢◌, ℕ, suc, ◌<◌, List, [], ◌∷◌, find, map, length, get_or, slice_get, refl, sym, ap, ◌∙◌, subst, arith, Bool, true, false, cond, eqb, Option, Some, None, inl, inr, list_any, IsStrictlyIncreasing, option_map, option_map_or, cases_eq, eqb-true, ne_eqb, AllPairs-from_increasing, area_of, lowest_cid, AreSaved, Area, Done, Hart, HartState, Here, IsPlace, IsUncounted, IsWritten, Kernel, Map, Outcome, Parts, Saved, Stand, Write, counted, credit_of, file_among, files_interrupted, hart_at, harts_that, here_at, holds, interruption_here, lost_unless, refusal_of, Scheduling, without_ready, Thread, Threads, is_ready, is_ready_state, is_thread, state_if, state_of, with_state, Tid, Killed, SIGSEGV, ThreadState, Ready, Running, entered, IsTable, Table, saved_of, with_saved, is_kept, saved_of_others, areas_by_number, HoldsTables, done_killed, done_run, done_running, lives_on, id_of, next_id, with_id, ready_listed, HasHart, IsChanged, IsReadied, IsWaiting, begun_without}
+use Rattle.std.specs.Option.{IsSome}
 use Rattle.mach_types.proofs.Laws.{state_of-with_state_same}
 use Rattle.mach_types.specs.Kernel.Threads.{is_running_state, numbers}
 use Rattle.mach_types.specs.declared.events.Choice.TheVariants as asked
@@ -14,7 +15,7 @@ use Rattle.process.proofs.Entries.{uncounted_as}
 use Rattle.process.proofs.HartEvents.{killed_own, run_own}
 use Rattle.process.proofs.ConcurrencyIds.{held_here, id_with_other, id_with_same, ready_apart}
 use Rattle.process.proofs.Interruptions.{begun_beside}
-use Rattle.process.proofs.SavedFiles.{saved_ran}
+use Rattle.process.proofs.SavedFiles.{saved_ran, none_kept, saved_but_one}
 use Rattle.process.proofs.Memory.{pages_written, readable_written}
 use Rattle.process.proofs.StuckProcess.{not_stuck, ready_live}
 use Rattle.process.proofs.Places.{bytes_at, goes_on, still_there, tables_at, writable_at}
@@ -64,10 +65,8 @@ pub state_ready : (t : ℕ) (ts : Threads) → is_ready t ts ≡ true → state_
 state_ready t ts is = go (state_of t ts) is
   where
     go : (o : Option ThreadState) → option_map_or is_ready_state o false ≡ true → o ≡ Some Ready
-    go None e = cc
     go (Some ThreadState.Ready) e = refl
-    go (Some (ThreadState.Running k)) e = cc
-    go (Some (ThreadState.Waiting at)) e = cc
+    go o e = cc
 
 -- something is saved of a thread that may begin to run
 pub starter_is_saved : (v : Stand) (m : Parts) (h : Hart) (t : Tid) → IsPlace v m h.0 → refusal_of (asked.Run t) (here_at v h.0) ≡ None
@@ -85,28 +84,19 @@ starter_is_saved v m h t place free o read none =
 
 -- an interruption sets the file of no other thread
 pub file_other : (here : Here) (t u : ℕ) (o : Outcome) (f : Saved) → u ≢ t → file_among (files_interrupted here t o) u f ≡ f
-file_other here t u comes_to.Nothing f other = refl
-file_other here t u comes_to.Cleared f other = refl
 file_other here t u (comes_to.Aborted at) f other = rw (ne_eqb t u (λ e. other (sym e))) refl
-file_other here t u (comes_to.Killed why) f other = refl
+file_other here t u o f other = refl
 
 -- what is kept after it: nothing of a thread that runs, and the file of one that is ready again
 kept_running : (f g : ℕ → Saved) (t : ℕ) (old new : Table) → new.saved ≡ with_saved t None old.saved → ((u : ℕ) → u ≢ t → g u ≡ f u) → AreSaved f old → AreSaved g new
-kept_running f g t old new is same saved u x at = go (cases_eq u t)
-  where
-    go : (u ≡ t) ⊎ (u ≢ t) → x ≡ g u
-    go (inl e) =
-        let none : saved_of u new.saved ≡ None = ap (saved_of u) is ∙ ap (λ n. saved_of n (with_saved t None old.saved)) e ∙ emptied t old.saved in
-        let bad : None ≡ Some x = sym none ∙ at in absurd (cc)
-    go (inr ne) = saved_ran f t old new is saved u x at ∙ sym (same u ne)
+kept_running f g t old new is same saved = saved_but_one f g t new (none_kept t old new is) same (saved_ran f t old new is saved)
 
 kept_again : (f g : ℕ → Saved) (t : ℕ) (y : Saved) (old mid new : Table) → mid.saved ≡ with_saved t None old.saved → new.saved ≡ with_saved t (Some y) mid.saved → y ≡ g t
     → ((u : ℕ) → u ≢ t → g u ≡ f u) → AreSaved f old → AreSaved g new
-kept_again f g t y old mid new was is own same saved u x at = go (cases_eq u t)
-  where
-    go : (u ≡ t) ⊎ (u ≢ t) → x ≡ g u
-    go (inl e) = rw e (is_kept t y x mid.saved (ap (saved_of t) (sym is) ∙ ap (λ n. saved_of n new.saved) (sym e) ∙ at) ∙ own)
-    go (inr ne) = saved_ran f t old mid was saved u x (sym (saved_of_others t u ne (Some y) mid.saved) ∙ ap (saved_of u) (sym is) ∙ at) ∙ sym (same u ne)
+kept_again f g t y old mid new was is own same saved u x at = elim (cases_eq u t) [
+  | inl e ↦ rw e (is_kept t y x mid.saved (ap (saved_of t) (sym is) ∙ ap (λ n. saved_of n new.saved) (sym e) ∙ at) ∙ own)
+  | inr ne ↦ saved_ran f t old mid was saved u x (sym (saved_of_others t u ne (Some y) mid.saved) ∙ ap (saved_of u) (sym is) ∙ at) ∙ sym (same u ne)
+]
 
 -- THE PARTS AFTER IT
 

@@ -1,11 +1,14 @@
 -- A signal that is delivered: what is kept of the signals, the handler that is entered or isn't, and the parts after it.
-use Rattle.process.proofs.Common.{◌≡◌, ◌≢◌, ℕ, zero, suc, ◌-◌, ◌≤◌, List, [], ◌∷◌, ◌++◌, append-nil, map, find, set, get_or, refl, sym, ap, ◌∙◌, subst, arith, Bool, true, false, not, cond, eqb, eq-eqb, ◌&&◌, ◌||◌, Option, Some, None, slice_get, ◌⊎◌, inl, inr, list_any, option_map, option_map_or, cases_eq, le-ltb, ne_eqb, Area, Done, Here, IsWritten, Outcome, Parts, Saved, Write, area_here, byte_in, can_write_in, file_among, interruption_here, is_writable, lost_unless, BadWhy, Action, ThreadSignals, SIGSEGV, area_of, interruption, pc_after, writes_of, can_write_frame, frame_writes, Signalling, action_of, is_handler, is_ignored, is_ignored_by_default, is_of, mask_of, areas_by_number, done_delivery, dropped_if_ignored, file_interrupted, handled_unless_killed, kills, kills_unhandled, IsDelivered, IsInterrupted, done_here, killer_of}
+use Rattle.process.proofs.Common.{and_right, ◌≡◌, ◌≢◌, ℕ, zero, suc, ◌-◌, ◌≤◌, List, [], ◌∷◌, ◌++◌, append-nil, map, find, set, get_or, refl, sym, ap, ◌∙◌, subst, arith, Bool, true, false, not, cond, eqb, eq-eqb, ◌||◌, Option, Some, None, slice_get, ◌⊎◌, inl, inr, list_any, option_map, option_map_or, cases_eq, le-ltb, ne_eqb, Area, Done, Here, IsWritten, Outcome, Parts, Saved, Write, area_here, byte_in, can_write_in, file_among, interruption_here, is_writable, lost_unless, BadWhy, Action, SIGSEGV, area_of, interruption, pc_after, writes_of, can_write_frame, frame_writes, Signalling, action_of, is_handler, is_ignored, is_ignored_by_default, mask_of, areas_by_number, done_delivery, dropped_if_ignored, file_interrupted, handled_unless_killed, kills, kills_unhandled, IsDelivered, IsInterrupted, done_here, killer_of}
+use Rattle.process.proofs.Events.{lost_nothing}
+use Rattle.mach_types.specs.declared.signal_words.ThreadSignals.{ThreadSignals}
+use Rattle.mach_types.specs.Kernel.Signals.{is_of}
 use Rattle.mach_types.specs.declared.sequences.Outcome.TheVariants as comes_to
 use Rattle.mach_types.specs.Kernel.SignalFrames.{entered, entered_action, has_flag}
 use Rattle.mach_types.specs.Kernel.Signals.{acted, default_action, dropped, is_held, refuses_action, set_action, take_if, without_pending, without_signal}
 use Rattle.block_model.specs.Events.Signal.{signals_handled, signals_taken}
 use Rattle.process.specs.Delivering.{IsEntered}
-use Rattle.process.proofs.Interruptions.{file_is, is_fatal, lost_nothing, lost_twice, none_written, written_both}
+use Rattle.process.proofs.Interruptions.{file_is, is_fatal, lost_twice, none_written, written_both}
 
 -- SIGNALS
 
@@ -79,9 +82,7 @@ handler_heeded : (a : Action) → is_handler a ≡ true → eqb a.at 1 ≡ false
 handler_heeded a is = go (eqb a.at 0) (eqb a.at 1) is
   where
     go : (default ignored : Bool) → not (default || ignored) ≡ true → ignored ≡ false
-    go true ignored e = cc
-    go false true e = cc
-    go false false e = refl
+    go default ignored e = grind arith
 
 entered_heeded : (a : Action) → is_handler a ≡ true → eqb (entered_action a).at 1 ≡ false
 entered_heeded a is = go (has_flag a.flags 0x80000000)
@@ -98,11 +99,7 @@ kept_where_refused t s g g' lowest highest handler is refused =
       | inl its ↦ ap (λ (b : Action). eqb b.at 1) (ap (action_of s) is ∙ its) ∙ entered_heeded (action_of s g) handler
       | inr none ↦ ap (λ (b : Action). eqb b.at 1) (ap (action_of s) is ∙ none)
     ] in
-    rw (heeded, never_by_default s a lowest highest refused) (no (eqb a.at 0))
-  where
-    no : (b : Bool) → (b && false) ≡ false
-    no true = refl
-    no false = refl
+    rw (heeded, never_by_default s a lowest highest refused) (and_right (eqb a.at 0) false refl)
 
 -- THE HANDLER
 
@@ -134,10 +131,8 @@ record IsDoneSo (here : Here) (t : ℕ) (x : Saved) (m m' : Parts) (d : Done) : 
 
 -- an interruption that finds nothing bad leaves it to the handler
 pub unhandled : (here : Here) (t s : ℕ) (o : Outcome) → is_fatal o ≡ false → kills here t s o ≡ kills_unhandled here t s o
-unhandled here t s comes_to.Nothing goes = refl
-unhandled here t s comes_to.Cleared goes = refl
-unhandled here t s (comes_to.Aborted at) goes = refl
 unhandled here t s (comes_to.Killed why) goes = cc
+unhandled here t s o goes = refl
 
 -- what is known once the thread was interrupted
 pub record IsHalfway (here : Here) (t h s : ℕ) (o : Outcome) (x x1 : Saved) (a : Option Area) (m m1 : Parts) : Type 0 where

@@ -1,5 +1,6 @@
 -- The event of a signal: who receives it, and the parts after it.
-use Rattle.process.proofs.Common.{◌≡◌, ◌≢◌, ℕ, List, [], ◌∷◌, append-nil, refl, sym, ap, ◌∙◌, subst, Bool, cond, eqb, not, is_some, length, Option, Some, None, slice_get, ◌⊎◌, inl, inr, option_and_then, option_map, cases_eq, ne_eqb, same_Some, AreSaved, Done, Hart, HartState, Here, IsPlace, IsUncounted, IsWritten, Kernel, Map, Outcome, Parts, Plain, Running, Saved, Setting, Stand, Store, Why, Write, area_of, counted, credit_of, done_of, file_among, file_on, hart_at, hart_in, here_at, here_in_plain, interruption_here, lost_unless, refusal_of, runs, state_of, thread, Idle, InBarrier, Waiting, IsTable, Table, saved_of, running_saves_nothing, HoldsTables, holds_signals, unless_in_barrier, unless_waiting, handled_unless_killed, kills, IsChanged, IsDelivered, IsInterrupted, done_here, ended_unless, next_on}
+use Rattle.process.proofs.Common.{◌≡◌, ◌≢◌, ℕ, List, [], ◌∷◌, append-nil, refl, sym, ap, ◌∙◌, subst, Bool, cond, eqb, not, is_some, length, Option, Some, None, slice_get, option_and_then, option_map, ne_eqb, same_Some, AreSaved, Done, Hart, HartState, Here, IsPlace, IsUncounted, IsWritten, Kernel, Map, Outcome, Parts, Plain, Running, Saved, Setting, Stand, Store, Why, Write, area_of, counted, credit_of, done_of, file_among, file_on, hart_at, hart_in, here_at, here_in_plain, interruption_here, lost_unless, refusal_of, runs, state_of, thread, Idle, InBarrier, Waiting, IsTable, Table, running_saves_nothing, HoldsTables, holds_signals, unless_in_barrier, unless_waiting, handled_unless_killed, kills, IsChanged, IsDelivered, IsInterrupted, done_here, ended_unless, next_on}
+use Rattle.process.proofs.SavedFiles.{saved_but_one}
 use Rattle.mach_types.specs.declared.events.Choice.TheVariants as asked
 use Rattle.mach_types.specs.declared.events.Why.TheVariants.{NoSignal}
 use Rattle.mach_types.specs.Kernel.Signals.{next_for}
@@ -85,13 +86,7 @@ delivered_own credit s p h t signal o (Some killer) saved x y at runs kept is = 
 
 -- nothing is kept of a thread that runs, whatever its file is
 pub kept_running : (f g : ℕ → Saved) (t : ℕ) (h : Hart) (table : Table) → IsTable table → state_of t table.threads ≡ Some (Running h) → ((u : ℕ) → u ≢ t → g u ≡ f u) → AreSaved f table → AreSaved g table
-kept_running f g t h table holds runs same saved u x at = go (cases_eq u t)
-  where
-    go : (u ≡ t) ⊎ (u ≢ t) → x ≡ g u
-    go (inl e) =
-        let none : saved_of u table.saved ≡ None = ap (λ n. saved_of n table.saved) e ∙ running_saves_nothing t h table holds runs in
-        let bad : None ≡ Some x = sym none ∙ at in absurd (cc)
-    go (inr ne) = saved u x at ∙ sym (same u ne)
+kept_running f g t h table holds runs = saved_but_one f g t table (running_saves_nothing t h table holds runs)
 
 -- a delivery sets the file of no other thread
 file_apart : (here : Here) (t s u : ℕ) (o : Outcome) (killer : Option ℕ) (f : Saved) → u ≢ t → file_among (handled_unless_killed here t s o killer).files u f ≡ f

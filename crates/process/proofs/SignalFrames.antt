@@ -1,5 +1,6 @@
 -- The frame of a handler on the stack: who loses a reservation of it, that it can be read, and where it lies.
-use Rattle.process.proofs.Common.{◌≡◌, ℕ, suc, ◌+◌, ◌*◌, ◌<◌, ◌≤◌, List, [], ◌∷◌, take, drop, set, length, refl, sym, ap, ◌∙◌, arith, Bool, true, false, ◌&&◌, is_some, Option, Some, None, inl, inr, option_map, and_parts, cases_lt, lt-ltb, le-ltb, length-set, take_all, after_writes, each_byte, each_byte-split, can_write_frame, frame_writes, stack_pointer, Action, HartState, IsWritten, Saved, lost_unless, IsAlike, Map, are_visible, byte_in, can_write_in, writable_is_visible, lost_after}
+use Rattle.process.proofs.Common.{nat_tests, ◌≡◌, ℕ, suc, ◌+◌, ◌*◌, List, [], ◌∷◌, take, drop, set, length, refl, sym, ap, ◌∙◌, arith, Bool, true, false, is_some, Option, Some, None, option_map, and_parts, length-set, take_all, after_writes, each_byte, can_write_frame, frame_writes, stack_pointer, Action, HartState, IsWritten, Saved, lost_unless, IsAlike, Map, are_visible, byte_in, can_write_in, writable_is_visible, lost_after, cond}
+use Rattle.mach_types.proofs.Laws.{each_byte-split}
 use Rattle.std.proofs.Common.{length-append}
 use Rattle.std.proofs.lemmas.List.{get_or-set_other, get_or-set_same}
 use Rattle.mach_types.specs.Kernel.SignalFrames.{frame_at, frame_words, handler_file, words_stored}
@@ -9,32 +10,14 @@ use Rattle.process.proofs.Interruptions.{written_by}
 
 -- RESERVATIONS
 
-hits : (r at size : ℕ) → 0 < size → r < at + size → at < r + 8 → has_reserved r at size ≡ true
-hits r at size some low high = rw (lt-ltb 0 size some, lt-ltb r (at + size) low, lt-ltb at (r + 8) high) refl
-
-and_none : (b : Bool) → (b && false) ≡ false
-and_none true = refl
-and_none false = refl
-
-lies_below : (r at size : ℕ) → at + size ≤ r → has_reserved r at size ≡ false
-lies_below r at size le = rw (le-ltb r (at + size) le) (and_none _)
-
-lies_above : (r at size : ℕ) → r + 8 ≤ at → has_reserved r at size ≡ false
-lies_above r at size le = rw (le-ltb at (r + 8) le, and_none _) (and_none _)
-
 -- 8 bytes and the run behind them are one run
 lost_more : (at n : ℕ) (r : Option ℕ) → lost_by (at + 8) n (lost_by at 8 r) ≡ lost_by at (8 + n) r
 lost_more at n None = refl
-lost_more at n (Some r) = elim (cases_lt r (at + 8)) [
-  | inl low ↦ elim (cases_lt at (r + 8)) [
-    | inl high ↦ rw (hits r at 8 (omega arith) low high, hits r at (8 + n) (omega arith) (omega (arith, low)) high) refl
-    | inr above ↦ rw (lies_above r at 8 above, lies_above r (at + 8) n (omega (arith, above)), lies_above r at (8 + n) above) refl
-  ]
-  | inr below ↦ elim (cases_lt r (at + 8 + n)) [
-    | inl low ↦ rw (lies_below r at 8 below, hits r (at + 8) n (omega (arith, below, low)) low (omega (arith, below)), hits r at (8 + n) (omega arith) (omega (arith, low)) (omega (arith, below))) refl
-    | inr past ↦ rw (lies_below r at 8 below, lies_below r (at + 8) n past, lies_below r at (8 + n) (omega (arith, past))) refl
-  ]
-]
+lost_more at n (Some r) = go (has_reserved r at 8) refl
+  where
+    go : (b : Bool) → has_reserved r at 8 ≡ b → lost_by (at + 8) n (cond b None (Some r)) ≡ lost_by at (8 + n) (Some r)
+    go true lost = grind (arith, nat_tests)
+    go false stays = grind (arith, nat_tests)
 
 -- words one behind the other are a run of bytes
 lost_words : (at : ℕ) (ws : List ℕ) (r : Option ℕ) → lost_after (words_stored at ws) r ≡ lost_by at (8 * length ws) r

@@ -1,5 +1,6 @@
 -- Signals at a place: they are kept of the thread on a hart, a fault's signal is one of 31, and which faults have handlers.
-use Rattle.process.proofs.Common.{◌≡◌, ℕ, ◌≤◌, ◌<◌, List, [], ◌∷◌, map, find, refl, sym, ap, ◌∙◌, arith, Bool, true, false, not, cond, eqb, ◌&&◌, ◌||◌, Option, Some, None, is_some, get_or, subst, ◌%◌, option_map, list_any, Entry, Effect, Hart, HartState, ImagePage, IsPlace, IsPlanned, IsTied, Next, Parts, Running, Saved, Stand, entry_from, here_at, runs, thread, Kind, Action, ThreadSignals, SIGSEGV, Signalling, action_of, is_handler, is_ignored, is_ignored_by_default, is_of, with_pending, Thread, Threads, is_live, is_thread, fault_in, fault_by, fetched, is_storable, reached, AreSignalsOfLive, running_is}
+use Rattle.process.proofs.Common.{live_in, ◌≡◌, ℕ, ◌≤◌, ◌<◌, List, sym, ap, ◌∙◌, arith, Bool, true, false, not, cond, eqb, ◌&&◌, ◌||◌, Option, Some, None, get_or, subst, ◌%◌, option_map, Entry, Effect, Hart, HartState, ImagePage, IsPlace, IsPlanned, IsTied, Next, Parts, Running, Saved, Stand, entry_from, here_at, runs, thread, Kind, Action, SIGSEGV, Signalling, action_of, is_handler, is_ignored, is_ignored_by_default, with_pending, fault_in, fault_by, fetched, is_storable, reached, running_is}
+use Rattle.sys_calls.proofs.ThreadSignals.{held_as_live}
 use Rattle.mach_types.specs.declared.signals.TheConstants.{SIGBUS}
 use Rattle.mach_types.specs.Kernel.Signals.{is_held, posted}
 use Rattle.rv_inst.specs.Class.{atomic_write, conditional_write, plain_read, plain_write, reserving_read}
@@ -11,25 +12,8 @@ use Rattle.block_model.specs.Standing.{IsStanding}
 use Rattle.process.specs.Delivering.{HasSignals}
 use Rattle.process.proofs.HartStates.{hart_there}
 use Rattle.process.proofs.Places.{hart_is, thread_is}
-use Rattle.process.proofs.StuckProcess.{live_with}
 
 -- THE THREAD ON A HART
-
-any_numbered : (t : ℕ) (xs : List ThreadSignals) → list_any (is_of t) xs ≡ list_any (λ u. eqb u t) (map (λ th. th.tid) xs)
-any_numbered t [] = refl
-any_numbered t (x ∷ xs) = ap (λ b. is_of t x || b) (any_numbered t xs)
-
-live_numbered : (t : ℕ) (xs : List Thread) → is_some (find (is_thread t) xs) ≡ list_any (λ u. eqb u t) (map (λ th. th.tid) xs)
-live_numbered t [] = refl
-live_numbered t (x ∷ xs) = go (is_thread t x) ∙ ap (λ b. is_thread t x || b) (live_numbered t xs)
-  where
-    go : (b : Bool) → is_some (cond b (Some x) (find (is_thread t) xs)) ≡ (b || is_some (find (is_thread t) xs))
-    go true = refl
-    go false = refl
-
--- where the signals are those of the live threads, those of a thread are kept where it is live
-pub held_as_live : (t : ℕ) (ts : Threads) (g : Signalling) → AreSignalsOfLive ts g → is_held t g ≡ is_live t ts
-held_as_live t ts g of = any_numbered t g.threads ∙ ap (list_any (λ u. eqb u t)) of ∙ sym (live_numbered t ts.live)
 
 -- a thread that runs on a hart of the machine is live, and so its signals are kept
 pub held_where_run : (v : Stand) (m : Parts) (h t : ℕ) → IsStanding v → IsTied v.setting v.plain m → h < v.setting.limits.harts
@@ -37,7 +21,7 @@ pub held_where_run : (v : Stand) (m : Parts) (h t : ℕ) → IsStanding v → Is
 held_where_run v m h t stands tied lt at =
     let k = v.plain.kernel in
     let state = running_is v.setting.limits.harts h t k.threads k.scheduling stands.sound.tables at in
-    ap (is_held t) tied.tables.signals ∙ held_as_live t k.threads k.signals stands.held.signals ∙ live_with t (Running (record { 0 = h })) k.threads state
+    ap (is_held t) tied.tables.signals ∙ held_as_live t k.threads k.signals stands.held.signals ∙ live_in t k.threads (Running (record { 0 = h })) state
 
 pub held_at : (v : Stand) (m : Parts) (h t : ℕ) → IsPlace v m h → runs (here_at v h) ≡ Some t → is_held t m.kernel.signals ≡ true
 held_at v m h t place at = held_where_run v m h t place.stands place.tied place.lt at
@@ -82,17 +66,14 @@ of_access byte can_write a =
     either a.must_align _ _ (either _ (unless_allowed (is_allowed byte can_write a)) (Some SIGBUS) allowed is_bus) allowed
 
 of_effect : (byte : ℕ → Option ℕ) (can_write : ℕ → Bool) (e : Effect) → IsSignal (fault_in byte can_write e)
-of_effect byte can_write (effect.Next rd value pc) = tt
 of_effect byte can_write (effect.Load at size is_signed rd) = of_access byte can_write (plain_read at size)
 of_effect byte can_write (effect.Store at size value) = of_access byte can_write (plain_write at size)
 of_effect byte can_write (effect.Amo op at size value rd) = of_access byte can_write (atomic_write at size)
 of_effect byte can_write (effect.Lr at size rd) = of_access byte can_write (reserving_read at size)
 of_effect byte can_write (effect.Sc at size value rd) = of_access byte can_write (conditional_write at size)
-of_effect byte can_write (effect.Fence full) = tt
-of_effect byte can_write effect.FenceI = tt
-of_effect byte can_write effect.Call = tt
 of_effect byte can_write effect.Break = (omega arith, omega arith)
 of_effect byte can_write effect.Misaligned = is_bus
+of_effect byte can_write e = tt
 
 of_fetch : (pc : ℕ) (word : Option ℕ) → IsSignal (Some (fetch_fault pc word))
 of_fetch pc None = at (eqb (pc % 4) 0)
@@ -121,9 +102,7 @@ pub handler_heeds : (s : ℕ) (a : Action) → is_handler a ≡ true → is_igno
 handler_heeds s a is = go (eqb a.at 0) (eqb a.at 1) (is_ignored_by_default s) is
   where
     go : (default ignored by_default : Bool) → not (default || ignored) ≡ true → (ignored || (default && by_default)) ≡ false
-    go true ignored by_default is = cc
-    go false true by_default is = cc
-    go false false by_default is = refl
+    go default ignored by_default is = grind arith
 
 -- so its signal becomes pending
 pub posted_handler : (t s : ℕ) (g : Signalling) → is_handler (action_of s g) ≡ true → posted t s g ≡ with_pending t s g

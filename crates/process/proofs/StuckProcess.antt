@@ -1,36 +1,22 @@
 -- A process with a thread that is ready or runs isn't stuck.
-use Rattle.process.proofs.Common.{◌≡◌, ℕ, List, [], ◌∷◌, map, find, refl, Bool, true, false, not, Option, Some, None, is_some, ◌&&◌, ◌||◌, nat_le, length, option_map, option_map_or, list_any, ThreadState, Thread, Threads, is_live, is_ready, is_ready_state, is_stuck, is_thread, state_if, state_of, with_state}
+use Rattle.process.proofs.Common.{◌≡◌, ℕ, List, [], ◌∷◌, map, find, refl, Bool, true, false, not, Option, Some, None, is_some, ◌&&◌, nat_le, length, option_map, option_map_or, list_any, ThreadState, Thread, Threads, is_live, is_ready, is_ready_state, is_stuck, is_thread, state_if, with_state}
+use Rattle.std.proofs.lemmas.Bool.{or_right}
 use Rattle.mach_types.specs.Kernel.Threads.{goes_on, is_waiting_state}
 
 and_false : (b c : Bool) → c ≡ true → (b && not c) ≡ false
-and_false true true is = refl
-and_false false true is = refl
-and_false true false is = cc
-and_false false false is = refl
+and_false b c is = grind arith
 
 -- a live thread that comes into a state in which it goes on
 any_goes_on : (t : ℕ) (st : ThreadState) (xs : List Thread) → not (is_waiting_state st) ≡ true → is_some (find (is_thread t) xs) ≡ true → list_any goes_on (map (state_if t st) xs) ≡ true
 any_goes_on t st [] goes live = cc
 any_goes_on t st (x ∷ xs) goes live = go (is_thread t x) refl (any_goes_on t st xs goes)
   where
-    or_true : (b c : Bool) → c ≡ true → (b || c) ≡ true
-    or_true true c is = refl
-    or_true false c is = is
-
     go : (b : Bool) → is_thread t x ≡ b → (is_some (find (is_thread t) xs) ≡ true → list_any goes_on (map (state_if t st) xs) ≡ true) → list_any goes_on (map (state_if t st) (x ∷ xs)) ≡ true
     go true is rest = rw (is, goes) refl
-    go false is rest = rw is (or_true (goes_on x) (list_any goes_on (map (state_if t st) xs)) (rest (rw is at live)))
+    go false is rest = rw is (or_right (goes_on x) (list_any goes_on (map (state_if t st) xs)) (rest (rw is at live)))
 
 pub not_stuck : (t : ℕ) (st : ThreadState) (ts : Threads) → not (is_waiting_state st) ≡ true → is_live t ts ≡ true → is_stuck (with_state t st ts) ≡ false
 not_stuck t st ts goes live = and_false (nat_le 1 (length (map (state_if t st) ts.live))) (list_any goes_on (map (state_if t st) ts.live)) (any_goes_on t st ts.live goes live)
-
--- a thread with a state is live
-pub live_with : (t : ℕ) (st : ThreadState) (ts : Threads) → state_of t ts ≡ Some st → is_live t ts ≡ true
-live_with t st ts is = go (find (is_thread t) ts.live) is
-  where
-    go : (o : Option Thread) → option_map (λ th. th.state) o ≡ Some st → is_some o ≡ true
-    go None e = cc
-    go (Some th) e = refl
 
 -- a ready thread is live
 pub ready_live : (t : ℕ) (ts : Threads) → is_ready t ts ≡ true → is_live t ts ≡ true

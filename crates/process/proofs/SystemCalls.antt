@@ -1,5 +1,6 @@
 -- A call of the thread on a hart.
-use Rattle.process.proofs.Common.{◌≡◌, ◌≢◌, ℕ, ◌+◌, ◌-◌, ◌<◌, ◌^◌, append-nil, length, inl, inr, refl, subst, sym, ap, ◌∙◌, arith, Bool, true, false, cond, ◌||◌, ◌⊎◌, Option, Some, None, get_or, option_map, option_or, false≢true, End, Hart, HartState, IsPlace, Next, Parts, Plain, Saved, Setting, Stand, Threads, asked_by, by_call, credit_of, done_of, file_among, file_on, hart_at, hart_in, harts_that, here_at, here_in_plain, id_on, is_busy, is_stuck, running_on, no_registers, Entry, barrier_of, gives_up, called, CallDone, running_harts, final, number_of, Barrier, runs, id_of, without_id, is_about, restarts_at, with_hart, is_inside_here, AreSignalsOfLive, IsTables, areas_by_number, entry_from, IsOwnStep, IsPlanned}
+use Rattle.process.proofs.Common.{◌≡◌, ◌≢◌, ℕ, ◌+◌, ◌-◌, ◌<◌, ◌^◌, append-nil, length, inl, inr, refl, subst, sym, ap, ◌∙◌, arith, Bool, true, false, cond, ◌||◌, ◌⊎◌, Option, Some, None, get_or, option_map, option_or, false≢true, End, Hart, HartState, IsPlace, Next, Parts, Plain, Saved, Setting, Stand, Threads, asked_by, by_call, credit_of, done_of, file_among, file_on, hart_at, hart_in, harts_that, here_at, here_in_plain, id_on, is_busy, is_stuck, running_on, no_registers, Entry, barrier_of, gives_up, called, CallDone, running_harts, final, number_of, Barrier, runs, id_of, without_id, is_about, restarts_at, with_hart, is_inside_here, IsTables, areas_by_number, entry_from, IsOwnStep, IsPlanned}
+use Rattle.block_model.specs.Tables.{AreSignalsOfLive}
 use Rattle.mach_types.specs.declared.events.Choice.TheVariants as asked
 use Rattle.mach_types.specs.declared.events.Kind.TheVariants as kind
 use Rattle.mach_types.specs.declared.limits.End.TheVariants as over
@@ -29,13 +30,8 @@ executed x = record x { ran = x.ran + 1; events = x.events + 1 }
 
 -- who gives up a hart began no barrier
 no_barrier : (end : CallEnd) → gives_up end ≡ true → barrier_of end ≡ None
-no_barrier (ends.Return answer) gives = cc
-no_barrier ends.Block gives = refl
-no_barrier (ends.Leave answer) gives = refl
-no_barrier ends.Resume gives = cc
 no_barrier (ends.Barrier targets restart) gives = cc
-no_barrier ends.ThreadEnd gives = refl
-no_barrier (ends.ProcessEnd e) gives = cc
+no_barrier end gives = refl
 
 abbrev targets_of : Option Barrier → Option ℕ → Option ℕ
 targets_of barrier waits = option_or (option_map (λ (b : Barrier). b.targets) barrier) waits

@@ -1,5 +1,5 @@
 -- The three words of an action: where they can be written, or read, they lie below 2^64.
-use Rattle.sys_calls.proofs.Common.{◌≡◌, ℕ, ◌+◌, ◌<◌, ◌≤◌, ◌^◌, Bool, true, false, ◌&&◌, is_some, refl, sym, ap, ◌∙◌, each_byte-past, each_byte-split, Here, IsRead, Map, Saved, byte_in, can_write_in, each_byte, are_readable, are_writable, pass_action, byte_in-ends, byte_in-readable, and_parts}
+use Rattle.sys_calls.proofs.Common.{and_right, ◌≡◌, ℕ, ◌+◌, ◌<◌, ◌≤◌, ◌^◌, Bool, true, false, ◌&&◌, is_some, refl, sym, ap, ◌∙◌, each_byte-past, each_byte-split, Here, IsRead, Map, Saved, byte_in, can_write_in, each_byte, are_readable, are_writable, pass_action, byte_in-ends, byte_in-readable, and_parts}
 use Rattle.mach_types.proofs.Laws.{each_byte-same}
 use Rattle.block_model.specs.Calls.Signals.{action_size}
 use Rattle.sys_calls.proofs.GuestMemory.{readable_is, writable_is}
@@ -23,14 +23,10 @@ pass_three test at all =
     record { first = front.0; second = front.1; third = words.1 }
 
 -- none of them can be written where the last one begins at 2^64 or later
-and_false : (b c : Bool) → c ≡ false → (b && c) ≡ false
-and_false true c e = e
-and_false false c e = refl
-
 pub unwritable_action : (m : Map) (at : ℕ) → 2 ^ 64 ≤ at + 16 → pass_action (can_write_in m) at ≡ false
 unwritable_action m at past =
     three_words (can_write_in m) at
-    ∙ and_false (each_byte (can_write_in m) at 8 && each_byte (can_write_in m) (at + 8) 8) (each_byte (can_write_in m) (at + 16) 8)
+    ∙ and_right (each_byte (can_write_in m) at 8 && each_byte (can_write_in m) (at + 8) 8) (each_byte (can_write_in m) (at + 16) 8)
     (each_byte-past (byte_in m) (can_write_in m) (byte_in-readable m) (byte_in-ends m) (at + 16) 7 past)
 
 -- where they can be read the last one ends at 2^64 or before

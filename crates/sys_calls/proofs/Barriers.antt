@@ -1,16 +1,15 @@
 -- membarrier(2): a command that begins a barrier registers nothing, and what the call comes to.
-use Rattle.sys_calls.proofs.Common.{◌≡◌, ℕ, Bool, false, cond, [], Option, Some, None, refl, sym, ap, subst, ◌∙◌, option_map_or, command, registered_after, CallEnd, EINVAL, Here, HoldsTables, IsCaller, IsEntered, Kernel, Map, Saved, Table, Threads, argument, file_among, int_argument, returned, running_on, runs, saved_of, without_id, Registered, signed_32, running_harts, AreSaved, HasPages, IsAnswer, IsMade, StandsSo, barrier_of, gives_up, process_end}
+use Rattle.sys_calls.proofs.Common.{◌≡◌, ℕ, Bool, false, cond, [], Option, Some, None, refl, sym, ap, subst, ◌∙◌, option_map_or, command, CallEnd, EINVAL, Here, HoldsTables, IsCaller, IsEntered, Kernel, Map, Saved, Table, Threads, argument, file_among, int_argument, returned, running_on, runs, saved_of, without_id, Registered, signed_32, running_harts, AreSaved, HasPages, IsAnswer, IsMade, StandsSo, barrier_of, gives_up, process_end, Answer, answers}
 use Rattle.mach_types.specs.Kernel.Barriers.{answer_of, refusal, registered_by}
 use Rattle.mach_types.specs.Kernel.Barriers as barriers
 use Rattle.mach_types.specs.Kernel.PairBarriers.{answer_beside}
-use Rattle.mach_types.specs.declared.barriers.Answer.{Answer}
 use Rattle.mach_types.specs.declared.barriers.Answer.TheVariants.{Value, Begin}
 use Rattle.mach_types.specs.declared.barriers.BarrierCommand.{BarrierCommand}
-use Rattle.mach_types.specs.declared.barriers.BarrierCommand.TheVariants.{Query, Global, GlobalExpedited, RegisterGlobalExpedited, PrivateExpedited, RegisterPrivateExpedited, PrivateExpeditedRseq, RegisterPrivateExpeditedRseq, GetRegistrations}
+use Rattle.mach_types.specs.declared.barriers.BarrierCommand.TheVariants.{RegisterGlobalExpedited, RegisterPrivateExpedited, RegisterPrivateExpeditedRseq}
 use Rattle.rv_inst.specs.Words.{sum_64, word}
 use Rattle.block_model.specs.Kernel.{for_barriers}
 use Rattle.block_model.specs.Record as record_of
-use Rattle.block_model.specs.Calls.Barriers.{answers, membarrier}
+use Rattle.block_model.specs.Calls.Barriers.{membarrier}
 use Rattle.sys_calls.proofs.KernelWrites.{entered_none, pages_kept}
 use Rattle.sys_calls.proofs.Laws.{holds_barriers}
 use Rattle.sys_calls.proofs.CallAnswers.{kept_own}
@@ -20,15 +19,10 @@ use Rattle.sys_calls.proofs.CallerTables.{caller_runs}
 begins_only : (r : Registered) (harts targets : ℕ) (restart : Bool) (o : Option BarrierCommand) → option_map_or (answer_of r harts) o (refusal EINVAL) ≡ Begin targets restart
     → option_map_or (registered_by r) o r ≡ r
 begins_only r harts targets restart None is = refl
-begins_only r harts targets restart (Some Query) is = refl
-begins_only r harts targets restart (Some Global) is = refl
-begins_only r harts targets restart (Some GlobalExpedited) is = refl
 begins_only r harts targets restart (Some RegisterGlobalExpedited) is = cc
-begins_only r harts targets restart (Some PrivateExpedited) is = refl
 begins_only r harts targets restart (Some RegisterPrivateExpedited) is = cc
-begins_only r harts targets restart (Some PrivateExpeditedRseq) is = refl
 begins_only r harts targets restart (Some RegisterPrivateExpeditedRseq) is = cc
-begins_only r harts targets restart (Some GetRegistrations) is = refl
+begins_only r harts targets restart (Some c) is = refl
 
 -- the command that a thread asks for
 abbrev asked : Here → ℕ → Option BarrierCommand
@@ -48,18 +42,13 @@ answer_asked h t =
 pub begins_only_beside : (r : Registered) (set : BarrierCommand → ℕ) (targets : ℕ) (restart : Bool) (o : Option BarrierCommand)
     → option_map_or (λ c. answer_beside r (set c) c) o (refusal EINVAL) ≡ Begin targets restart → option_map_or (registered_by r) o r ≡ r
 begins_only_beside r set targets restart None is = refl
-begins_only_beside r set targets restart (Some Query) is = refl
-begins_only_beside r set targets restart (Some Global) is = refl
-begins_only_beside r set targets restart (Some GlobalExpedited) is = refl
 begins_only_beside r set targets restart (Some RegisterGlobalExpedited) is = cc
-begins_only_beside r set targets restart (Some PrivateExpedited) is = refl
 begins_only_beside r set targets restart (Some RegisterPrivateExpedited) is = cc
-begins_only_beside r set targets restart (Some PrivateExpeditedRseq) is = refl
 begins_only_beside r set targets restart (Some RegisterPrivateExpeditedRseq) is = cc
-begins_only_beside r set targets restart (Some GetRegistrations) is = refl
+begins_only_beside r set targets restart (Some c) is = refl
 
 -- what is registered, whatever was answered
-registered_then : (h : Here) (t : ℕ) (r : Registered) (a : Answer) → a ≡ answer_asked h t → r ≡ option_map_or (registered_by h.kernel.barriers) (asked h t) h.kernel.barriers
+pub registered_then : (h : Here) (t : ℕ) (r : Registered) (a : Answer) → a ≡ answer_asked h t → r ≡ option_map_or (registered_by h.kernel.barriers) (asked h t) h.kernel.barriers
     → (answers h t a).kernel ≡ for_barriers r h.kernel
 registered_then h t r (Value n) is after = ap (λ (x : Registered). for_barriers x h.kernel) (sym after)
 registered_then h t r (Begin targets restart) is after =
@@ -99,11 +88,3 @@ made_answers h t here k r m saved' end a hart told has caller after own begun an
   ended = ends ∙ sym (ends_nothing h t a);
   answer = answered;
 }
-
-pub made_membarrier : (h : Here) (t here : ℕ) (k : Kernel) (r : Registered) (m : Map) (saved' : Saved) (end : CallEnd) (a : Answer) → h.hart ≡ here → HoldsTables k h.kernel → HasPages h m → IsCaller k here t
-    → a ≡ answer_asked h t → r ≡ registered_after h.kernel.barriers (signed_32 (argument h t 0)) (int_argument h t 1)
-    → saved' ≡ file_among (answers h t a).files t (h.file t) → barrier_of end ≡ (answers h t a).barrier → IsAnswer end saved'
-    → gives_up end ≡ false → ((u : ℕ) (ts : Threads) → runs ts u → StandsSo end u ts) → process_end end ≡ None → IsMade h t k m (record k { registered = r }) m saved' end (membarrier h t)
-made_membarrier h t here k r m saved' end a hart told has caller is after own begun answered stays runs_on ends =
-    subst (λ (x : Answer). IsMade h t k m (record k { registered = r }) m saved' end (answers h t x)) is
-    (made_answers h t here k r m saved' end a hart told has caller (registered_then h t r a is after) own begun answered stays runs_on ends)

@@ -1,6 +1,6 @@
 -- Calls whose threads go on: an answer, with bytes printed, or with writes; what a call comes to that answers, is refused or ends the
 -- process; and calls by which a thread leaves its hart.
-use Rattle.sys_calls.proofs.Common.{◌≡◌, ℕ, Bool, true, false, cond, eqb, List, [], ◌∷◌, ◌++◌, length, Some, None, Result, Err, refl, sym, ap, subst, ◌∙◌, Option, eqb-true, eqb-false, eq-eqb, CallEnd, Errno, Here, HoldsTables, IsRemapped, IsTables, Kernel, Map, Ready, Saved, Write, file_among, on, register, with_ready, without_id, Threads, running_on, runs, state_of, with_state, Table, saved_of, left, CallDone, refused, returned, said, wrote, running_is, state_now, AreTables, IsAnswered, IsCaller, IsEntered, AreSaved, HasPages, IsAnswer, IsMade, StandsSo, barrier_of, gives_up, process_end}
+use Rattle.sys_calls.proofs.Common.{cases_eq, ne_eqb, eq-eqb, ◌≡◌, ℕ, Bool, true, false, cond, List, [], ◌∷◌, ◌++◌, length, Some, None, Result, Err, refl, sym, ap, subst, ◌∙◌, CallEnd, Errno, Here, HoldsTables, IsRemapped, IsTables, Kernel, Map, Ready, Saved, Write, file_among, on, register, with_ready, without_id, Threads, running_on, runs, state_of, with_state, Table, saved_of, left, CallDone, refused, returned, said, wrote, running_is, state_now, AreTables, IsAnswered, IsCaller, IsEntered, AreSaved, HasPages, IsAnswer, IsMade, StandsSo, barrier_of, gives_up, process_end, inl, inr}
 use Rattle.std.proofs.Common.{pos}
 use Rattle.mach_types.specs.declared.limits.End.{End}
 use Rattle.kernel_threads.specs.Table.{forget, with_saved}
@@ -15,7 +15,7 @@ use Rattle.sys_calls.proofs.KernelWrites.{entered_none, pages_entered, pages_kep
 use Rattle.sys_calls.proofs.Laws.{holds_console, holds_past_pages, holds_left}
 use Rattle.sys_calls.proofs.CallerTables.{caller_runs, runs_there}
 
--- what is kept of threads hangs on what is saved alone
+-- what is kept of threads depends on what is saved alone
 pub saved_alike : (file : ℕ → Saved) (before after : Table) → after.saved ≡ before.saved → AreSaved file before → AreSaved file after
 saved_alike file before after same all u x at = all u x (ap (saved_of u) (sym same) ∙ at)
 
@@ -94,17 +94,12 @@ answered_remapped h t k m m' written answer c told done = record {
 }
 
 -- nothing is kept of the caller, whose file comes first
-own_kept : (t u : ℕ) (x f y : Saved) (others : List (ℕ × Saved)) (table : Table) → saved_of t table.saved ≡ None → saved_of u table.saved ≡ Some y
-    → y ≡ file_among others u f → (b : Bool) → eqb t u ≡ b → y ≡ cond b x (file_among others u f)
-own_kept t u x f y others table quiet at is true same =
-    let none : saved_of u table.saved ≡ None = ap (λ n. saved_of n table.saved) (sym (eqb-true t u same)) ∙ quiet in
-    let no : Some y ≡ None = sym at ∙ none in
-    cc
-own_kept t u x f y others table quiet at is false other = is
-
 pub kept_own : (t : ℕ) (x : Saved) (file : ℕ → Saved) (others : List (ℕ × Saved)) (table : Table) → saved_of t table.saved ≡ None
     → AreSaved (λ u. file_among others u (file u)) table → AreSaved (λ u. file_among ((t, x) ∷ others) u (file u)) table
-kept_own t x file others table quiet all u y at = own_kept t u x (file u) y others table quiet at (all u y at) (eqb t u) refl
+kept_own t x file others table quiet all u y at = elim (cases_eq t u) [
+  | inl same ↦ let no : Some y ≡ None = sym at ∙ ap (λ n. saved_of n table.saved) (sym same) ∙ quiet in cc
+  | inr ne ↦ rw (ne_eqb t u ne) (all u y at)
+]
 
 pub own_first : (t : ℕ) (x f : Saved) (others : List (ℕ × Saved)) → file_among ((t, x) ∷ others) t f ≡ x
 own_first t x f others = rw (eq-eqb t t refl) refl
@@ -170,30 +165,22 @@ made_ended h t here k m m' saved written ws e e' hart told file caller has enter
 
 -- what is kept of the others, once one is gone
 pub kept_gone : (t : ℕ) (file : ℕ → Saved) (before after : Table) → after.saved ≡ forget t before.saved → AreSaved file before → AreSaved file after
-kept_gone t file before after is all u x at = go (eqb u t) refl
-  where
-    there : saved_of u (forget t before.saved) ≡ Some x
-    there = ap (saved_of u) (sym is) ∙ at
-
-    go : (b : Bool) → eqb u t ≡ b → x ≡ file u
-    go true same =
-        let none : saved_of u (forget t before.saved) ≡ None = ap (λ n. saved_of n (forget t before.saved)) (eqb-true u t same) ∙ saved_of-forget_same t before.saved in
-        let no : Some x ≡ None = sym there ∙ none in
-        cc
-    go false other = all u x (sym (saved_of-forget_other t u (eqb-false u t other) before.saved) ∙ there)
+kept_gone t file before after is all u x at =
+    let there : saved_of u (forget t before.saved) ≡ Some x = ap (saved_of u) (sym is) ∙ at in
+    elim (cases_eq u t) [
+      | inl same ↦ let no : Some x ≡ None = sym there ∙ ap (λ n. saved_of n (forget t before.saved)) same ∙ saved_of-forget_same t before.saved in cc
+      | inr ne ↦ all u x (sym (saved_of-forget_other t u ne before.saved) ∙ there)
+    ]
 
 -- what is kept of a thread that left is its file
-left_one : (t u : ℕ) (x f y : Saved) (saved : List (ℕ × Option Saved)) → saved_of u (with_saved t (Some x) saved) ≡ Some y
-    → (saved_of u saved ≡ Some y → y ≡ f) → (b : Bool) → eqb t u ≡ b → y ≡ cond b x f
-left_one t u x f y saved at all true same =
-    is_kept t x y saved (ap (λ n. saved_of n (with_saved t (Some x) saved)) (eqb-true t u same) ∙ at)
-left_one t u x f y saved at all false other =
-    all (sym (saved_of_others t u (λ same. eqb-false t u other (sym same)) (Some x) saved) ∙ at)
-
 pub kept_left : (t : ℕ) (x : Saved) (file : ℕ → Saved) (before after : Table) → after.saved ≡ with_saved t (Some x) before.saved
     → AreSaved file before → AreSaved (λ u. file_among ((t, x) ∷ []) u (file u)) after
 kept_left t x file before after is all u y at =
-    left_one t u x (file u) y before.saved (ap (saved_of u) (sym is) ∙ at) (all u y) (eqb t u) refl
+    let there : saved_of u (with_saved t (Some x) before.saved) ≡ Some y = ap (saved_of u) (sym is) ∙ at in
+    elim (cases_eq t u) [
+      | inl same ↦ rw (eq-eqb t u same) (is_kept t x y before.saved (ap (λ n. saved_of n (with_saved t (Some x) before.saved)) same ∙ there))
+      | inr ne ↦ rw (ne_eqb t u ne) (all u y (sym (saved_of_others t u (λ e. ne (sym e)) (Some x) before.saved) ∙ there))
+    ]
 
 -- a call whose thread gave up its hart with the answer 0, and which changed the record so, but not its pages
 pub made_gone : (h : Here) (t here : ℕ) (k k' : Kernel) (m : Map) (saved' : Saved) (end : CallEnd) (after : record_of.Kernel) → h.hart ≡ here → HasPages h m → after.pages ≡ h.kernel.pages

@@ -1,5 +1,5 @@
 -- clone(2): a child is new, and is ready.
-use Rattle.sys_calls.proofs.Common.{◌≡◌, ◌≢◌, ℕ, ◌+◌, Bool, true, false, cond, eqb, [], ◌∷◌, Option, Some, None, is_some, refl, sym, ap, ◌∙◌, eqb-true, eqb-false, list_any, option_map, option_map_or, Scheduling, is_of, with_thread, IsThreads, Thread, Threads, is_full, is_live, is_ready_state, running_on, with_child, with_clear, AreSaved, AreTables, Here, Kernel, Ready, Saved, argument, file_among, IsTable, Table, saved_of, with_start, next_is_new, cleared, had_child, next_number, ready_listed}
+use Rattle.sys_calls.proofs.Common.{cases_eq, ne_eqb, eq-eqb, ◌≡◌, ◌≢◌, ℕ, ◌+◌, Bool, true, false, cond, eqb, [], ◌∷◌, Option, Some, None, is_some, refl, sym, ap, ◌∙◌, list_any, option_map, option_map_or, Scheduling, is_of, with_thread, IsThreads, Thread, Threads, is_full, is_live, is_ready_state, running_on, with_child, with_clear, AreSaved, AreTables, Here, Kernel, Ready, Saved, argument, file_among, IsTable, Table, saved_of, with_start, next_is_new, cleared, had_child, next_number, ready_listed, inl, inr}
 use Rattle.mach_types.specs.Kernel.Threads.{thread_of}
 use Rattle.mach_types.proofs.Laws.{state_of-with_child_same}
 use Rattle.kernel_threads.proofs.Laws.{saved_of-child, saved_of-with_start_other}
@@ -51,18 +51,15 @@ child_runs j parent k tables free = child_same tables.0 parent k.threads.threads
 -- what is kept, with what the child starts with
 pub kept_started : (file : ℕ → Saved) (t : ℕ) (x : Saved) (before after : Table) → IsTable before → t ≡ before.threads.given + 1 → after.saved ≡ with_start t x before.saved
     → AreSaved file before → AreSaved (λ u. file_among ((t, x) ∷ []) u (file u)) after
-kept_started file t x before after holds is same all u y at = go (eqb t u) refl
-  where
-    there : saved_of u (with_start t x before.saved) ≡ Some y
-    there = ap (saved_of u) (sym same) ∙ at
-
-    go : (b : Bool) → eqb t u ≡ b → y ≡ cond b x (file u)
-    go true own =
-        let first : saved_of t (with_start t x before.saved) ≡ Some x = ap (λ n. saved_of n (with_start n x before.saved)) is ∙ saved_of-child x before holds ∙ refl in
-        let read : saved_of t (with_start t x before.saved) ≡ Some y = ap (λ n. saved_of n (with_start t x before.saved)) (eqb-true t u own) ∙ there in
-        let e : Some y ≡ Some x = sym read ∙ first in
-        cc
-    go false other = all u y (sym (saved_of-with_start_other t u (λ e. eqb-false t u other (sym e)) x before.saved) ∙ there)
+kept_started file t x before after holds is same all u y at =
+    let there : saved_of u (with_start t x before.saved) ≡ Some y = ap (saved_of u) (sym same) ∙ at in
+    elim (cases_eq t u) [
+      | inl own ↦
+          let first : saved_of t (with_start t x before.saved) ≡ Some x = ap (λ n. saved_of n (with_start n x before.saved)) is ∙ saved_of-child x before holds ∙ refl in
+          let e : Some y ≡ Some x = sym there ∙ ap (λ n. saved_of n (with_start t x before.saved)) (sym own) ∙ first in
+          rw (eq-eqb t u own) (cc)
+      | inr ne ↦ rw (ne_eqb t u ne) (all u y (sym (saved_of-with_start_other t u (λ e. ne (sym e)) x before.saved) ∙ there))
+    ]
 
 pub quiet_started : (t u : ℕ) (x : Saved) (before after : Table) → t ≢ u → after.saved ≡ with_start u x before.saved → saved_of t before.saved ≡ None → saved_of t after.saved ≡ None
 quiet_started t u x before after ne same none = ap (saved_of t) same ∙ saved_of-with_start_other u t ne x before.saved ∙ none

@@ -3,7 +3,7 @@ pub use Rattle.block_model.proofs.Laws.{longest_waits, ready_listed, running_is,
 pub use Rattle.block_model.specs.Calls.{call_of, called}
 pub use Rattle.block_model.specs.Calls.Affinity.{moved_off, sched_setaffinity}
 pub use Rattle.block_model.specs.Calls.Answers.{CallDone, Errors, are_readable, are_writable, argument, call_number, double_written, int_argument, killed_in_call, number_at, refused, returned, said, unless}
-pub use Rattle.block_model.specs.Calls.Barriers.{running_harts}
+pub use Rattle.block_model.specs.Calls.Barriers.{answers, running_harts}
 pub use Rattle.block_model.specs.Calls.Cloning.{clone_child_cleartid, clone_child_settid, clone_parent_settid, has_flag}
 pub use Rattle.block_model.specs.Calls.Console.{Span, all_readable, bytes_from, bytes_of, is_elsewhere, room, spans_at, total, wrote}
 pub use Rattle.block_model.specs.Calls.Ending.{ended_with}
@@ -20,14 +20,15 @@ pub use Rattle.kernel_threads.specs.Table.{IsTable, Table, answering, saved_of, 
 pub use Rattle.mach_types.proofs.Laws.{each_byte-past, each_byte-split, next_is_new}
 pub use Rattle.mach_types.specs.Bytes.{after_writes, each_byte, word_at, written}
 pub use Rattle.mach_types.specs.Kernel.Areas.{Words, are_words_writable, area_of, without_area, words_entered, words_on, words_unregistered, words_written}
-pub use Rattle.mach_types.specs.Kernel.Barriers.{command, registered_after}
+pub use Rattle.mach_types.specs.Kernel.Barriers.{command}
 pub use Rattle.mach_types.specs.Kernel.PageCalls.{break_run, permission_for}
-pub use Rattle.mach_types.specs.Kernel.Pages.{PageRun, Pages, is_in, permission_at, permission_of, run, zeros_of}
+pub use Rattle.mach_types.specs.Kernel.Pages.{PageRun, Pages, can_read, is_in, permission_at, permission_of, run, zeros_of}
 pub use Rattle.mach_types.specs.Kernel.Scheduling.{Scheduling, affinity_of, is_of, with_ready, with_thread}
 pub use Rattle.mach_types.specs.Kernel.SignalFrames.{frame_read}
 pub use Rattle.mach_types.specs.Kernel.Signals.{Signalling, action_of, mask_of, next_for, posted, refuses_action, refuses_how}
 pub use Rattle.mach_types.specs.Kernel.Threads.{IsThreads, Thread, Threads, is_full, is_live, is_ready_state, longest_waiter, running_on, runs, state_of, waits, with_child, with_clear, with_state, with_woken}
 pub use Rattle.mach_types.specs.Registers.{register}
+pub use Rattle.mach_types.specs.declared.barriers.Answer.{Answer}
 pub use Rattle.mach_types.specs.declared.barriers.Registered.{Registered}
 pub use Rattle.mach_types.specs.declared.errors.Errno.{Errno}
 pub use Rattle.mach_types.specs.declared.errors.TheConstants.{EAGAIN, EFAULT, EINVAL, ENOSPC, ESRCH}
@@ -43,7 +44,7 @@ pub use Rattle.page_map.specs.Map.{Map, break_in, break_start_in, byte_in, can_w
 pub use Rattle.page_map.specs.MapLaws.{byte_in-ends, byte_in-readable}
 pub use Rattle.rv_inst.specs.Words.{signed_32}
 pub use Rattle.std.proofs.Common.{Bool, Err, List, None, Ok, Option, Result, Some, [], ap, append-nil, append_assoc, arith, cond, eqb, false, inl, inr, is_some, leb, length, length-append, ltb, map, min, nat_lt, not, of_z, refl, rules, subst, suc, sym, take, to_z, true, unwrap_or, zero, ℕ, ℤ, ◌%◌, ◌&&◌, ◌*◌, ◌++◌, ◌+◌, ◌-◌, ◌/◌, ◌<◌, ◌^◌, ◌||◌, ◌∙◌, ◌∷◌, ◌≡◌, ◌≢◌, ◌≤◌}
-pub use Rattle.std.proofs.lemmas.Bool.{and_parts, cases_lt, eq-eqb, eqb-false, eqb-true, false≢true, le-leb, le-ltb, lt-leb, lt-ltb, ne_eqb}
+pub use Rattle.std.proofs.lemmas.Bool.{and_parts, and_right, cases_eq, cases_lt, cond-false, cond-true, eq-eqb, false≢true, le-leb, le-ltb, lt-leb, lt-ltb, ne_eqb, not_from_false, not_from_true}
 pub use Rattle.std.proofs.lemmas.Int.{of_z-to_z}
 pub use Rattle.std.proofs.lemmas.List.{length-map}
 pub use Rattle.std.specs.List.{list_any}

@@ -1,6 +1,5 @@
 -- futex(2), wake: one after the other, the longest waiting first.
-use Rattle.sys_calls.proofs.Common.{◌≡◌, ◌≢◌, ℕ, zero, suc, ◌+◌, ◌-◌, ◌<◌, Bool, true, false, cond, eqb, List, [], ◌∷◌, ◌++◌, length, map, Option, Some, None, refl, sym, ap, subst, ◌∙◌, arith, append_assoc, append-nil, length-append, inl, inr, eqb-true, eqb-false, eq-eqb, ne_eqb, option_map, option_map_or, AreSaved, Here, HoldsTables, IsTables, Ready, Saved, Scheduling, file_among, with_ready, Threads, is_live, longest_waiter, running_on, waits, with_woken, Table, answering, saved_of, with_answer, woken, answered_wait, wake, woken_same, IsOnward, IsWoken}
-use Rattle.std.proofs.lemmas.Bool.{cases_eq}
+use Rattle.sys_calls.proofs.Common.{◌≡◌, ◌≢◌, ℕ, zero, suc, ◌+◌, ◌-◌, ◌<◌, Bool, true, false, cond, eqb, List, [], ◌∷◌, ◌++◌, length, map, Option, Some, None, refl, sym, ap, subst, ◌∙◌, arith, append_assoc, append-nil, length-append, inl, inr, eq-eqb, ne_eqb, option_map, option_map_or, AreSaved, Here, HoldsTables, IsTables, Ready, Saved, Scheduling, file_among, with_ready, Threads, is_live, longest_waiter, running_on, waits, with_woken, Table, answering, saved_of, with_answer, woken, answered_wait, wake, woken_same, IsOnward, IsWoken, cases_eq}
 use Rattle.std.proofs.lemmas.List.{set-set}
 use Rattle.block_model.specs.Record.{Kernel}
 use Rattle.mach_types.specs.Kernel.Threads.{numbers}
@@ -76,13 +75,11 @@ kept_answered value u file file' before after is own others all v x at = elim (c
 
 -- nothing is saved of who had nothing saved
 pub quiet_woken : (value t u : ℕ) (before after : Table) → after.saved ≡ with_answer u value before.saved → saved_of t before.saved ≡ None → saved_of t after.saved ≡ None
-quiet_woken value t u before after is none = ap (saved_of t) is ∙ go (eqb u t) refl
-  where
-    go : (b : Bool) → eqb u t ≡ b → saved_of t (with_answer u value before.saved) ≡ None
-    go true same =
-        ap (λ n. saved_of n (with_answer u value before.saved)) (sym (eqb-true u t same)) ∙ saved_of-answered u value before.saved
-        ∙ ap (option_map (answering value)) (ap (λ n. saved_of n before.saved) (eqb-true u t same) ∙ none)
-    go false other = saved_of-with_answer_other u t (λ e. eqb-false u t other (sym e)) value before.saved ∙ none
+quiet_woken value t u before after is none = ap (saved_of t) is ∙ (elim (cases_eq u t) [
+  | inl same ↦ ap (λ n. saved_of n (with_answer u value before.saved)) (sym same) ∙ saved_of-answered u value before.saved
+      ∙ ap (option_map (answering value)) (ap (λ n. saved_of n before.saved) same ∙ none)
+  | inr ne ↦ saved_of-with_answer_other u t (λ e. ne (sym e)) value before.saved ∙ none
+])
 
 -- who runs isn't woken
 pub runs_alone : (harts h t at n : ℕ) (here : Here) (f : Saved) (k : Kernel) → IsTables harts k.threads k.scheduling → running_on h k.threads ≡ Some t

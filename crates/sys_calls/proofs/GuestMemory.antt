@@ -1,13 +1,5 @@
 -- What a rule reads of the page map and of the caller's registers, and the choice that a test makes.
-use Rattle.sys_calls.proofs.Common.{◌≡◌, ℕ, ◌+◌, ◌%◌, ◌^◌, Bool, true, false, not, cond, Option, is_some, unwrap_or, refl, ap, ◌∙◌, Here, IsRead, Map, Saved, byte_in, can_write_in, each_byte, register, word_at, argument, are_readable, are_writable, int_argument, number_at}
-
-pub if_true : {A : Type 0} (b : Bool) (x y : A) → b ≡ true → cond b x y ≡ x
-if_true true x y e = refl
-if_true false x y e = cc
-
-pub if_false : {A : Type 0} (b : Bool) (x y : A) → b ≡ false → cond b x y ≡ y
-if_false true x y e = cc
-if_false false x y e = refl
+use Rattle.sys_calls.proofs.Common.{cond-false, cond-true, not_from_false, not_from_true, ◌≡◌, ℕ, ◌+◌, ◌%◌, ◌^◌, Bool, true, false, not, cond, Option, is_some, unwrap_or, ap, ◌∙◌, Here, IsRead, Map, Saved, byte_in, can_write_in, each_byte, register, word_at, argument, are_readable, are_writable, int_argument, number_at}
 
 pub readable_is : (h : Here) (m : Map) (t : ℕ) (saved : Saved) → IsRead h m t saved → (at len : ℕ) → each_byte (λ a. is_some (byte_in m a)) at len ≡ are_readable h at len
 readable_is h m t saved read at len = ap (λ (byte : ℕ → Option ℕ). each_byte (λ a. is_some (byte a)) at len) read.bytes
@@ -35,16 +27,9 @@ writable_at h m t saved read at at' len p = writable_is h m t saved read at len 
 pub number_there : (h : Here) (m : Map) (t : ℕ) (saved : Saved) → IsRead h m t saved → (at at' size : ℕ) → at ≡ at' → unwrap_or (word_at (byte_in m) at size) 0 ≡ number_at h at' size
 number_there h m t saved read at at' size p = number_is h m t saved read at size ∙ ap (λ (a : ℕ). number_at h a size) p
 
--- what a test isn't
-pub not_false : (b : Bool) → b ≡ false → not b ≡ true
-not_false b e = ap not e
-
-pub not_true : (b : Bool) → b ≡ true → not b ≡ false
-not_true b e = ap not e
-
 -- a test that something holds refuses where it doesn't, and lets pass where it does
 pub unmet : {A : Type 0} {b : Bool} (x y : A) → b ≡ false → cond (not b) x y ≡ x
-unmet {b = b} x y e = if_true (not b) x y (not_false b e)
+unmet {b = b} x y e = cond-true (not b) x y (not_from_false b e)
 
 pub met : {A : Type 0} {b : Bool} (x y : A) → b ≡ true → cond (not b) x y ≡ y
-met {b = b} x y e = if_false (not b) x y (not_true b e)
+met {b = b} x y e = cond-false (not b) x y (not_from_true b e)

@@ -1,7 +1,7 @@
 -- Writes that enter memory: none, one, and one after others; and the pages of the process then.
-use Rattle.sys_calls.proofs.Common.{◌≡◌, ℕ, List, [], ◌∷◌, ◌++◌, Option, Some, None, refl, sym, ap, subst, ◌∙◌, option_map, written, CallDone, Here, IsEntered, Map, Write, byte_in, held_in, Pages, permission_at, HasPages, HoldsPages}
+use Rattle.sys_calls.proofs.Common.{can_read, ◌≡◌, ℕ, List, [], ◌∷◌, ◌++◌, Option, Some, None, refl, sym, ap, subst, ◌∙◌, option_map, written, CallDone, Here, IsEntered, Map, Write, byte_in, held_in, Pages, permission_at, HasPages, HoldsPages, Bool, true, false, ◌&&◌, cond}
 
-none_written : (o : Option ℕ) (a : ℕ) → o ≡ option_map (written [] a) o
+pub none_written : (o : Option ℕ) (a : ℕ) → o ≡ option_map (written [] a) o
 none_written None a = refl
 none_written (Some b) a = refl
 
@@ -20,7 +20,7 @@ written_twice : (v : List Write) (w : List Write) (a b : ℕ) → written w a (w
 written_twice [] w a b = refl
 written_twice (x ∷ v) w a b = written_twice v w a _
 
-twice : (v w : List Write) (a : ℕ) (o : Option ℕ) → option_map (written w a) (option_map (written v a) o) ≡ option_map (written (v ++ w) a) o
+pub twice : (v w : List Write) (a : ℕ) (o : Option ℕ) → option_map (written w a) (option_map (written v a) o) ≡ option_map (written (v ++ w) a) o
 twice v w a None = refl
 twice v w a (Some b) = ap Some (written_twice v w a b)
 
@@ -36,7 +36,16 @@ entered_twice m n o v w first second = record {
 }
 
 -- the byte that a page holds, where it is mapped
-over_held : (b : ℕ) (f : ℕ → ℕ) (o : Option ℕ) → option_map f (option_map (λ _. b) o) ≡ option_map (λ _. f b) o
+pub if_readable : (b : ℕ) (o : Option ℕ) → cond (can_read o) (option_map (λ _. b) o) None ≡ cond (can_read o) (Some b) None
+if_readable b None = refl
+if_readable b (Some permission) = refl
+
+pub both : (b c : Bool) → (c ≡ true → b ≡ true) → (b && c) ≡ c
+both true c only = refl
+both false true only = only refl
+both false false only = refl
+
+pub over_held : (b : ℕ) (f : ℕ → ℕ) (o : Option ℕ) → option_map f (option_map (λ _. b) o) ≡ option_map (λ _. f b) o
 over_held b f None = refl
 over_held b f (Some permission) = refl
 

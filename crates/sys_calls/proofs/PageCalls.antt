@@ -1,5 +1,6 @@
 -- Calls that change pages: what the page map holds after them, which writes they tell, and when they are refused.
-use Rattle.sys_calls.proofs.Common.{◌≡◌, ℕ, ◌+◌, ◌-◌, ◌/◌, ◌<◌, ◌≤◌, ◌&&◌, inl, inr, Bool, true, false, not, cond, eqb, leb, ltb, List, [], ◌∷◌, Option, Some, None, is_some, Result, Ok, Err, refl, sym, ap, subst, ◌∙◌, arith, option_map, and_parts, cases_lt, eqb-true, false≢true, le-leb, lt-ltb, ne_eqb, written, EINVAL, Errno, Here, IsRemapped, Write, PageRun, Pages, is_in, permission_of, run, zeros_of, break_run, permission_for, Map, break_in, break_start_in, free_in, held_in, permission_in, CallDone, argument, call_number, refused, said, mmap, zeros_if_mapped, HasPages, HoldsPages}
+use Rattle.sys_calls.proofs.Common.{◌≡◌, ℕ, ◌+◌, ◌-◌, ◌/◌, ◌<◌, ◌≤◌, ◌&&◌, inl, inr, Bool, true, false, not, cond, eqb, leb, ltb, List, [], ◌∷◌, Option, Some, None, is_some, Result, Ok, Err, refl, sym, ap, subst, ◌∙◌, arith, option_map, and_parts, cases_lt, false≢true, le-leb, lt-ltb, ne_eqb, written, EINVAL, Errno, Here, IsRemapped, Write, PageRun, Pages, is_in, permission_of, run, zeros_of, break_run, permission_for, Map, break_in, break_start_in, free_in, held_in, permission_in, CallDone, argument, call_number, refused, said, mmap, zeros_if_mapped, HasPages, HoldsPages, cond-false, cond-true}
+use Rattle.std.proofs.lemmas.Bool.{eqb-true}
 use Rattle.std.proofs.Common.{IsErr, IsErrAnd}
 use Rattle.std.proofs.lemmas.Bool.{leb-true, ltb-false, ltb-true}
 use Rattle.mach_types.specs.declared.kernel_words.TheConstants.{MOST_PROT}
@@ -10,7 +11,6 @@ use Rattle.page_map.specs.Map.{code_in, held_over}
 use Rattle.page_map.proofs.Laws.{IsProtectable, protectable}
 use Rattle.block_model.specs.Kernel.{paged}
 use Rattle.block_model.specs.Calls.Memory.{are_mapping_flags, changed_unless, mapped_or_refused, may_break, permission_here, taken_by, unless_refused}
-use Rattle.sys_calls.proofs.GuestMemory.{if_false, if_true}
 
 -- an error that `?` hands on
 pub passed_on : (x : Result ℕ Errno) (e : Errno) → IsErr x × IsErrAnd x (λ (d : Errno). d ≡ e) → x ≡ Err e
@@ -47,9 +47,9 @@ zeroed_empty r byte none = record {
 pub zeroed_run : (r : PageRun) (byte : ℕ → ℕ) → IsZeroed r (zeros_of r ∷ []) byte
 zeroed_run r byte = record {
   inside = λ a here.
-      let zero_there : written (zeros_of r ∷ []) a (byte a) ≡ 0 = zeros_of-at r a (byte a) ∙ if_true (is_in r (a / 4096)) 0 (byte a) here in
+      let zero_there : written (zeros_of r ∷ []) a (byte a) ≡ 0 = zeros_of-at r a (byte a) ∙ cond-true (is_in r (a / 4096)) 0 (byte a) here in
       ap (λ (v : ℕ). option_map (λ (x : ℕ). v) r.permission) (sym zero_there);
-  outside = λ a there. zeros_of-at r a (byte a) ∙ if_false (is_in r (a / 4096)) 0 (byte a) there;
+  outside = λ a there. zeros_of-at r a (byte a) ∙ cond-false (is_in r (a / 4096)) 0 (byte a) there;
 }
 
 zeroed_by : (r : PageRun) (byte : ℕ → ℕ) (b c : Bool) → is_some r.permission ≡ b → eqb r.count 0 ≡ c
@@ -354,7 +354,7 @@ module _ (h : Here) (t : ℕ) (m m' : Map) (has : HasPages h m) (at at' : ℕ) (
         by : (b : Bool) → may_move_break (break_start_in m) (free_in m) (break_in m) at ≡ b → IsRemapped h t m m' ws (Ok result) (brk_at h t at')
         by false may = brk_stays may (refused may)
         by true may =
-            brk_moves may (breaks ∙ if_true (may_move_break (break_start_in m) (free_in m) (break_in m) at) at (break_in m) may)
+            brk_moves may (breaks ∙ cond-true (may_move_break (break_start_in m) (free_in m) (break_in m) at) at (break_in m) may)
             (permissions may) (held may) (frees may) starts
 
 -- the prot of an argument
@@ -367,7 +367,7 @@ pub mmap_past_flags : (h : Here) (t : ℕ) (m m' : Map) (ws : List Write) (answe
     → IsRemapped h t m m' ws answer (mmap h t)
 mmap_past_flags h t m m' ws answer flags is may remapped_so =
     let taken : not (are_mapping_flags (argument h t 3)) ≡ false = ap (λ (f : ℕ). not (are_mapping_flags f)) (sym is) ∙ ap not may in
-    subst (λ (d : CallDone). IsRemapped h t m m' ws answer d) (sym (if_false (not (are_mapping_flags (argument h t 3))) _ _ taken)) remapped_so
+    subst (λ (d : CallDone). IsRemapped h t m m' ws answer d) (sym (cond-false (not (are_mapping_flags (argument h t 3))) _ _ taken)) remapped_so
 
 -- a break that grows over a page tells its zeros
 grown_run : (old new : ℕ) → old ≤ new → pages_of old < pages_of new

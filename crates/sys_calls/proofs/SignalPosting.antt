@@ -1,10 +1,9 @@
 -- tkill(2) and tgkill(2): a signal is posted, and a wait that it breaks is answered.
-use Rattle.sys_calls.proofs.Common.{◌≡◌, ℕ, Bool, true, false, not, ◌||◌, cond, eqb, [], ◌∷◌, None, is_some, ◌&&◌, Ok, refl, sym, ap, subst, ◌∙◌, ne_eqb, option_map_or, AreTables, CallDone, EINVAL, ESRCH, Here, HoldsTables, IsAnswered, Kernel, Map, Scheduling, file_among, int_argument, refused, returned, said, with_ready, Signalling, next_for, posted, Threads, is_live, running_on, state_of, waits, with_woken, Table, answering, with_answer, woken, is_below_one, post, send, tgkill, tkill, woken_same}
+use Rattle.sys_calls.proofs.Common.{◌≡◌, ℕ, Bool, true, false, not, ◌||◌, cond, eqb, [], ◌∷◌, None, is_some, ◌&&◌, Ok, refl, sym, ap, subst, ◌∙◌, ne_eqb, option_map_or, AreTables, CallDone, EINVAL, ESRCH, Here, HoldsTables, IsAnswered, Kernel, Map, Scheduling, file_among, int_argument, refused, returned, said, with_ready, Signalling, next_for, posted, Threads, is_live, running_on, state_of, waits, with_woken, Table, answering, with_answer, woken, is_below_one, post, send, tgkill, tkill, woken_same, cond-false, cond-true}
 use Rattle.mach_types.specs.Kernel.Threads.{is_waiting_state}
 use Rattle.kernel_threads.specs.Table.{interrupted}
 use Rattle.block_model.specs.Calls.Signals.{broken_wait, waits_in_vain, with_posted}
 use Rattle.sys_calls.proofs.KernelWrites.{entered_none}
-use Rattle.sys_calls.proofs.GuestMemory.{if_false, if_true}
 use Rattle.sys_calls.proofs.Laws.{holds_signals, holds_woken}
 use Rattle.sys_calls.proofs.FutexWakes.{quiet_woken, kept_answered}
 use Rattle.sys_calls.proofs.CallAnswers.{answered_changed, answered_with, own_first}
@@ -26,7 +25,7 @@ vain_as h u sig k g b told is e =
 pub answered_posted : (h : Here) (t u sig : ℕ) (k : Kernel) (g : Signalling) (m : Map) → HoldsTables k h.kernel → g ≡ posted u sig k.signals
     → waits_in_vain u (with_posted h u sig) ≡ false → IsAnswered h t k m (record k { signals = g }) m [] (Ok 0) (post h t u sig)
 answered_posted h t u sig k g m told signals not_vain =
-    subst (IsAnswered h t k m (record k { signals = g }) m [] (Ok 0)) (sym (if_false (waits_in_vain u (with_posted h u sig)) (broken h t u sig) (unbroken h t u sig) not_vain))
+    subst (IsAnswered h t k m (record k { signals = g }) m [] (Ok 0)) (sym (cond-false (waits_in_vain u (with_posted h u sig)) (broken h t u sig) (unbroken h t u sig) not_vain))
     (answered_changed h t k (record k { signals = g }) m m [] [] (Ok 0) (with_posted h u sig)
     (holds_signals told g (posted u sig h.kernel.signals) (signals ∙ ap (posted u sig) told.signals)) refl refl refl (entered_none m) refl refl)
 
@@ -37,7 +36,7 @@ pub answered_broken : (h : Here) (t u sig : ℕ) (k : Kernel) (table : Table) (g
     → IsAnswered h t k m (record k { threads = table; signals = g; ready = sc }) m [] (Ok 0) (post h t u sig)
 answered_broken h t u sig k table g sc m told tables waiting threads saved signals ready vain =
     let k' : Kernel = record k { threads = table; signals = g; ready = sc } in
-    subst (IsAnswered h t k m k' m [] (Ok 0)) (sym (if_true (waits_in_vain u (with_posted h u sig)) (broken h t u sig) (unbroken h t u sig) vain))
+    subst (IsAnswered h t k m k' m [] (Ok 0)) (sym (cond-true (waits_in_vain u (with_posted h u sig)) (broken h t u sig) (unbroken h t u sig) vain))
     (answered_with h t k k' m m [] [] (Ok 0) (woken u (with_posted h u sig)) (broken_wait h u ∷ [])
     (holds_woken (holds_signals told g (posted u sig h.kernel.signals) (signals ∙ ap (posted u sig) told.signals)) u table sc threads ready) refl refl
     (ap (λ (ts : Threads). running_on h.hart (with_woken u ts)) (sym told.threads) ∙ woken_same tables.0 u k.threads.threads k.ready tables.1 waiting h.hart

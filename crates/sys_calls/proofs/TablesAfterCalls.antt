@@ -1,6 +1,6 @@
 -- A call keeps what agrees in the tables. There is a place for any tables, page map and registers: so what each place says of a call
 -- holds of it.
-use Rattle.sys_calls.proofs.Common.{◌≡◌, ℕ, zero, suc, ◌+◌, ◌/◌, ◌%◌, ◌<◌, ◌≤◌, ◌&&◌, Bool, true, false, leb, ltb, List, [], ◌∷◌, Option, Some, None, refl, sym, ap, subst, ◌∙◌, inl, inr, arith, cases_lt, eq-eqb, le-leb, le-ltb, lt-leb, lt-ltb, option_map, option_map_or, PageRun, permission_of, CallEnd, HoldsTables, IsTables, Kernel, Saved, running_on, Map, break_in, break_start_in, free_in, held_in, permission_in, called, running_harts, Here, id_of, HasPages, IsMade, HoldSignals}
+use Rattle.sys_calls.proofs.Common.{◌≡◌, ℕ, zero, suc, ◌+◌, ◌/◌, ◌%◌, ◌<◌, ◌≤◌, ◌&&◌, true, false, leb, ltb, List, [], ◌∷◌, Option, Some, None, refl, sym, ap, subst, ◌∙◌, inl, inr, arith, cases_lt, eq-eqb, le-leb, le-ltb, lt-leb, lt-ltb, option_map, option_map_or, PageRun, permission_of, CallEnd, HoldsTables, IsTables, Kernel, Saved, running_on, Map, break_in, break_start_in, free_in, held_in, permission_in, called, running_harts, Here, id_of, HasPages, IsMade, HoldSignals, cond-false, cond-true, and_right}
 use Rattle.mach_types.specs.declared.events.Hart.{Hart}
 use Rattle.mach_types.specs.declared.events.Tid.{Tid}
 use Rattle.page_map.specs.Map.{Page, byte_at, page_in}
@@ -12,7 +12,6 @@ use Rattle.block_model.proofs.Laws.{IsAgreed, agreed_called}
 use Rattle.sys_calls.specs.Made.{IsAt}
 use Rattle.sys_calls.specs.Registered.{HoldAreas}
 use Rattle.sys_calls.proofs.Laws.{held_is, holds_itself, record_with}
-use Rattle.sys_calls.proofs.GuestMemory.{if_false, if_true}
 
 -- WHAT A CALL KEEPS
 
@@ -32,29 +31,25 @@ runs_below : Map → ℕ → List PageRun
 runs_below m zero = []
 runs_below m (suc n) = record { first = n; count = 1; permission = permission_in m n } ∷ runs_below m n
 
-none_and : (b : Bool) → (b && false) ≡ false
-none_and true = refl
-none_and false = refl
-
 runs_hold : (m : Map) (n k : ℕ) → k < n → permission_of (runs_below m n) k ≡ permission_in m k
 unfolding runs_below
 runs_hold m zero k lt = absurd (omega arith)
 runs_hold m (suc n) k lt = elim (cases_lt k n) [
   | inl less ↦
       let outside : (leb n k && ltb k (n + 1)) ≡ false = ap (λ b. b && ltb k (n + 1)) (lt-leb n k less) in
-      if_false (leb n k && ltb k (n + 1)) (permission_in m n) (permission_of (runs_below m n) k) outside ∙ runs_hold m n k less
+      cond-false (leb n k && ltb k (n + 1)) (permission_in m n) (permission_of (runs_below m n) k) outside ∙ runs_hold m n k less
   | inr least ↦
       let same : n ≡ k = omega arith in
       let inside : (leb n k && ltb k (n + 1)) ≡ true = ap (λ b. b && ltb k (n + 1)) (le-leb n k least) ∙ lt-ltb k (n + 1) (omega arith) in
-      if_true (leb n k && ltb k (n + 1)) (permission_in m n) (permission_of (runs_below m n) k) inside ∙ ap (permission_in m) same
+      cond-true (leb n k && ltb k (n + 1)) (permission_in m n) (permission_of (runs_below m n) k) inside ∙ ap (permission_in m) same
 ]
 
 runs_end : (m : Map) (n k : ℕ) → n ≤ k → permission_of (runs_below m n) k ≡ None
 unfolding runs_below
 runs_end m zero k past = refl
 runs_end m (suc n) k past =
-    let outside : (leb n k && ltb k (n + 1)) ≡ false = ap (λ b. leb n k && b) (le-ltb k (n + 1) (omega arith)) ∙ none_and (leb n k) in
-    if_false (leb n k && ltb k (n + 1)) (permission_in m n) (permission_of (runs_below m n) k) outside ∙ runs_end m n k (omega arith)
+    let outside : (leb n k && ltb k (n + 1)) ≡ false = ap (λ b. leb n k && b) (le-ltb k (n + 1) (omega arith)) ∙ and_right (leb n k) false refl in
+    cond-false (leb n k && ltb k (n + 1)) (permission_in m n) (permission_of (runs_below m n) k) outside ∙ runs_end m n k (omega arith)
 
 -- so many pages there are
 pub all_runs : Map → List PageRun

@@ -1,9 +1,9 @@
 -- The tests of a set, in their order.
-use Rattle.sys_calls.proofs.Common.{◌≡◌, ℕ, min, true, false, not, eqb, ◌||◌, inl, inr, [], ◌∷◌, Option, is_some, refl, sym, ap, ◌∙◌, eq-eqb, ne_eqb, EFAULT, ESRCH, Errors, Here, HoldsTables, IsRead, Kernel, Map, Saved, Threads, byte_in, each_byte, int_in, is_live, register, unless, sched_setaffinity, setaffinity_with}
+use Rattle.sys_calls.proofs.Common.{◌≡◌, ℕ, min, true, false, not, eqb, ◌||◌, inl, inr, [], ◌∷◌, Option, is_some, refl, sym, ap, ◌∙◌, eq-eqb, ne_eqb, EFAULT, ESRCH, Errors, Here, HoldsTables, IsRead, Kernel, Map, Saved, Threads, byte_in, each_byte, int_in, is_live, register, unless, sched_setaffinity, setaffinity_with, cond-false, cond-true}
 use Rattle.std.proofs.Common.{◌⊎◌}
 use Rattle.mach_types.specs.declared.errors.TheConstants.{EPERM}
 use Rattle.block_model.specs.Calls.Affinity.{set_at}
-use Rattle.sys_calls.proofs.GuestMemory.{argument_is, if_false, if_true, int_argument_is, met, unmet}
+use Rattle.sys_calls.proofs.GuestMemory.{argument_is, int_argument_is, met, unmet}
 use Rattle.sys_calls.proofs.affinity.asked_set.Goals as goal
 
 -- they are asked of the page map, of the threads and of the registers
@@ -39,18 +39,18 @@ pub returns-then-names_nobody-clause-refused : goal.returns-then-names_nobody-cl
 returns-then-names_nobody-clause-refused c = λ h told read.
     tests_are h c.args.kernel.now c.args.pages.now c.args.tid.0 c.args.saved.now told read c.int_argument-named.result c.int_argument-len.result c.argument-at.result c.from.result
     (set_at h c.argument-at.result c.int_argument-len.result) c.int_argument-named.ensures c.int_argument-len.ensures c.argument-at.ensures (c.from.ensures ∙ c.min.ensures) refl
-    ∙ met _ _ (sym c.readable.ensures ∙ c.if-not-readable.false) ∙ if_true _ _ _ (sym c.names_nobody.ensures ∙ c.if-names_nobody.true)
+    ∙ met _ _ (sym c.readable.ensures ∙ c.if-not-readable.false) ∙ cond-true _ _ _ (sym c.names_nobody.ensures ∙ c.if-names_nobody.true)
 
 pub returns-then-not-named-tid-clause-refused : goal.returns-then-not-named-tid-clause-refused
 returns-then-not-named-tid-clause-refused c = λ h told read.
     tests_are h c.args.kernel.now c.args.pages.now c.args.tid.0 c.args.saved.now told read c.int_argument-named.result c.int_argument-len.result c.argument-at.result c.from.result
     (set_at h c.argument-at.result c.int_argument-len.result) c.int_argument-named.ensures c.int_argument-len.ensures c.argument-at.ensures (c.from.ensures ∙ c.min.ensures) refl
-    ∙ met _ _ (sym c.readable.ensures ∙ c.if-not-readable.false) ∙ if_false _ _ _ (sym c.names_nobody.ensures ∙ c.if-names_nobody.false)
+    ∙ met _ _ (sym c.readable.ensures ∙ c.if-not-readable.false) ∙ cond-false _ _ _ (sym c.names_nobody.ensures ∙ c.if-names_nobody.false)
     ∙ unmet _ _ (other c.int_argument-named.result c.args.tid.0 c.if-not-named-tid.true)
 
 pub returns-clause-set : goal.returns-clause-set
 returns-clause-set c = λ h told read.
     tests_are h c.args.kernel.now c.args.pages.now c.args.tid.0 c.args.saved.now told read c.int_argument-named.result c.int_argument-len.result c.argument-at.result c.from.result
     c.set_at.result c.int_argument-named.ensures c.int_argument-len.ensures c.argument-at.ensures (c.from.ensures ∙ c.min.ensures) (c.set_at.ensures h c.args.tid.0 c.args.saved.now read)
-    ∙ met _ _ (sym c.readable.ensures ∙ c.if-not-readable.false) ∙ if_false _ _ _ (sym c.names_nobody.ensures ∙ c.if-names_nobody.false)
+    ∙ met _ _ (sym c.readable.ensures ∙ c.if-not-readable.false) ∙ cond-false _ _ _ (sym c.names_nobody.ensures ∙ c.if-names_nobody.false)
     ∙ met _ _ (own c.int_argument-named.result c.args.tid.0 c.if-not-named-tid.either)

@@ -1,8 +1,8 @@
 -- The hart and the node, where they are asked.
-use Rattle.sys_calls.proofs.Common.{◌≡◌, ℕ, ◌+◌, Bool, true, false, not, ◌&&◌, ◌||◌, eqb, List, ◌++◌, sym, ap, subst, ◌∙◌, Ok, Err, CallDone, EFAULT, Here, IsAnswered, IsEntered, Map, Write, argument, can_write_in, each_byte, is_writable, said, and_parts}
+use Rattle.sys_calls.proofs.Common.{◌≡◌, ℕ, ◌+◌, Bool, true, false, not, ◌&&◌, ◌||◌, eqb, List, ◌++◌, sym, ap, subst, ◌∙◌, Ok, Err, CallDone, EFAULT, Here, IsAnswered, IsEntered, Map, Write, argument, can_write_in, each_byte, is_writable, said, and_parts, cond-false, cond-true, not_from_false, not_from_true}
 use Rattle.block_model.specs.Calls.Affinity.{getcpu, is_usable, written_unless_zero}
 use Rattle.sys_calls.proofs.KernelWrites.{entered_twice}
-use Rattle.sys_calls.proofs.GuestMemory.{argument_is, if_false, if_true, not_false, not_true}
+use Rattle.sys_calls.proofs.GuestMemory.{argument_is}
 use Rattle.sys_calls.proofs.CallAnswers.{answered_said, answered_wrote}
 use Rattle.sys_calls.proofs.affinity.getcpu.Goals as goal
 
@@ -26,7 +26,7 @@ returns-then-not-are_usable-clause-answered c = λ h k t hart told read.
     let m = c.args.pages.now in
     let no = both_are h t m c.argument-cpu.result c.argument-node.result false read.writable (c.argument-cpu.ensures ∙ argument_is h t c.args.saved.now read.file 0) (c.argument-node.ensures ∙ argument_is h t c.args.saved.now read.file 1)
     (sym c.are_usable.ensures ∙ c.if-not-are_usable.true) in
-    let is = if_true (not (is_usable h (argument h t 0) && is_usable h (argument h t 1))) _ _ (not_false _ no) in
+    let is = cond-true (not (is_usable h (argument h t 0) && is_usable h (argument h t 1))) _ _ (not_from_false _ no) in
     subst (λ (w : List Write). IsAnswered h t k m k m w (Err EFAULT) (getcpu h t)) (sym c.requires) (answered_said h t k m (Err EFAULT) (getcpu h t) told is)
 
 pub write_unless_zero-requires-clause-usable : goal.write_unless_zero-requires-clause-usable
@@ -54,7 +54,7 @@ returns-clause-answered c = λ h k t hart told read.
     ap (λ (a : ℕ). written_unless_zero a c.from.result ++ w) cpu ∙ ap (λ (n : ℕ). written_unless_zero (argument h t 0) n ++ w) (c.from.ensures ∙ sym hart)
     ∙ ap (λ (a : ℕ). written_unless_zero (argument h t 0) h.hart ++ written_unless_zero a 0) node in
     let is : getcpu h t ≡ record (said h t 0) { entered = v ++ w } =
-    if_false (not (is_usable h (argument h t 0) && is_usable h (argument h t 1))) _ _ (not_true _ yes) ∙ ap (λ (ws : List Write). record (said h t 0) { entered = ws }) (sym writes) in
+    cond-false (not (is_usable h (argument h t 0) && is_usable h (argument h t 1))) _ _ (not_from_true _ yes) ∙ ap (λ (ws : List Write). record (said h t 0) { entered = ws }) (sym writes) in
     let done = answered_wrote h t k m m' (Ok 0) (v ++ w) told entered in
     subst (λ (ws : List Write). IsAnswered h t k m k m' ws (Ok 0) (getcpu h t)) (sym written)
     (subst (λ (d : CallDone). IsAnswered h t k m k m' (v ++ w) (Ok 0) d) (sym is) done)

@@ -1,5 +1,5 @@
 -- The thread's harts are others; where its own isn't among them it leaves.
-use Rattle.sys_calls.proofs.Common.{◌≡◌, ℕ, Bool, true, false, [], eqb, cond, refl, sym, ap, subst, ◌∙◌, Ok, list_any, eq-eqb, false≢true, ne_eqb, CallDone, EINVAL, Errno, Here, IsCaller, IsMade, IsTables, Kernel, refused, said, Scheduling, affinity_of, is_of, left, moved_off, setaffinity_with}
+use Rattle.sys_calls.proofs.Common.{◌≡◌, ℕ, Bool, true, false, [], eqb, cond, refl, sym, ap, subst, ◌∙◌, Ok, list_any, eq-eqb, false≢true, ne_eqb, CallDone, EINVAL, Errno, Here, IsCaller, IsMade, IsTables, Kernel, refused, said, Scheduling, affinity_of, is_of, left, moved_off, setaffinity_with, cond-false, cond-true}
 use Rattle.block_model.specs.Record as record_of
 use Rattle.mach_types.specs.Kernel.Scheduling.{harts_in, has_hart, with_affinity}
 use Rattle.scheduler.proofs.Laws.{affinity_of-changed}
@@ -7,7 +7,6 @@ use Rattle.block_model.specs.Kernel.{restricted}
 use Rattle.block_model.proofs.Laws.{tables_allowed}
 use Rattle.sys_calls.proofs.Laws.{holds_scheduling}
 use Rattle.sys_calls.proofs.CallAnswers.{made_left, made_answered, answered_changed, made_refused}
-use Rattle.sys_calls.proofs.GuestMemory.{if_false, if_true}
 use Rattle.sys_calls.proofs.CallerTables.{caller_held}
 use Rattle.sys_calls.proofs.affinity.restrict.Goals as goal
 use Rattle.sys_calls.proofs.KernelWrites.{entered_none}
@@ -43,7 +42,7 @@ chosen : (h : Here) (t asked harts here : ℕ) (b : Bool) → h.setting.limits.h
     → (after : record_of.Kernel) → moved_by b h t (harts_in asked harts) ≡ after → setaffinity_with h t asked ≡ record (said h t 0) { kernel = after }
 chosen h t asked harts here b count hart some at after is =
     let f = λ (n : ℕ). setaffinity_at n h t asked in
-    ap f count ∙ if_false (eqb (harts_in asked harts) 0) (refused h t EINVAL) _ some
+    ap f count ∙ cond-false (eqb (harts_in asked harts) 0) (refused h t EINVAL) _ some
     ∙ ap (λ (k : record_of.Kernel). record (said h t 0) { kernel = k }) (ap (λ (c : Bool). moved_by c h t (harts_in asked harts)) (ap (has_hart (harts_in asked harts)) hart ∙ at) ∙ is)
 
 pub leave-requires : goal.leave-requires
@@ -58,7 +57,7 @@ returns-in-Err c = record {
       let asked = c.args.set in
       let none : eqb (harts_in asked c.args.harts) 0 ≡ true = eq-eqb (harts_in asked c.args.harts) 0 (c.in-Err.ensures.no_hart.0 refl) in
       let is : setaffinity_with h t asked ≡ refused h t c.in-Err.errno =
-      ap (λ (n : ℕ). setaffinity_at n h t asked) count ∙ if_true (eqb (harts_in asked c.args.harts) 0) (refused h t EINVAL) _ none
+      ap (λ (n : ℕ). setaffinity_at n h t asked) count ∙ cond-true (eqb (harts_in asked c.args.harts) 0) (refused h t EINVAL) _ none
       ∙ ap (λ (e : Errno). refused h t e) (sym c.in-Err.ensures.errno) in
       let made = made_refused h t c.args.here.0 k m c.args.saved.now c.go_on.new.saved c.in-Err.errno c.go_on.result (setaffinity_with h t asked) hart told has file c.requires.caller is
       c.go_on.ensures.saved c.go_on.ensures.stays c.go_on.ensures.runs_on c.go_on.ensures.waits_in_none c.go_on.ensures.ends c.go_on.ensures.answer in

@@ -1,7 +1,7 @@
 -- The harts of the thread that is named.
-use Rattle.sys_calls.proofs.Common.{◌≡◌, ℕ, ◌%◌, Bool, true, false, not, ◌||◌, cond, eqb, List, [], ◌∷◌, ◌++◌, Ok, Err, nat_lt, refl, sym, ap, subst, ◌∙◌, EFAULT, EINVAL, ESRCH, Here, HoldsTables, IsAnswered, IsRead, Kernel, Map, Saved, Threads, Write, can_write_in, each_byte, int_in, is_live, register, Scheduling, affinity_of, CallDone, Errors, double_written, said, unless}
+use Rattle.sys_calls.proofs.Common.{◌≡◌, ℕ, ◌%◌, Bool, true, false, not, ◌||◌, cond, eqb, List, [], ◌∷◌, ◌++◌, Ok, Err, nat_lt, refl, sym, ap, subst, ◌∙◌, EFAULT, EINVAL, ESRCH, Here, HoldsTables, IsAnswered, IsRead, Kernel, Map, Saved, Threads, Write, can_write_in, each_byte, int_in, is_live, register, Scheduling, affinity_of, CallDone, Errors, double_written, said, unless, cond-false}
 use Rattle.block_model.specs.Calls.Affinity.{sched_getaffinity}
-use Rattle.sys_calls.proofs.GuestMemory.{argument_is, if_false, int_argument_is, met, unmet}
+use Rattle.sys_calls.proofs.GuestMemory.{argument_is, int_argument_is, met, unmet}
 use Rattle.sys_calls.proofs.CallAnswers.{answered_said, answered_wrote}
 use Rattle.sys_calls.proofs.affinity.sched_getaffinity.Goals as goal
 
@@ -40,8 +40,8 @@ returns-then-not-writable-clause-answered c = λ h told read.
     let m = c.args.pages.now in
     let is = tests_are h k m t c.args.saved.now told read c.int_argument-named.result c.int_argument-len.result c.argument-at.result
     c.int_argument-named.ensures c.int_argument-len.ensures c.argument-at.ensures
-    ∙ if_false _ _ _ (sized c.int_argument-len.result c.is_set_size.result c.is_set_size.ensures c.if-not-is_set_size.false)
-    ∙ if_false _ _ _ (sym c.names_nobody.ensures ∙ c.if-names_nobody.false) ∙ unmet _ _ (sym c.writable.ensures ∙ c.if-not-writable.true) in
+    ∙ cond-false _ _ _ (sized c.int_argument-len.result c.is_set_size.result c.is_set_size.ensures c.if-not-is_set_size.false)
+    ∙ cond-false _ _ _ (sym c.names_nobody.ensures ∙ c.if-names_nobody.false) ∙ unmet _ _ (sym c.writable.ensures ∙ c.if-not-writable.true) in
     subst (λ (w : List Write). IsAnswered h t k m k m w (Err EFAULT) (sched_getaffinity h t)) (sym c.requires.fresh) (answered_said h t k m (Err EFAULT) (sched_getaffinity h t) told is)
 
 pub returns-clause-answered : goal.returns-clause-answered
@@ -55,8 +55,8 @@ returns-clause-answered c = λ h told read.
     let is : sched_getaffinity h t ≡ record (said h t 8) { entered = ws } =
     tests_are h k c.args.pages.now t c.args.saved.now told read c.int_argument-named.result c.int_argument-len.result at
     c.int_argument-named.ensures c.int_argument-len.ensures c.argument-at.ensures
-    ∙ if_false _ _ _ (sized c.int_argument-len.result c.is_set_size.result c.is_set_size.ensures c.if-not-is_set_size.false)
-    ∙ if_false _ _ _ (sym c.names_nobody.ensures ∙ c.if-names_nobody.false) ∙ met _ _ (sym c.writable.ensures ∙ c.if-not-writable.false)
+    ∙ cond-false _ _ _ (sized c.int_argument-len.result c.is_set_size.result c.is_set_size.ensures c.if-not-is_set_size.false)
+    ∙ cond-false _ _ _ (sym c.names_nobody.ensures ∙ c.if-names_nobody.false) ∙ met _ _ (sym c.writable.ensures ∙ c.if-not-writable.false)
     ∙ ap (λ (n : ℕ). record (said h t 8) { entered = double_written at n ∷ [] }) (sym harts) in
     let done = answered_wrote h t k c.args.pages.now m' (Ok 8) ws told c.write_double.ensures.entered in
     subst (λ (w : List Write). IsAnswered h t k c.args.pages.now k m' w (Ok 8) (sched_getaffinity h t)) (sym (c.write_double.ensures.told ∙ ap (λ (w : List Write). w ++ ws) c.requires.fresh))

@@ -1,7 +1,8 @@
 -- The command is asked for by the registers.
-use Rattle.sys_calls.proofs.Common.{◌≡◌, ◌<◌, ◌%◌, ℕ, ℤ, sym, ap, ◌∙◌, arith, to_z, of_z, of_z-to_z, command, registered_after, signed_32, argument, int_argument, running_harts}
+use Rattle.sys_calls.proofs.Common.{answers, Answer, ◌≡◌, ◌<◌, ◌%◌, ℕ, ℤ, sym, ap, ◌∙◌, arith, to_z, of_z, of_z-to_z, command, signed_32, argument, int_argument, running_harts, IsMade, subst}
+use Rattle.mach_types.specs.Kernel.Barriers.{registered_after}
 use Rattle.std.proofs.Common.{w32}
-use Rattle.sys_calls.proofs.Barriers.{answer_asked, made_membarrier}
+use Rattle.sys_calls.proofs.Barriers.{answer_asked, made_answers, registered_then}
 use Rattle.sys_calls.proofs.GuestMemory.{argument_is, int_argument_is}
 use Rattle.sys_calls.proofs.barrier_call.membarrier.Goals as goal
 
@@ -30,6 +31,7 @@ returns c = record {
       c.command-outcome.ensures.answer ∙ (λ i. command (told.barriers i) (cmd i) (flags i) (cpu i) (here i) (set i) (many i)) in
       let after : c.command-outcome.new.regs ≡ registered_after h.kernel.barriers (signed_32 (argument h t 0)) (int_argument h t 1) =
       c.command-outcome.ensures.registered ∙ (λ i. registered_after (told.barriers i) (cmd i) (flags i)) in
-      made_membarrier h t c.args.caller.here.0 k c.command-outcome.new.regs m c.end_command.new.saved c.end_command.result c.command-outcome.result hart told has c.requires is after
-      (c.end_command.ensures.saved h t file) (c.end_command.ensures.barrier h t) c.end_command.ensures.answer c.end_command.ensures.stays c.end_command.ensures.runs_on c.end_command.ensures.ends;
+      subst (λ (a : Answer). IsMade h t k m (record k { registered = c.command-outcome.new.regs }) m c.end_command.new.saved c.end_command.result (answers h t a)) is
+      (made_answers h t c.args.caller.here.0 k c.command-outcome.new.regs m c.end_command.new.saved c.end_command.result c.command-outcome.result hart told has c.requires
+      (registered_then h t c.command-outcome.new.regs c.command-outcome.result is after) (c.end_command.ensures.saved h t file) (c.end_command.ensures.barrier h t) c.end_command.ensures.answer c.end_command.ensures.stays c.end_command.ensures.runs_on c.end_command.ensures.ends);
 }

@@ -1,8 +1,7 @@
 -- Each call that changes no pages, by its number.
-use Rattle.sys_calls.proofs.Common.{◌≡◌, ℕ, List, eqb, refl, sym, subst, ◌∙◌, arith, cond, Ok, Err, ne_eqb, CallDone, IsAnswered, Write, refused, call_of}
+use Rattle.sys_calls.proofs.Common.{◌≡◌, ℕ, List, eqb, refl, sym, subst, ◌∙◌, arith, cond, Ok, Err, ne_eqb, CallDone, IsAnswered, Write, refused, call_of, cond-false}
 use Rattle.mach_types.specs.declared.errors.TheConstants.{ENOSYS}
 use Rattle.block_model.specs.Calls.Numbers.{getpid, gettid}
-use Rattle.sys_calls.proofs.GuestMemory.{if_false}
 use Rattle.sys_calls.proofs.CallAnswers.{answered_said}
 use Rattle.sys_calls.proofs.ThreadSignals.{signals_held}
 use Rattle.sys_calls.proofs.call_answers.answered_on_same_pages.Goals as goal
@@ -49,7 +48,7 @@ returns-in-135-clause-answered c = λ h hart told read. by_number c.in-135.is (c
 
 -- the number isn't that one
 is_not : (i n : ℕ) (x y : CallDone) → (n ≡ i → ⊥) → cond (eqb n i) x y ≡ y
-is_not i n x y ne = if_false (eqb n i) x y (ne_eqb n i ne)
+is_not i n x y ne = cond-false (eqb n i) x y (ne_eqb n i ne)
 
 pub returns-in_default-clause-answered : goal.returns-in_default-clause-answered
 returns-in_default-clause-answered c = λ h hart told read.

@@ -1,8 +1,8 @@
 -- The tests of a clone, in their order.
-use Rattle.sys_calls.proofs.Common.{◌≡◌, ℕ, ◌<◌, Bool, false, not, ◌&&◌, ◌||◌, leb, [], ◌∷◌, length, sym, ap, ◌∙◌, lt-leb, Threads, is_full, EAGAIN, EFAULT, EINVAL, Errors, Here, HoldsTables, IsRead, Kernel, Map, Saved, argument, each_byte, is_writable, register, unless, clone_child_settid, clone_parent_settid, has_flag, cloned}
+use Rattle.sys_calls.proofs.Common.{◌≡◌, ℕ, ◌<◌, Bool, false, not, ◌&&◌, ◌||◌, leb, [], ◌∷◌, length, sym, ap, ◌∙◌, lt-leb, Threads, is_full, EAGAIN, EFAULT, EINVAL, Errors, Here, HoldsTables, IsRead, Kernel, Map, Saved, argument, each_byte, is_writable, register, unless, clone_child_settid, clone_parent_settid, has_flag, cloned, cond-false}
 use Rattle.block_model.specs.Calls.Cloning.{are_flags, clone, may_write}
 use Rattle.sys_calls.specs.Cloned.{can_write_numbers}
-use Rattle.sys_calls.proofs.GuestMemory.{argument_is, if_false, met, unmet}
+use Rattle.sys_calls.proofs.GuestMemory.{argument_is, met, unmet}
 use Rattle.sys_calls.proofs.cloning.may_clone.Goals as goal
 
 -- whether the words can be written, as the call asks it
@@ -31,11 +31,11 @@ few ts live is lt = ap (leb 64) (sym is) ∙ lt-leb 64 live lt
 pub returns-then-not-can_write_numbers-clause-refused : goal.returns-then-not-can_write_numbers-clause-refused
 returns-then-not-can_write_numbers-clause-refused c = λ h t told read.
     tests_are h c.args.kernel.now c.args.pages.now t c.args.saved.now told read c.argument.result c.argument.ensures ∙ met _ _ (sym c.are_flags.ensures ∙ c.if-not-are_flags.false)
-    ∙ if_false _ _ _ (few c.args.kernel.now.threads.threads c.live-live.result c.live-live.ensures.count c.if-live-ge-MOST_THREADS.false)
+    ∙ cond-false _ _ _ (few c.args.kernel.now.threads.threads c.live-live.result c.live-live.ensures.count c.if-live-ge-MOST_THREADS.false)
     ∙ unmet _ _ (sym c.can_write_numbers.ensures ∙ c.if-not-can_write_numbers.true)
 
 pub returns-clause-made : goal.returns-clause-made
 returns-clause-made c = λ h t told read.
     tests_are h c.args.kernel.now c.args.pages.now t c.args.saved.now told read c.argument.result c.argument.ensures ∙ met _ _ (sym c.are_flags.ensures ∙ c.if-not-are_flags.false)
-    ∙ if_false _ _ _ (few c.args.kernel.now.threads.threads c.live-live.result c.live-live.ensures.count c.if-live-ge-MOST_THREADS.false)
+    ∙ cond-false _ _ _ (few c.args.kernel.now.threads.threads c.live-live.result c.live-live.ensures.count c.if-live-ge-MOST_THREADS.false)
     ∙ met _ _ (sym c.can_write_numbers.ensures ∙ c.if-not-can_write_numbers.false)

@@ -1,5 +1,5 @@
 -- The last thread ends the process, and another one is gone.
-use Rattle.sys_calls.proofs.Common.{◌≡◌, ℕ, Bool, true, false, not, ◌&&◌, cond, eqb, leb, List, [], ◌∷◌, length, refl, sym, ap, subst, ◌∙◌, le-leb, lt-leb, HasPages, Here, HoldsTables, IsEntered, IsMade, IsRead, Kernel, Map, Saved, Write, can_write_in, each_byte, Threads, running_on, CallDone, are_writable, ended_with}
+use Rattle.sys_calls.proofs.Common.{◌≡◌, ℕ, Bool, true, false, not, ◌&&◌, cond, eqb, leb, List, [], ◌∷◌, length, refl, sym, ap, subst, ◌∙◌, le-leb, lt-leb, HasPages, Here, HoldsTables, IsEntered, IsMade, IsRead, Kernel, Map, Saved, Write, can_write_in, each_byte, Threads, running_on, CallDone, are_writable, ended_with, cond-false, cond-true}
 use Rattle.std.specs.Int.{from_bool}
 use Rattle.mach_types.specs.Kernel.Threads.{clear_of}
 use Rattle.block_model.specs.Calls.Answers.{word_written}
@@ -8,7 +8,7 @@ use Rattle.mach_types.proofs.Laws.{state_of-without_same}
 use Rattle.sys_calls.specs.declared.calling.CallEnd.TheVariants as over
 use Rattle.sys_calls.specs.Ended.{IsGone}
 use Rattle.sys_calls.proofs.KernelWrites.{pages_kept}
-use Rattle.sys_calls.proofs.GuestMemory.{if_false, if_true, writable_at}
+use Rattle.sys_calls.proofs.GuestMemory.{writable_at}
 use Rattle.sys_calls.proofs.CallerTables.{caller_lives}
 use Rattle.sys_calls.proofs.FutexWakes.{wake_pages}
 use Rattle.sys_calls.proofs.ending.exit.Goals as goal
@@ -67,7 +67,7 @@ returns-then-live-le1-clause-told c = λ h told read.
     let last = last_is h c.args.kernel.now c.live.result true told c.live.ensures.count (le-leb c.live.result 1 c.if-live-le1.true) in
     clearing_is h c.args.kernel.now c.args.pages.now c.args.tid.0 c.clear_at-at.result c.clear_word-is_cleared.result c.args.saved.now c.clear_word-is_cleared.new.written.items
     told read c.clear_at-at.ensures c.clear_word-is_cleared.ensures.clears c.clear_word-is_cleared.ensures.told
-    ∙ sym (ap (λ (d : CallDone). d.entered) (if_true (is_last h) (last_exits h c.args.tid.0) (one_exits h c.args.tid.0) last))
+    ∙ sym (ap (λ (d : CallDone). d.entered) (cond-true (is_last h) (last_exits h c.args.tid.0) (one_exits h c.args.tid.0) last))
 
 pub returns-then-live-le1-clause-made : goal.returns-then-live-le1-clause-made
 returns-then-live-le1-clause-made c = λ h hart told has read.
@@ -77,7 +77,7 @@ returns-then-live-le1-clause-made c = λ h hart told has read.
     let writes = clearing_is h c.args.kernel.now c.args.pages.now c.args.tid.0 c.clear_at-at.result c.clear_word-is_cleared.result c.args.saved.now c.clear_word-is_cleared.new.written.items
     told read c.clear_at-at.ensures c.clear_word-is_cleared.ensures.clears c.clear_word-is_cleared.ensures.told in
     let last = last_is h k c.live.result true told c.live.ensures.count (le-leb c.live.result 1 c.if-live-le1.true) in
-    subst (IsMade h t k c.args.pages.now k m' c.args.saved.now (over.ProcessEnd c.end_of.result)) (sym (if_true (is_last h) (last_exits h t) (one_exits h t) last))
+    subst (IsMade h t k c.args.pages.now k m' c.args.saved.now (over.ProcessEnd c.end_of.result)) (sym (cond-true (is_last h) (last_exits h t) (one_exits h t) last))
     (made_ended h t c.args.here.0 k c.args.pages.now m' c.args.saved.now c.clear_word-is_cleared.new.written.items (clearing h t) c.end_of.result (ended_with h t)
     hart told read.file c.requires.caller has c.clear_word-is_cleared.ensures.entered writes (c.end_of.ensures h t read.file))
 
@@ -86,7 +86,7 @@ returns-clause-told c = λ h told read.
     let last = last_is h c.args.kernel.now c.live.result false told c.live.ensures.count (lt-leb c.live.result 1 c.if-live-le1.false) in
     clearing_is h c.args.kernel.now c.args.pages.now c.args.tid.0 c.clear_at-at.result c.clear_word-is_cleared.result c.args.saved.now c.clear_word-is_cleared.new.written.items
     told read c.clear_at-at.ensures c.clear_word-is_cleared.ensures.clears c.clear_word-is_cleared.ensures.told
-    ∙ sym (ap (λ (d : CallDone). d.entered) (if_false (is_last h) (last_exits h c.args.tid.0) (one_exits h c.args.tid.0) last))
+    ∙ sym (ap (λ (d : CallDone). d.entered) (cond-false (is_last h) (last_exits h c.args.tid.0) (one_exits h c.args.tid.0) last))
 
 pub returns-clause-made : goal.returns-clause-made
 returns-clause-made c = λ h hart told has read.
@@ -99,6 +99,6 @@ returns-clause-made c = λ h hart told has read.
     let last = last_is h k c.live.result false told c.live.ensures.count (lt-leb c.live.result 1 c.if-live-le1.false) in
     let most : c.from.result ≡ cond (clears h t) 1 0 = c.from.ensures ∙ byte_is c.clear_word-is_cleared.result ∙ ap (λ (b : Bool). how_many b) clear in
     let gone = subst (λ (x : ℕ × ℕ). IsGone h k c.go.new.kernel t x.0 x.1 c.args.here.0) (λ i. (most i, at i)) (c.go.ensures.gone h told) in
-    subst (IsMade h t k c.args.pages.now c.go.new.kernel m' c.args.saved.now over.ThreadEnd) (sym (if_false (is_last h) (last_exits h t) (one_exits h t) last))
+    subst (IsMade h t k c.args.pages.now c.go.new.kernel m' c.args.saved.now over.ThreadEnd) (sym (cond-false (is_last h) (last_exits h t) (one_exits h t) last))
     (made_one h t c.args.here.0 k c.go.new.kernel c.args.pages.now m' c.args.saved.now c.clear_word-is_cleared.new.written.items
     hart read.file has c.clear_word-is_cleared.ensures.entered writes gone)

@@ -1,7 +1,7 @@
 -- The tests of a wait, in their order.
-use Rattle.sys_calls.proofs.Common.{◌≡◌, ◌≢◌, ℕ, true, false, not, eqb, ◌∷◌, [], Option, is_some, unwrap_or, sym, ap, ◌∙◌, eq-eqb, ne_eqb, CallDone, Errors, Here, HoldsTables, IsRead, Kernel, Map, Saved, argument, byte_in, each_byte, int_in, register, said, unless, word_at, next_for, EAGAIN, EFAULT, EINVAL, waited, futex_wait}
+use Rattle.sys_calls.proofs.Common.{◌≡◌, ◌≢◌, ℕ, true, false, not, eqb, ◌∷◌, [], Option, is_some, unwrap_or, sym, ap, ◌∙◌, eq-eqb, ne_eqb, CallDone, Errors, Here, HoldsTables, IsRead, Kernel, Map, Saved, argument, byte_in, each_byte, int_in, register, said, unless, word_at, next_for, EAGAIN, EFAULT, EINVAL, waited, futex_wait, cond-false, cond-true}
 use Rattle.mach_types.specs.declared.errors.TheConstants.{EINTR}
-use Rattle.sys_calls.proofs.GuestMemory.{argument_is, if_false, if_true, int_argument_is, met, unmet}
+use Rattle.sys_calls.proofs.GuestMemory.{argument_is, int_argument_is, met, unmet}
 use Rattle.sys_calls.proofs.futexes.may_wait.Goals as goal
 
 -- they are asked of the page map, of the registers, and of the signals
@@ -43,11 +43,11 @@ returns-then-is_some-clause-refused c = λ h told read.
     tests_are h c.args.kernel.now c.args.pages.now c.args.tid.0 c.args.saved.now told read c.argument-at.result c.argument.result c.argument-at.ensures c.argument.ensures
     ∙ met _ _ (eq-eqb c.argument.result 0 c.if-argument-ne0.false) ∙ met _ _ (sym c.readable.ensures ∙ c.if-not-readable.false)
     ∙ met _ _ (same_word _ _ _ _ c.number_at.ensures (c.from.ensures ∙ c.int_argument.ensures) c.if-number_at-from.false)
-    ∙ if_true _ _ _ (sym (ap (λ (o : Option ℕ). is_some o) c.next_for.ensures) ∙ sym c.is_some.ensures ∙ c.if-is_some.true)
+    ∙ cond-true _ _ _ (sym (ap (λ (o : Option ℕ). is_some o) c.next_for.ensures) ∙ sym c.is_some.ensures ∙ c.if-is_some.true)
 
 pub returns-clause-waits : goal.returns-clause-waits
 returns-clause-waits c = λ h told read.
     tests_are h c.args.kernel.now c.args.pages.now c.args.tid.0 c.args.saved.now told read c.argument-at.result c.argument.result c.argument-at.ensures c.argument.ensures
     ∙ met _ _ (eq-eqb c.argument.result 0 c.if-argument-ne0.false) ∙ met _ _ (sym c.readable.ensures ∙ c.if-not-readable.false)
     ∙ met _ _ (same_word _ _ _ _ c.number_at.ensures (c.from.ensures ∙ c.int_argument.ensures) c.if-number_at-from.false)
-    ∙ if_false _ _ _ (sym (ap (λ (o : Option ℕ). is_some o) c.next_for.ensures) ∙ sym c.is_some.ensures ∙ c.if-is_some.false)
+    ∙ cond-false _ _ _ (sym (ap (λ (o : Option ℕ). is_some o) c.next_for.ensures) ∙ sym c.is_some.ensures ∙ c.if-is_some.false)

@@ -1,8 +1,8 @@
 -- The tests of the call, in their order.
-use Rattle.sys_calls.proofs.Common.{◌≡◌, ℕ, Bool, not, ◌||◌, eqb, ◌∷◌, [], Option, is_some, refl, sym, ap, ◌∙◌, eq-eqb, refuses_action, EFAULT, EINVAL, Errors, Here, IsRead, Map, Saved, byte_in, can_write_in, int_in, register, unless, Action, pass_action}
+use Rattle.sys_calls.proofs.Common.{◌≡◌, ℕ, Bool, not, ◌||◌, eqb, ◌∷◌, [], Option, is_some, refl, sym, ap, ◌∙◌, eq-eqb, refuses_action, EFAULT, EINVAL, Errors, Here, IsRead, Map, Saved, byte_in, can_write_in, int_in, register, unless, Action, pass_action, cond-false, cond-true}
 use Rattle.block_model.specs.Calls.Signals.{action_given, rt_sigaction}
 use Rattle.sys_calls.specs.Signalled.{sigaction_with}
-use Rattle.sys_calls.proofs.GuestMemory.{argument_is, if_false, if_true, int_argument_is, met, unmet}
+use Rattle.sys_calls.proofs.GuestMemory.{argument_is, int_argument_is, met, unmet}
 use Rattle.sys_calls.proofs.signal_calls.asked_action.Goals as goal
 
 -- they are asked of the page map, of the registers, and of the action that is given
@@ -36,21 +36,21 @@ returns-then-refuses_action-clause-refused c = λ h t read.
     tests_are h c.args.pages.now t saved read c.int_argument.result c.argument-act.result (register saved.file 12) c.argument.result c.action_given-new.result
     c.int_argument.ensures c.argument-act.ensures refl c.argument.ensures (c.action_given-new.ensures h t saved read)
     ∙ met _ _ (eq-eqb c.argument.result 8 c.if-argument-ne-SET_SIZE.false) ∙ met _ _ (sym c.may_read_action.ensures ∙ c.if-not-may_read_action.false)
-    ∙ if_true _ _ _ (sym c.refuses_action.ensures ∙ c.if-refuses_action.true)
+    ∙ cond-true _ _ _ (sym c.refuses_action.ensures ∙ c.if-refuses_action.true)
 
 pub returns-then-not-may_write_action-clause-refused : goal.returns-then-not-may_write_action-clause-refused
 returns-then-not-may_write_action-clause-refused c = λ h t read.
     tests_are h c.args.pages.now t c.args.saved.now read c.int_argument.result c.argument-act.result c.argument-2.result c.argument.result c.action_given-new.result
     c.int_argument.ensures c.argument-act.ensures c.argument-2.ensures c.argument.ensures (c.action_given-new.ensures h t c.args.saved.now read)
     ∙ met _ _ (eq-eqb c.argument.result 8 c.if-argument-ne-SET_SIZE.false) ∙ met _ _ (sym c.may_read_action.ensures ∙ c.if-not-may_read_action.false)
-    ∙ if_false _ _ _ (sym c.refuses_action.ensures ∙ c.if-refuses_action.false) ∙ unmet _ _ (sym c.may_write_action.ensures ∙ c.if-not-may_write_action.true)
+    ∙ cond-false _ _ _ (sym c.refuses_action.ensures ∙ c.if-refuses_action.false) ∙ unmet _ _ (sym c.may_write_action.ensures ∙ c.if-not-may_write_action.true)
 
 pub returns-clause-given : goal.returns-clause-given
 returns-clause-given c = λ h t read.
     tests_are h c.args.pages.now t c.args.saved.now read c.int_argument.result c.argument-act.result c.argument-2.result c.argument.result c.action_given-new.result
     c.int_argument.ensures c.argument-act.ensures c.argument-2.ensures c.argument.ensures (c.action_given-new.ensures h t c.args.saved.now read)
     ∙ met _ _ (eq-eqb c.argument.result 8 c.if-argument-ne-SET_SIZE.false) ∙ met _ _ (sym c.may_read_action.ensures ∙ c.if-not-may_read_action.false)
-    ∙ if_false _ _ _ (sym c.refuses_action.ensures ∙ c.if-refuses_action.false) ∙ met _ _ (sym c.may_write_action.ensures ∙ c.if-not-may_write_action.false)
+    ∙ cond-false _ _ _ (sym c.refuses_action.ensures ∙ c.if-refuses_action.false) ∙ met _ _ (sym c.may_write_action.ensures ∙ c.if-not-may_write_action.false)
 
 pub returns-clause-accepted : goal.returns-clause-accepted
 returns-clause-accepted c =

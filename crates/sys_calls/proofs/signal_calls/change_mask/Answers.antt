@@ -1,7 +1,6 @@
 -- The mask is changed where a set is given.
-use Rattle.sys_calls.proofs.Common.{ℕ, eqb, sym, ap, ◌∙◌, ne_eqb, mask_of}
+use Rattle.sys_calls.proofs.Common.{ℕ, eqb, sym, ap, ◌∙◌, ne_eqb, mask_of, cond-false}
 use Rattle.mach_types.specs.Kernel.Signals.{changed_mask, with_mask}
-use Rattle.sys_calls.proofs.GuestMemory.{if_false}
 use Rattle.sys_calls.proofs.signal_calls.change_mask.Goals as goal
 
 pub returns-in-Ok : goal.returns-in-Ok
@@ -9,4 +8,4 @@ returns-in-Ok c =
     let g = c.args.signals.now in
     let t = c.args.tid.0 in
     c.in-Ok.ensures.ok ∙ ap (λ (n : ℕ). with_mask t (changed_mask c.args.how n (mask_of t g)) g) c.number_at-set.ensures
-    ∙ sym (if_false (eqb c.args.at 0) _ _ (ne_eqb c.args.at 0 c.if-at-ne0.true))
+    ∙ sym (cond-false (eqb c.args.at 0) _ _ (ne_eqb c.args.at 0 c.if-at-ne0.true))

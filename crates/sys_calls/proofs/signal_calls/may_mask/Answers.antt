@@ -1,8 +1,8 @@
 -- The tests of the call, in their order.
-use Rattle.sys_calls.proofs.Common.{◌≡◌, ℕ, Bool, not, ◌&&◌, ◌||◌, eqb, ◌∷◌, [], Option, is_some, refl, sym, ap, ◌∙◌, eq-eqb, EFAULT, EINVAL, Errors, Here, IsRead, Map, Saved, byte_in, can_write_in, each_byte, int_in, register, unless, refuses_how}
+use Rattle.sys_calls.proofs.Common.{◌≡◌, ℕ, Bool, not, ◌&&◌, ◌||◌, eqb, ◌∷◌, [], Option, is_some, refl, sym, ap, ◌∙◌, eq-eqb, EFAULT, EINVAL, Errors, Here, IsRead, Map, Saved, byte_in, can_write_in, each_byte, int_in, register, unless, refuses_how, cond-false, cond-true}
 use Rattle.block_model.specs.Calls.Signals.{rt_sigprocmask}
 use Rattle.sys_calls.specs.Signalled.{sigprocmask_done}
-use Rattle.sys_calls.proofs.GuestMemory.{argument_is, if_false, if_true, int_argument_is, met, unmet}
+use Rattle.sys_calls.proofs.GuestMemory.{argument_is, int_argument_is, met, unmet}
 use Rattle.sys_calls.proofs.signal_calls.may_mask.Goals as goal
 
 -- they are asked of the page map and of the registers
@@ -32,21 +32,21 @@ returns-then-refuses_change-clause-refused c = λ h t read.
     let saved = c.args.saved.now in
     tests_are h c.args.pages.now t saved read c.int_argument.result c.argument-set.result (register saved.file 12) c.argument.result c.int_argument.ensures c.argument-set.ensures refl c.argument.ensures
     ∙ met _ _ (eq-eqb c.argument.result 8 c.if-argument-ne-SET_SIZE.false) ∙ met _ _ (sym c.may_read_set.ensures ∙ c.if-not-may_read_set.false)
-    ∙ if_true _ _ _ (sym c.refuses_change.ensures ∙ c.if-refuses_change.true)
+    ∙ cond-true _ _ _ (sym c.refuses_change.ensures ∙ c.if-refuses_change.true)
 
 pub returns-then-not-may_write_set-clause-refused : goal.returns-then-not-may_write_set-clause-refused
 returns-then-not-may_write_set-clause-refused c = λ h t read.
     tests_are h c.args.pages.now t c.args.saved.now read c.int_argument.result c.argument-set.result c.argument-2.result c.argument.result
     c.int_argument.ensures c.argument-set.ensures c.argument-2.ensures c.argument.ensures
     ∙ met _ _ (eq-eqb c.argument.result 8 c.if-argument-ne-SET_SIZE.false) ∙ met _ _ (sym c.may_read_set.ensures ∙ c.if-not-may_read_set.false)
-    ∙ if_false _ _ _ (sym c.refuses_change.ensures ∙ c.if-refuses_change.false) ∙ unmet _ _ (sym c.may_write_set.ensures ∙ c.if-not-may_write_set.true)
+    ∙ cond-false _ _ _ (sym c.refuses_change.ensures ∙ c.if-refuses_change.false) ∙ unmet _ _ (sym c.may_write_set.ensures ∙ c.if-not-may_write_set.true)
 
 pub returns-clause-masks : goal.returns-clause-masks
 returns-clause-masks c = λ h t read.
     tests_are h c.args.pages.now t c.args.saved.now read c.int_argument.result c.argument-set.result c.argument-2.result c.argument.result
     c.int_argument.ensures c.argument-set.ensures c.argument-2.ensures c.argument.ensures
     ∙ met _ _ (eq-eqb c.argument.result 8 c.if-argument-ne-SET_SIZE.false) ∙ met _ _ (sym c.may_read_set.ensures ∙ c.if-not-may_read_set.false)
-    ∙ if_false _ _ _ (sym c.refuses_change.ensures ∙ c.if-refuses_change.false) ∙ met _ _ (sym c.may_write_set.ensures ∙ c.if-not-may_write_set.false)
+    ∙ cond-false _ _ _ (sym c.refuses_change.ensures ∙ c.if-refuses_change.false) ∙ met _ _ (sym c.may_write_set.ensures ∙ c.if-not-may_write_set.false)
 
 pub returns-clause-how : goal.returns-clause-how
 returns-clause-how c =

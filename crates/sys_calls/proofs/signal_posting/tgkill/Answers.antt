@@ -1,7 +1,7 @@
 -- The tests of the call, in their order.
-use Rattle.sys_calls.proofs.Common.{◌≡◌, ℕ, Bool, false, true, not, ◌&&◌, ◌||◌, eqb, [], refl, sym, ap, subst, ◌∙◌, Err, CallDone, EINVAL, ESRCH, IsAnswered, Threads, int_argument, is_live, is_below_one, send, tgkill}
+use Rattle.sys_calls.proofs.Common.{◌≡◌, ℕ, Bool, false, true, not, ◌&&◌, ◌||◌, eqb, [], refl, sym, ap, subst, ◌∙◌, Err, CallDone, EINVAL, ESRCH, IsAnswered, Threads, int_argument, is_live, is_below_one, send, tgkill, cond-false, cond-true, not_from_false, not_from_true}
 use Rattle.sys_calls.proofs.SignalPosting.{tgkill_is}
-use Rattle.sys_calls.proofs.GuestMemory.{if_false, if_true, int_argument_is, not_false, not_true}
+use Rattle.sys_calls.proofs.GuestMemory.{int_argument_is}
 use Rattle.sys_calls.proofs.CallAnswers.{answered_said}
 use Rattle.sys_calls.proofs.signal_posting.tgkill.Goals as goal
 
@@ -16,7 +16,7 @@ returns-then-is_one_below-clause-answered c = λ h t m told file.
     let process : p ≡ int_argument h t 0 = c.int_argument-process.ensures ∙ int_argument_is h t c.args.saved.now file 0 in
     let number : n ≡ int_argument h t 1 = c.int_argument-number.ensures ∙ int_argument_is h t c.args.saved.now file 1 in
     let low : (is_below_one p || is_below_one n) ≡ true = sym c.is_one_below.ensures ∙ c.if-is_one_below.true in
-    answered_said h t c.args.kernel.now m (Err EINVAL) (tgkill h t) told (tgkill_is h t p n (int_argument h t 2) process number refl ∙ if_true (is_below_one p || is_below_one n) _ _ low)
+    answered_said h t c.args.kernel.now m (Err EINVAL) (tgkill h t) told (tgkill_is h t p n (int_argument h t 2) process number refl ∙ cond-true (is_below_one p || is_below_one n) _ _ low)
 
 pub returns-then-not-is_live_in-clause-answered : goal.returns-then-not-is_live_in-clause-answered
 returns-then-not-is_live_in-clause-answered c = λ h t m told file.
@@ -27,7 +27,7 @@ returns-then-not-is_live_in-clause-answered c = λ h t m told file.
     let low : (is_below_one p || is_below_one n) ≡ false = sym c.is_one_below.ensures ∙ c.if-is_one_below.false in
     let dead : has p n h.kernel.threads ≡ false = ap (has p n) (sym told.threads) ∙ sym c.is_live_in.ensures ∙ c.if-not-is_live_in.true in
     answered_said h t c.args.kernel.now m (Err ESRCH) (tgkill h t) told
-    (tgkill_is h t p n (int_argument h t 2) process number refl ∙ if_false (is_below_one p || is_below_one n) _ _ low ∙ if_true (not (has p n h.kernel.threads)) _ _ (not_false _ dead))
+    (tgkill_is h t p n (int_argument h t 2) process number refl ∙ cond-false (is_below_one p || is_below_one n) _ _ low ∙ cond-true (not (has p n h.kernel.threads)) _ _ (not_from_false _ dead))
 
 pub returns-clause-answered : goal.returns-clause-answered
 returns-clause-answered c = λ h t m told file.
@@ -40,5 +40,5 @@ returns-clause-answered c = λ h t m told file.
     let low : (is_below_one p || is_below_one n) ≡ false = sym c.is_one_below.ensures ∙ c.if-is_one_below.false in
     let lives : has p n h.kernel.threads ≡ true = ap (has p n) (sym told.threads) ∙ sym c.is_live_in.ensures ∙ c.if-not-is_live_in.false in
     let is : tgkill h t ≡ send h t n s =
-    tgkill_is h t p n s process number sig ∙ if_false (is_below_one p || is_below_one n) _ _ low ∙ if_false (not (has p n h.kernel.threads)) _ _ (not_true _ lives) in
+    tgkill_is h t p n s process number sig ∙ cond-false (is_below_one p || is_below_one n) _ _ low ∙ cond-false (not (has p n h.kernel.threads)) _ _ (not_from_true _ lives) in
     subst (λ (d : CallDone). IsAnswered h t c.args.kernel.now m c.send.new.kernel m [] c.send.result d) (sym is) (c.send.ensures.answered h t m told)

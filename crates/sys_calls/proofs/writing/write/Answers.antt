@@ -1,7 +1,7 @@
 -- The bytes are one span.
-use Rattle.sys_calls.proofs.Common.{◌≡◌, ℕ, ◌-◌, ◌≤◌, ◌<◌, Bool, true, false, ◌&&◌, List, [], ◌∷◌, ◌++◌, length, take, Option, is_some, sym, ap, ◌∙◌, arith, append-nil, Ok, Err, EFAULT, ENOSPC, CONSOLE_ROOM, Here, IsRead, Map, Saved, are_readable, argument, byte_in, each_byte, memory, register, Span, all_readable, bytes_from, bytes_of, is_elsewhere, room, total}
+use Rattle.sys_calls.proofs.Common.{◌≡◌, ℕ, ◌-◌, ◌≤◌, ◌<◌, Bool, true, false, ◌&&◌, List, [], ◌∷◌, ◌++◌, length, take, Option, is_some, sym, ap, ◌∙◌, arith, append-nil, Ok, Err, EFAULT, ENOSPC, CONSOLE_ROOM, Here, IsRead, Map, Saved, are_readable, argument, byte_in, each_byte, memory, register, Span, all_readable, bytes_from, bytes_of, is_elsewhere, room, total, cond-false}
 use Rattle.block_model.specs.Calls.Console.{write}
-use Rattle.sys_calls.proofs.GuestMemory.{argument_is, if_false, readable_at}
+use Rattle.sys_calls.proofs.GuestMemory.{argument_is, readable_at}
 use Rattle.sys_calls.proofs.CallAnswers.{answered_printed, answered_said}
 use Rattle.sys_calls.proofs.ConsoleWrites.{spans_full, spans_unreadable, spans_wrote}
 use Rattle.sys_calls.proofs.writing.write.Goals as goal
@@ -30,7 +30,7 @@ returns-then-not-readable-clause-answered c = λ h t told read.
     let here : is_elsewhere h t ≡ false = sym (c.is_elsewhere.ensures h t read.file) ∙ c.if-is_elsewhere.false in
     let cannot = readable_one h t c.argument.result c.argument-2.result c.args.pages.now false c.readable.result c.args.saved.now read c.argument.ensures c.argument-2.ensures c.readable.ensures c.if-not-readable.true in
     answered_said h t k c.args.pages.now (Err EFAULT) (write h t) told
-    (if_false (is_elsewhere h t) _ _ here ∙ spans_unreadable h t (one h t) (some_bytes h t c.argument-2.result len c.if-span-eq0.false) cannot)
+    (cond-false (is_elsewhere h t) _ _ here ∙ spans_unreadable h t (one h t) (some_bytes h t c.argument-2.result len c.if-span-eq0.false) cannot)
 
 pub returns-then-room-eq0-clause-answered : goal.returns-then-room-eq0-clause-answered
 returns-then-room-eq0-clause-answered c = λ h t told read.
@@ -41,7 +41,7 @@ returns-then-room-eq0-clause-answered c = λ h t told read.
     let held = ap (λ (bs : List ℕ). length bs) told.console in
     let full : CONSOLE_ROOM ≤ length h.kernel.console = omega (arith, held) in
     answered_said h t k c.args.pages.now (Err ENOSPC) (write h t) told
-    (if_false (is_elsewhere h t) _ _ here ∙ spans_full h t (one h t) (some_bytes h t c.argument-2.result len c.if-span-eq0.false) can full)
+    (cond-false (is_elsewhere h t) _ _ here ∙ spans_full h t (one h t) (some_bytes h t c.argument-2.result len c.if-span-eq0.false) can full)
 
 pub returns-clause-answered : goal.returns-clause-answered
 returns-clause-answered c = λ h t told read.
@@ -60,4 +60,4 @@ returns-clause-answered c = λ h t told read.
     ∙ ap (bytes_from (memory h) (argument h t 1)) len ∙ sym (append-nil (bytes_from (memory h) (argument h t 1) (argument h t 2)))) in
     answered_printed h t k c.append_some.new.console m (Ok c.append_some.result) bytes (write h t) told
     (c.append_some.ensures.console ∙ ap (λ (bs : List ℕ). k.console ++ bs) same) (c.append_some.ensures.count ∙ ap (λ (bs : List ℕ). length bs) same)
-    (if_false (is_elsewhere h t) _ _ here ∙ spans_wrote h t (one h t) (some_bytes h t c.argument-2.result len c.if-span-eq0.false) can free)
+    (cond-false (is_elsewhere h t) _ _ here ∙ spans_wrote h t (one h t) (some_bytes h t c.argument-2.result len c.if-span-eq0.false) can free)

@@ -1,6 +1,5 @@
 -- The bytes are those of the spans that the records name.
-use Rattle.sys_calls.proofs.Common.{◌≡◌, ℕ, ◌+◌, ◌-◌, ◌<◌, ◌^◌, true, false, leb, List, ◌++◌, length, take, sym, ap, ◌∙◌, arith, length-append, Ok, lt-leb, CONSOLE_ROOM, memory, Span, all_readable, bytes_of, room, spans_at, total, write_joined}
-use Rattle.sys_calls.proofs.GuestMemory.{if_false}
+use Rattle.sys_calls.proofs.Common.{◌≡◌, ℕ, ◌+◌, ◌-◌, ◌<◌, ◌^◌, true, false, leb, List, ◌++◌, length, take, sym, ap, ◌∙◌, arith, length-append, Ok, lt-leb, CONSOLE_ROOM, memory, Span, all_readable, bytes_of, room, spans_at, total, write_joined, cond-false}
 use Rattle.sys_calls.proofs.CallAnswers.{answered_printed}
 use Rattle.sys_calls.proofs.ConsoleWrites.{spans_wrote}
 use Rattle.sys_calls.proofs.writing.write_records.Goals as goal
@@ -21,4 +20,4 @@ returns-clause-answered c = λ h t told same.
     let size : length c.append_some.new.console ≡ length k.console + length bytes = ap length now ∙ length-append k.console bytes in
     let count : c.append_some.result ≡ length bytes = let sum = c.append_some.ensures.count in omega (arith, size, sum) in
     answered_printed h t k c.append_some.new.console c.args.pages.now (Ok c.append_some.result) bytes (write_joined h t spans) told now count
-    (if_false (leb (2 ^ 31) (total spans)) _ _ few ∙ spans_wrote h t spans (λ none. c.if-length-eq0.false (len ∙ none)) can free)
+    (cond-false (leb (2 ^ 31) (total spans)) _ _ few ∙ spans_wrote h t spans (λ none. c.if-length-eq0.false (len ∙ none)) can free)

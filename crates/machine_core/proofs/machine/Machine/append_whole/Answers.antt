@@ -1,7 +1,7 @@
-use Rattle.machine_core.proofs.Common.{◌++◌, map, ◌≡◌, refl, sym, ap, ◌∙◌, subst, arith, Some, true, executed, setting_of, stretch_of}
+use Rattle.machine_core.proofs.Common.{◌++◌, map, ◌≡◌, refl, sym, ap, ◌∙◌, subst, arith, Some, true, executed, setting_of, stretch_of, Bool, HartState}
 use Rattle.machine_core.proofs.AdvanceAnswers.{all_of, chosen_of}
 use Rattle.machine_core.proofs.StretchAppends.{counts_fit, of_machine, ready, taken_ready, with_hart}
-use Rattle.machine_core.proofs.MachineCredits.{IsSettled}
+use Rattle.machine_core.proofs.MachineCredits.{IsSettled, machine_so}
 use Rattle.machine_core.proofs.machine.Machine.append_whole.Goals as goal
 
 pub index_mut-state-requires : goal.index_mut-state-requires
@@ -39,18 +39,10 @@ invariant_of-self c =
     let log : c.append_executed.new.log.items ≡ m.log.items ++ map (executed h c.in-Some.tid) l.pcs =
     c.append_executed.ensures.items ∙ ap (λ pcs. m.log.items ++ map (executed h c.in-Some.tid) pcs) c.as_slice.ensures.value in
     let machine = c.self.invariant in
-    let set = subst (λ y. IsSettled (setting_of m) m.seed (m.log.items ++ map (executed h c.in-Some.tid) l.pcs) (with_hart m h.0 y) m.chooser true) (sym c.take_in.ensures) all.settled in
     let chosen_so : m.chosen ≡ true = machine.chosen ∙ sym (all_of (setting_of m) m.seed m.log.items (rw (← c.self.view_is) at c.requires.chosen)) in
-    record {
-      run = rw log all.run;
-      tied = rw log set.tied;
-      chosen = rw log (chosen_so ∙ set.chosen);
-      credits = rw log set.credits;
-      generators = λ followed. rw log (set.generators refl);
-      held = machine.held;
-      limits = machine.limits;
-      room = omega (arith, machine.room, c.append_executed.ensures.capacity);
-    }
+    let set = subst (λ (z : HartState × Bool). IsSettled (setting_of m) m.seed (m.log.items ++ map (executed h c.in-Some.tid) l.pcs) (with_hart m h.0 z.0) m.chooser z.1)
+    (λ i. (sym c.take_in.ensures i, sym chosen_so i)) all.settled in
+    machine_so _ (m.log.items ++ map (executed h c.in-Some.tid) l.pcs) log all.run set machine.limits (omega (arith, machine.room, c.append_executed.ensures.capacity))
 
 pub returns : goal.returns
 returns c =

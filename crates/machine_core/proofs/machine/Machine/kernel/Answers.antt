@@ -9,43 +9,22 @@ use Rattle.machine_core.proofs.Readings.{console_read, kernel_read, saved_read}
 use Rattle.process.proofs.Laws.{held_as_live}
 use Rattle.machine_core.proofs.machine.Machine.kernel.Goals as goal
 
-pub returns-clause-threads : goal.returns-clause-threads
-returns-clause-threads c =
-    rw (← c.self.view_is) (c.self.invariant.tied.tables.threads ∙ ap (λ (k : Kernel). k.threads) (kernel_read c.self.inside c.self.invariant))
-
-pub returns-clause-saved : goal.returns-clause-saved
-returns-clause-saved c = rw (← c.self.view_is) (saved_read c.self.inside c.self.invariant)
-
-pub returns-clause-signals : goal.returns-clause-signals
-returns-clause-signals c =
-    rw (← c.self.view_is) (c.self.invariant.tied.tables.signals ∙ ap (λ (k : Kernel). k.signals) (kernel_read c.self.inside c.self.invariant))
-
-pub returns-clause-signals_held : goal.returns-clause-signals_held
-returns-clause-signals_held c t =
+pub returns : goal.returns
+returns c =
     let m = c.self.inside in
+    let tables = c.self.invariant.tied.tables in
     let k = (plain_seen (seen m)).kernel in
-    ap (λ (g : Signalling). is_held t g) c.self.invariant.tied.tables.signals
-    ∙ held_as_live t k.threads k.signals (live_signals (seen m) c.self.invariant.run)
-    ∙ ap (λ (ts : Threads). is_live t ts) (sym c.self.invariant.tied.tables.threads)
-
-pub returns-clause-scheduling : goal.returns-clause-scheduling
-returns-clause-scheduling c =
-    rw (← c.self.view_is) (c.self.invariant.tied.tables.scheduling ∙ ap (λ (k : Kernel). k.scheduling) (kernel_read c.self.inside c.self.invariant))
-
-pub returns-clause-scheduling_held : goal.returns-clause-scheduling_held
-returns-clause-scheduling_held c t =
-    let m = c.self.inside in
-    ap (λ (sc : Scheduling). is_scheduled t sc) c.self.invariant.tied.tables.scheduling
-    ∙ (good_at (seen m) c.self.invariant.run).kernel.tables.held t
-    ∙ ap (λ (ts : Threads). is_live t ts) (sym c.self.invariant.tied.tables.threads)
-
-pub returns-clause-areas : goal.returns-clause-areas
-returns-clause-areas c =
-    rw (← c.self.view_is) (c.self.invariant.tied.tables.areas ∙ ap (λ (k : Kernel). k.areas) (kernel_read c.self.inside c.self.invariant))
-
-pub returns-clause-registered : goal.returns-clause-registered
-returns-clause-registered c =
-    rw (← c.self.view_is) (c.self.invariant.tied.tables.barriers ∙ ap (λ (k : Kernel). k.barriers) (kernel_read c.self.inside c.self.invariant))
-
-pub returns-clause-console : goal.returns-clause-console
-returns-clause-console c = rw (← c.self.view_is) (console_read c.self.inside c.self.invariant)
+    let read = kernel_read m c.self.invariant in
+    record {
+      threads = rw (← c.self.view_is) (tables.threads ∙ ap (λ (k : Kernel). k.threads) read);
+      saved = rw (← c.self.view_is) (saved_read m c.self.invariant);
+      signals = rw (← c.self.view_is) (tables.signals ∙ ap (λ (k : Kernel). k.signals) read);
+      signals_held = λ t. ap (λ (g : Signalling). is_held t g) tables.signals ∙ held_as_live t k.threads k.signals (live_signals (seen m) c.self.invariant.run)
+          ∙ ap (λ (ts : Threads). is_live t ts) (sym tables.threads);
+      scheduling = rw (← c.self.view_is) (tables.scheduling ∙ ap (λ (k : Kernel). k.scheduling) read);
+      scheduling_held = λ t. ap (λ (sc : Scheduling). is_scheduled t sc) tables.scheduling ∙ (good_at (seen m) c.self.invariant.run).kernel.tables.held t
+          ∙ ap (λ (ts : Threads). is_live t ts) (sym tables.threads);
+      areas = rw (← c.self.view_is) (tables.areas ∙ ap (λ (k : Kernel). k.areas) read);
+      registered = rw (← c.self.view_is) (tables.barriers ∙ ap (λ (k : Kernel). k.barriers) read);
+      console = rw (← c.self.view_is) (console_read m c.self.invariant);
+    }

@@ -6,7 +6,7 @@ use Rattle.block_model.specs.Sights.{is_all_taken}
 use Rattle.process.specs.ExecGates.{IsNextAt}
 use Rattle.process.proofs.Laws.{next_at}
 use Rattle.machine_core.proofs.Readings.{bytes_read, here_read, history_of, scheduling_read, writable_read}
-use Rattle.machine_core.proofs.Sights.{deliverable_read, idle_read, local_read, none_is, numbered, same_sight, tested, untested}
+use Rattle.machine_core.proofs.Sights.{deliverable_read, idle_read, local_read, none_is, numbered, tested, untested}
 use Rattle.machine_core.proofs.machine.Machine.sight.Goals.{then-not-is_idle, else-not-is_idle}
 use Rattle.machine_core.proofs.machine.Machine.sight.Goals as goal
 
@@ -41,16 +41,16 @@ returns c =
     let deliverable : c.is_some-2.result ≡ is_deliverable_on at (runs at) =
     deliverable_read (here_of (seen m) h) c.deliverable.result c.is_some-2.result c.is_some-2.ensures (c.deliverable.ensures (setting_of m) (plain_seen (seen m)) c.self.invariant.tied lt)
     ∙ ap (λ (z : Here). is_deliverable_on z (runs z)) same in
-    rw (← c.self.view_is) (same_sight _ _ _ _ _ _ _ _ _ _ _ _ _ _ _ _ _ _ _ _ _ _ (record {
-      idle = c.is_idle.ensures ∙ idle_read at x _ _ _ here;
-      first_ready = numbered c.first_for.result ∙ ap (option_map thread) (c.first_for.ensures ∙ ap (λ (s : Scheduling). first_for h s) (scheduling_read m h c.self.invariant));
-      in_barrier = c.is_some.ensures ∙ ap (λ (y : HartState). is_some y.waits) here;
-      all_taken = c.is_all_taken.ensures ∙ ap (λ (y : HartState). is_all_taken y.waits) here;
-      requested = ap (λ (y : HartState). not (eqb y.requests 0)) here;
-      stores = c.len.ensures.count ∙ ap (λ (y : HartState). length y.buffer) here;
-      deliverable = deliverable;
-      exec_enabled = none_is c.exec_gate-refusal.result c.is_none.result c.is_none.ensures ∙ ap (λ (o : Option Why). is_none o) refusal;
-      local = local ∙ ap (λ (e : Option Effect). is_some x.running && option_map_or sets_register e false) c.next_of-next.ensures.effect ∙ local_read at x _ _ _ here;
-      ran = ap (λ (y : HartState). y.ran) here;
-      credit = ap (λ (y : HartState). y.credit) here;
-    }))
+    rw (← c.self.view_is) (λ i. record {
+      idle = (c.is_idle.ensures ∙ idle_read at x _ _ _ here) i;
+      first_ready = (numbered c.first_for.result ∙ ap (option_map thread) (c.first_for.ensures ∙ ap (λ (s : Scheduling). first_for h s) (scheduling_read m h c.self.invariant))) i;
+      in_barrier = (c.is_some.ensures ∙ ap (λ (y : HartState). is_some y.waits) here) i;
+      all_taken = (c.is_all_taken.ensures ∙ ap (λ (y : HartState). is_all_taken y.waits) here) i;
+      requested = (ap (λ (y : HartState). not (eqb y.requests 0)) here) i;
+      stores = (c.len.ensures.count ∙ ap (λ (y : HartState). length y.buffer) here) i;
+      deliverable = deliverable i;
+      exec_enabled = (none_is c.exec_gate-refusal.result c.is_none.result c.is_none.ensures ∙ ap (λ (o : Option Why). is_none o) refusal) i;
+      local = (local ∙ ap (λ (e : Option Effect). is_some x.running && option_map_or sets_register e false) c.next_of-next.ensures.effect ∙ local_read at x _ _ _ here) i;
+      ran = (ap (λ (y : HartState). y.ran) here) i;
+      credit = (ap (λ (y : HartState). y.credit) here) i;
+    })

@@ -1,7 +1,7 @@
-use Rattle.machine_core.proofs.Common.{◌≡◌, ◌<◌, Option, None, false, refl, rules, sym, ◌∙◌, arith, slice_get, IsAfter, Parts, Sight, done_of, here_of, past_of, seen, seen_if, setting_of, IfOk-at_ok, has_ended, stand_of}
+use Rattle.machine_core.proofs.Common.{◌≡◌, ◌<◌, Option, None, false, refl, rules, sym, ◌∙◌, arith, slice_get, IsAfter, Parts, Sight, done_of, here_of, past_of, seen, seen_if, setting_of, IfOk-at_ok, has_ended, stand_of, Bool}
 use Rattle.machine_core.proofs.AdvanceAnswers.{chosen_of}
 use Rattle.machine_core.proofs.StretchAppends.{code_open, goes_on, has_room, is_alone, place_open}
-use Rattle.machine_core.proofs.MachineCredits.{settled, unfollowed}
+use Rattle.machine_core.proofs.MachineCredits.{settled, IsSettled, machine_so, mapped_itself}
 use Rattle.machine_core.proofs.Steps.{refused, stepped, stepped_so}
 use Rattle.machine_core.proofs.machine.Machine.step.Goals as goal
 
@@ -32,17 +32,9 @@ invariant_of-self c =
     let apart : m.chosen ≡ false = c.self.invariant.chosen ∙ (rw (← c.self.view_is) at (sym c.is_chosen.ensures ∙ c.if-is_chosen.false)) in
     let sees : (let none : Option Sight = None in none) ≡ seen_if m.chosen (setting_of m) m.seed c.args.hart.0 (past_of m) = rw apart refl in
     let is = settled m c.args.hart c.args.choice c.in-Ok.entry p' p' None c.self.invariant (goes_on m c.self.invariant goes) (has_room m goes) lt step after.credits sees
-    (λ k. unfollowed m.chooser c.args.hart.0 c.args.choice k (slice_get p'.harts.items k)) refl refl refl in
-    record {
-      run = rw c.append.ensures.items step.run;
-      tied = rw c.append.ensures.items is.tied;
-      chosen = rw c.append.ensures.items (apart ∙ is.chosen);
-      credits = rw c.append.ensures.items is.credits;
-      generators = λ followed. rw c.append.ensures.items (is.generators (sym apart ∙ followed));
-      held = c.self.invariant.held;
-      limits = c.self.invariant.limits;
-      room = omega (arith, c.self.invariant.room, c.append.ensures.capacity);
-    }
+    (λ k. mapped_itself (slice_get p'.harts.items k)) refl refl refl in
+    let set = subst (λ (b : Bool). IsSettled (setting_of m) m.seed (m.log.items ++ c.in-Ok.entry ∷ []) p' m.chooser b) (sym apart) is in
+    machine_so _ (m.log.items ++ c.in-Ok.entry ∷ []) c.append.ensures.items step.run set c.self.invariant.limits (omega (arith, c.self.invariant.room, c.append.ensures.capacity))
 
 pub returns-in-Ok : goal.returns-in-Ok
 returns-in-Ok c =

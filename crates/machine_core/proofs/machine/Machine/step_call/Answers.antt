@@ -1,9 +1,9 @@
 -- A call, and what the kernel wrote in it.
-use Rattle.machine_core.proofs.Common.{◌≡◌, Option, None, false, ap, refl, rules, sym, ◌∙◌, arith, slice_get, Here, Parts, Sight, done_of, past_of, seen, seen_if, setting_of, stand_of, same_here}
+use Rattle.machine_core.proofs.Common.{◌≡◌, Option, None, false, ap, refl, rules, sym, ◌∙◌, arith, slice_get, Here, Parts, Sight, done_of, past_of, seen, seen_if, setting_of, stand_of, same_here, Bool}
 use Rattle.mach_types.specs.declared.events.Choice.TheVariants as asked
 use Rattle.machine_core.proofs.AdvanceAnswers.{chosen_of}
 use Rattle.machine_core.proofs.AllowedPlaces.{allowed_place, call_step, planned_call}
-use Rattle.machine_core.proofs.MachineCredits.{settled, unfollowed}
+use Rattle.machine_core.proofs.MachineCredits.{settled, IsSettled, machine_so, mapped_itself}
 use Rattle.machine_core.proofs.machine.Machine.step_call.Goals as goal
 
 pub step_call_chosen-requires-clause-chosen : goal.step_call_chosen-requires-clause-chosen
@@ -40,17 +40,9 @@ invariant_of-self c =
     let apart : m.chosen ≡ false = c.self.invariant.chosen ∙ (rw (← c.self.view_is) at (sym c.is_chosen.ensures ∙ c.if-is_chosen.false)) in
     let sees : (let none : Option Sight = None in none) ≡ seen_if m.chosen (setting_of m) m.seed h (past_of m) = rw apart refl in
     let is = settled m c.args.hart asked.Exec e p' p' None c.self.invariant at.goes at.room at.lt step after.credits sees
-    (λ k. unfollowed m.chooser h asked.Exec k (slice_get p'.harts.items k)) refl refl refl in
-    record {
-      run = rw c.append.ensures.items step.run;
-      tied = rw c.append.ensures.items is.tied;
-      chosen = rw c.append.ensures.items (apart ∙ is.chosen);
-      credits = rw c.append.ensures.items is.credits;
-      generators = λ followed. rw c.append.ensures.items (is.generators (sym apart ∙ followed));
-      held = c.self.invariant.held;
-      limits = c.self.invariant.limits;
-      room = omega (arith, c.self.invariant.room, c.append.ensures.capacity);
-    }
+    (λ k. mapped_itself (slice_get p'.harts.items k)) refl refl refl in
+    let set = subst (λ (b : Bool). IsSettled (setting_of m) m.seed (m.log.items ++ e ∷ []) p' m.chooser b) (sym apart) is in
+    machine_so _ (m.log.items ++ e ∷ []) c.append.ensures.items step.run set c.self.invariant.limits (omega (arith, c.self.invariant.room, c.append.ensures.capacity))
 
 pub returns : goal.returns
 returns c =

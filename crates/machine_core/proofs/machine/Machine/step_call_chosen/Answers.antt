@@ -1,9 +1,9 @@
 -- A call of a machine that makes the choices of `run`, and what the kernel wrote in it.
-use Rattle.machine_core.proofs.Common.{◌≡◌, Some, true, ap, length, refl, rules, sym, ◌∙◌, arith, Here, Parts, done_of, past_of, seen, seen_if, setting_of, stand_of, same_here}
+use Rattle.machine_core.proofs.Common.{◌≡◌, Some, true, ap, refl, rules, sym, ◌∙◌, arith, Here, Parts, done_of, past_of, seen, seen_if, setting_of, stand_of, same_here, Bool, List, Generator}
 use Rattle.mach_types.specs.declared.events.Choice.TheVariants as asked
 use Rattle.machine_core.proofs.AdvanceAnswers.{all_of}
 use Rattle.machine_core.proofs.AllowedPlaces.{allowed_place, call_step, planned_call}
-use Rattle.machine_core.proofs.MachineCredits.{settled}
+use Rattle.machine_core.proofs.MachineCredits.{settled, IsSettled, machine_so}
 use Rattle.machine_core.proofs.machine.Machine.step_call_chosen.Goals as goal
 
 pub sight-seen-requires : goal.sight-seen-requires
@@ -51,16 +51,9 @@ invariant_of-self c =
     let sees : Some c.sight-seen.result ≡ seen_if m.chosen (setting_of m) m.seed h (past_of m) = rw all (ap Some (rw (← c.self.view_is) at c.sight-seen.ensures)) in
     let p' : Parts = record c.make_call-made.new.self { harts = c.follow-self-inside.new.harts } in
     let is = settled m c.args.hart asked.Exec e c.make_call-made.new.self p' (Some c.sight-seen.result) c.self.invariant at.goes at.room at.lt step after.credits sees c.follow-self-inside.ensures.harts refl refl refl in
-    record {
-      run = rw c.append.ensures.items step.run;
-      tied = rw c.append.ensures.items is.tied;
-      chosen = rw c.append.ensures.items (c.follow-self-inside.ensures.followed ∙ is.chosen);
-      credits = rw c.append.ensures.items is.credits;
-      generators = λ followed. rw (c.append.ensures.items, c.follow-self-inside.ensures.generators) (is.generators (sym c.follow-self-inside.ensures.followed ∙ followed));
-      held = ap length c.follow-self-inside.ensures.generators ∙ is.held;
-      limits = c.self.invariant.limits;
-      room = omega (arith, c.self.invariant.room, c.append.ensures.capacity);
-    }
+    let set = subst (λ (x : List Generator × Bool). IsSettled (setting_of m) m.seed (m.log.items ++ e ∷ []) p' x.0 x.1)
+    (λ i. (sym c.follow-self-inside.ensures.generators i, sym c.follow-self-inside.ensures.followed i)) is in
+    machine_so _ (m.log.items ++ e ∷ []) c.append.ensures.items step.run set c.self.invariant.limits (omega (arith, c.self.invariant.room, c.append.ensures.capacity))
 
 pub returns : goal.returns
 returns c =

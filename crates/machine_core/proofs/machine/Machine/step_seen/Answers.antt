@@ -1,7 +1,7 @@
-use Rattle.machine_core.proofs.Common.{◌≡◌, ◌<◌, Some, true, ap, length, refl, rules, sym, ◌∙◌, arith, IfOk-at_ok, IsAfter, Parts, done_of, here_of, past_of, seen, seen_if, setting_of, stand_of}
+use Rattle.machine_core.proofs.Common.{◌≡◌, ◌<◌, Some, true, ap, length, refl, rules, sym, ◌∙◌, arith, IfOk-at_ok, IsAfter, Parts, done_of, here_of, past_of, seen, seen_if, setting_of, stand_of, Bool, List, Generator}
 use Rattle.machine_core.proofs.AdvanceAnswers.{all_of}
 use Rattle.machine_core.proofs.StretchAppends.{code_open, goes_on, has_room, is_alone, place_open}
-use Rattle.machine_core.proofs.MachineCredits.{settled}
+use Rattle.machine_core.proofs.MachineCredits.{settled, IsSettled, machine_so}
 use Rattle.machine_core.proofs.Steps.{refused, stepped, stepped_so}
 use Rattle.machine_core.proofs.machine.Machine.step_seen.Goals as goal
 
@@ -19,16 +19,9 @@ invariant_of-self c =
     let sees : Some c.args.sight.now ≡ seen_if m.chosen (setting_of m) m.seed c.args.hart.0 (past_of m) = rw all (ap Some (rw (← c.self.view_is) at c.requires.sight)) in
     let p' : Parts = record c.make.new.self { harts = c.follow-self-inside.new.harts } in
     let is = settled m c.args.hart c.args.choice c.in-Ok.entry c.make.new.self p' (Some c.args.sight.now) c.self.invariant (goes_on m c.self.invariant (rw (← c.self.view_is) at c.requires.goes)) room (rw (← c.self.view_is) at c.requires.hart) step after.credits sees c.follow-self-inside.ensures.harts refl refl refl in
-    record {
-      run = rw c.append.ensures.items step.run;
-      tied = rw c.append.ensures.items is.tied;
-      chosen = rw c.append.ensures.items (c.follow-self-inside.ensures.followed ∙ is.chosen);
-      credits = rw c.append.ensures.items is.credits;
-      generators = λ followed. rw (c.append.ensures.items, c.follow-self-inside.ensures.generators) (is.generators (sym c.follow-self-inside.ensures.followed ∙ followed));
-      held = ap length c.follow-self-inside.ensures.generators ∙ is.held;
-      limits = c.self.invariant.limits;
-      room = omega (arith, c.self.invariant.room, c.append.ensures.capacity);
-    }
+    let set = subst (λ (x : List Generator × Bool). IsSettled (setting_of m) m.seed (m.log.items ++ c.in-Ok.entry ∷ []) p' x.0 x.1)
+    (λ i. (sym c.follow-self-inside.ensures.generators i, sym c.follow-self-inside.ensures.followed i)) is in
+    machine_so _ (m.log.items ++ c.in-Ok.entry ∷ []) c.append.ensures.items step.run set c.self.invariant.limits (omega (arith, c.self.invariant.room, c.append.ensures.capacity))
 
 pub returns-in-Ok : goal.returns-in-Ok
 returns-in-Ok c =

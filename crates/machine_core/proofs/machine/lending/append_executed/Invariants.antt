@@ -1,5 +1,4 @@
-use Rattle.machine_core.proofs.Common.{◌≡◌, ◌≤◌, ◌++◌, map, take, executed}
-use Rattle.std.proofs.Common.{vec_capacity}
+use Rattle.machine_core.proofs.Common.{◌≡◌, ◌≤◌, ◌++◌, map, take, executed, vec_capacity}
 use Rattle.machine_core.proofs.machine.lending.append_executed.Given as goal
 
 -- those of the addresses before are appended

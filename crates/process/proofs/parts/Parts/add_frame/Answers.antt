@@ -1,5 +1,5 @@
 -- The frame of a handler, behind other writes.
-use Rattle.process.proofs.Common.{◌≡◌, false, true, List, ◌++◌, append-nil, length, not, cond, Some, None, sym, ap, ◌∙◌, arith, can_write_frame, frame_writes, action_of, is_handler, mask_of, Write, can_write_in, frame_unless}
+use Rattle.process.proofs.Common.{◌≡◌, false, true, List, ◌++◌, append-nil, sym, ap, ◌∙◌, can_write_frame, frame_writes, action_of, is_handler, mask_of, Write, can_write_in, frame_unless}
 use Rattle.process.proofs.KernelWrites.{frame_there, no_frame}
 use Rattle.process.proofs.SignalDelivery.{killer_default, killer_handler}
 use Rattle.process.proofs.parts.Parts.add_frame.Goals as goal

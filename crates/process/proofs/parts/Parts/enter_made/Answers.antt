@@ -1,5 +1,6 @@
 use Rattle.process.proofs.Common.{slice_get, eqb}
-use Rattle.process.proofs.Interruptions.{lost_nothing, none_written}
+use Rattle.process.proofs.Events.{lost_nothing}
+use Rattle.process.proofs.Interruptions.{none_written}
 use Rattle.process.proofs.parts.Parts.enter_made.Goals as goal
 
 pub returns-in_default-clause-pages : goal.returns-in_default-clause-pages

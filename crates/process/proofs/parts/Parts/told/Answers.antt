@@ -1,5 +1,6 @@
 use Rattle.process.proofs.Common.{◌≡◌, ℕ, sym, ap, ◌∙◌, eqb, List, slice_get, option_map, after_writes, Words, words_entered, words_on, words_written, Write, byte_in, lost_unless}
-use Rattle.process.proofs.Interruptions.{lost_nothing, told_all, told_answer, told_none, told_pages, words_visible}
+use Rattle.process.proofs.Events.{lost_nothing}
+use Rattle.process.proofs.Interruptions.{told_all, told_answer, told_none, told_pages, words_visible}
 use Rattle.process.proofs.parts.Parts.told.Goals as goal
 
 -- the words of a hart and an id

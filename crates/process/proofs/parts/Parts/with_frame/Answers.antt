@@ -1,5 +1,5 @@
 -- The frame of a handler, behind the writes of an interruption.
-use Rattle.process.proofs.Common.{◌≡◌, ap, here_at, Saved}
+use Rattle.process.proofs.Common.{ap, here_at, Saved}
 use Rattle.mach_types.specs.declared.events.Kind.TheVariants as kind
 use Rattle.process.proofs.KernelWrites.{frame_behind}
 use Rattle.process.proofs.Places.{hart_is}
