@@ -1,12 +1,7 @@
 -- What an attempt to go on by the choice of `run` comes to.
-use Rattle.machine_core.proofs.Common.{◌≡◌, ℕ, ◌<◌, ◌≤◌, List, length, refl, sym, ap, ◌∙◌, arith, true, false, leb, ◌||◌, Option, Some, None, is_some, Ok, Err, Result, option_map, le-ltb, Ended, Choice, Entry, History, Inside, IsMachine, Setting, Sight, here_in_history, here_of, past_of, ran, seen, setting_of, Why, Pick, draws, pick, generator_in, word, IsChosen, advance_at, all_chosen, choice_at, credit_at, has_ended, next_entry, pick_at, decide, entry_in, history, over_at, refusal_of, sight_in, length-history, same_here, is_picked, answered}
-use Rattle.std.proofs.lemmas.Bool.{or_right}
-use Rattle.std.proofs.Common.{le-leb}
-use Rattle.mach_types.specs.declared.events.Advance.TheVariants.{Made, NoneNow}
+use Rattle.machine_core.proofs.Common.{◌≡◌, ℕ, ◌<◌, ◌≤◌, List, length, refl, sym, ap, ◌∙◌, true, false, leb, ◌||◌, Option, Some, None, is_some, Ok, Err, Result, option_map, le-ltb, Ended, Choice, Entry, History, Inside, IsMachine, Setting, Sight, here_in_history, past_of, ran, setting_of, Why, Pick, draws, pick, generator_in, word, IsChosen, advance_at, all_chosen, choice_at, credit_at, has_ended, next_entry, pick_at, decide, entry_in, history, over_at, sight_in, length-history, answered, Made, NoneNow, case_of, is_open, pick_in, choice_decides}
 use Rattle.chooser.specs.declared.cases.Case.{Case}
 use Rattle.chooser.specs.declared.cases.Case.TheVariants.{Settled, Open}
-use Rattle.chooser.specs.Cases.{case_of, is_open, pick_in}
-use Rattle.block_model.proofs.Laws.{choice_decides, choice_is_allowed, is_choice_same}
 use Rattle.block_model.specs.declared.refusals.Refused.{Refused}
 use Rattle.machine_core.proofs.ChoiceCredits.{choice_where, pick_read}
 use Rattle.machine_core.proofs.Readings.{over_read}
@@ -24,12 +19,6 @@ chosen_of s seed log all = sym all
 pub over_ended : (m : Inside) → IsMachine m → is_some m.parts.ended ≡ true → has_ended (setting_of m) (past_of m) ≡ true
 unfolding has_ended
 over_ended m machine some = rw (ap is_some (sym (over_read m machine)) ∙ some) refl
-
-pub full_ended : (m : Inside) → m.limits.steps ≤ length m.log.items → has_ended (setting_of m) (past_of m) ≡ true
-unfolding has_ended
-full_ended m full =
-    let long = length-history (setting_of m) m.log.items in
-    rw (le-leb m.limits.steps (length (past_of m)) (omega (arith, full, long))) (or_right (is_some (over_at (setting_of m) (past_of m))) true refl)
 
 -- and a machine that no event ended has ended where its log is full
 pub ended_by_room : (m : Inside) (made : ℕ) → IsMachine m → false ≡ is_some m.parts.ended → made ≡ length m.log.items
@@ -74,22 +63,11 @@ machine_picks m h x p machine all lt sees is =
     is ∙ (ap (λ y. pick y (word (generator_in m.chooser h))) sees
     ∙ pick_read (setting_of m) m.seed (past_of m) h m.chooser all (machine.generators (machine.chosen ∙ sym all) h lt))
 
--- what is picked is allowed
-pub pick_allowed : (m : Inside) (h : ℕ) (p : Pick) → IsMachine m → has_ended (setting_of m) (past_of m) ≡ false → h < m.limits.harts → Some p ≡ pick_at (setting_of m) m.seed h (past_of m)
-    → refusal_of p.choice (here_of (seen m) h) ≡ None
-pick_allowed m h p machine goes lt picked =
-    let chosen : choice_at (setting_of m) m.seed h (past_of m) ≡ Some p.choice =
-    choice_where (setting_of m) m.seed h (past_of m) goes lt ∙ ap (option_map (λ (q : Pick). q.choice)) (sym picked) in
-    ap (refusal_of p.choice) (same_here (seen m) h machine.run) ∙ choice_is_allowed (setting_of m) m.seed m.log.items h p.choice machine.run chosen
-
 pub never_refused : (made : Entry) (why : Why) (o : Option Why) → o ≡ None → Err why ≡ answered made o → ⊥
 never_refused made why o none is = let bad : Err why ≡ Ok made = is ∙ ap (answered made) none in cc
 
 pub made_is : (made e : Entry) (o : Option Why) → o ≡ None → Ok e ≡ answered made o → e ≡ made
 made_is made e o none is = let same : Ok e ≡ Ok made = is ∙ ap (answered made) none in cc
-
-pub picks_itself : (p : Pick) → is_picked p.choice (Some p) ≡ true
-picks_itself p = is_choice_same p.choice
 
 pub none_of : {T : Type 0} (o : Option T) → false ≡ is_some o → o ≡ None
 none_of None is = refl

@@ -1,11 +1,8 @@
 -- A place of the log at which a choice is allowed: the parts may make its event.
-use Rattle.machine_core.proofs.Common.{◌≡◌, ℕ, ◌<◌, length, refl, sym, ap, ◌∙◌, arith, Option, None, Some, Ok, inl, Choice, Entry, Hart, Here, Inside, IsAfter, IsMachine, Parts, done_of, entry_in, here_in_history, here_of, past_of, runs, seen, setting_of, decide, refusal_of, effect_here, effect_on, fault_here, fault_on, stand_of, length-history, same_here, IsPlanned, answered}
+use Rattle.machine_core.proofs.Common.{◌≡◌, ℕ, ◌<◌, length, refl, sym, ap, ◌∙◌, arith, Option, None, Some, Ok, inl, Choice, Entry, Hart, Here, Inside, IsAfter, IsMachine, Parts, done_of, entry_in, here_in_history, here_of, past_of, runs, seen, setting_of, decide, refusal_of, effect_here, effect_on, fault_here, fault_on, stand_of, length-history, same_here, IsPlanned, answered, here_at, allowed_at, MayMake}
 use Rattle.mach_types.specs.declared.events.Choice.TheVariants as asked
 use Rattle.rv_inst.specs.declared.effects.Effect.TheVariants as effect
 use Rattle.block_model.specs.Events.Exec.{next_effect, next_fault}
-use Rattle.block_model.specs.Stands.{here_at}
-use Rattle.block_model.proofs.Laws.{allowed_at}
-use Rattle.process.specs.Refinement.{MayMake}
 use Rattle.process.specs.declared.next.Next.{Next}
 use Rattle.machine_core.proofs.Readings.{over_read}
 use Rattle.machine_core.proofs.Steps.{IsLogPlace, IsStep, place_of, stepped}

@@ -1,9 +1,6 @@
 -- A machine that has done nothing yet.
-use Rattle.machine_core.proofs.Common.{◌≡◌, ℕ, zero, suc, ◌<◌, arith, List, [], length, refl, true, HartState, Setting, credit_of, generator_in, all_chosen, credit_at, history, generator_at}
-use Rattle.std.proofs.Common.{All}
+use Rattle.machine_core.proofs.Common.{◌≡◌, ℕ, zero, suc, ◌<◌, arith, List, [], length, refl, true, HartState, Setting, credit_of, generator_in, all_chosen, credit_at, history, generator_at, All, first_generators, idle_credit}
 use Rattle.hart_state.specs.State.{idle_hart}
-use Rattle.chooser.specs.Generators.{first_generators}
-use Rattle.process.proofs.Laws.{idle_credit}
 
 -- no entry is of another choice at the start
 pub none_made : (s : Setting) (seed : ℕ) → true ≡ all_chosen s seed (history s [])

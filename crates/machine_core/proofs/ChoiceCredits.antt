@@ -1,12 +1,6 @@
 -- The credits and the generators after an event, where it was the choice of `run` and where it wasn't.
-use Rattle.machine_core.proofs.Common.{◌≡◌, ◌≢◌, ℕ, ◌+◌, ◌<◌, List, [], ◌∷◌, ◌++◌, length, refl, sym, ap, ◌∙◌, Bool, true, false, cond, eqb, ◌&&◌, Option, eq-eqb, ◌⊎◌, inl, inr, option_map, cases_eq, lt-ltb, ne_eqb, choice_of, Choice, Entry, HartState, History, Setting, Sight, here_in_history, ran, Pick, draws, pick, Generator, generator_in, next_generator, word, after_pick-settled, Luck, all_chosen, choice_at, credit_at, has_ended, luck, pick_at, sight_with, history, sight_in, followed, generators_after, is_followed, is_picked, seen_if, generator_at}
+use Rattle.machine_core.proofs.Common.{◌≡◌, ◌≢◌, ℕ, ◌+◌, ◌<◌, List, [], ◌∷◌, ◌++◌, length, refl, sym, ap, ◌∙◌, Bool, true, false, cond, eqb, ◌&&◌, Option, eq-eqb, ◌⊎◌, inl, inr, option_map, cases_eq, lt-ltb, ne_eqb, choice_of, Choice, Entry, HartState, History, Setting, Sight, here_in_history, ran, Pick, draws, pick, Generator, generator_in, next_generator, word, after_pick-settled, Luck, all_chosen, choice_at, credit_at, has_ended, luck, pick_at, sight_with, history, sight_in, followed, generators_after, is_followed, is_picked, seen_if, generator_at, false≢true, after_pick, after_words, first_generator, after_pick-other, after_pick-own, is_choice, all_chosen_next, luck_of_other, luck_of_own, with_credit}
 use native.Mathlib.Numerals.{unary_clauses}
-use Rattle.std.proofs.lemmas.Bool.{false≢true}
-use Rattle.chooser.specs.Generators.{after_pick, after_words, first_generator}
-use Rattle.chooser.proofs.Laws.{after_pick-other, after_pick-own}
-use Rattle.block_model.specs.Choosing.{is_choice}
-use Rattle.block_model.proofs.Laws.{all_chosen_next, luck_of_other, luck_of_own}
-use Rattle.machine_core.specs.Credits.{with_credit}
 
 -- the choice at a place that hasn't ended is the pick's
 pub choice_where : (s : Setting) (seed h : ℕ) (before : History) → has_ended s before ≡ false → h < s.limits.harts

@@ -1,6 +1,5 @@
 -- A hart goes freely where a thread runs that waits in no barrier, and its next instruction sets a register and does nothing else.
-use Rattle.machine_core.proofs.Common.{and_right, ◌≡◌, ℕ, ◌&&◌, length, sym, ap, ◌∙◌, refl, not, Bool, true, false, is_none, is_some, Option, Some, None, option_map, option_map_or, option_or, HartState, Here, runs, sets_register, thread, instruction_gate, Effect, is_held, effect_at, fault_at, others_gate, refusal_exec_by, unless_in_barrier, is_storable, reached, waiting_here, fault_by, fetched, next_effect, is_local_on, file_of, file_on, hart_in}
-use Rattle.process.proofs.Laws.{gate_of_free, no_fault_of_free, others_of_free}
+use Rattle.machine_core.proofs.Common.{and_right, ◌≡◌, ℕ, ◌&&◌, length, sym, ap, ◌∙◌, refl, not, Bool, true, false, is_none, is_some, Option, Some, None, option_map, option_map_or, option_or, HartState, Here, runs, sets_register, thread, instruction_gate, Effect, is_held, effect_at, fault_at, others_gate, refusal_exec_by, unless_in_barrier, is_storable, reached, waiting_here, fault_by, fetched, next_effect, is_local_on, file_of, file_on, hart_in, gate_of_free, no_fault_of_free, others_of_free}
 use Rattle.machine_core.specs.Free.{goes_freely}
 use Rattle.machine_core.proofs.Sights.{next_local}
 

@@ -1,9 +1,7 @@
 -- A machine after an event, with the credits and the generators that follow it.
-use Rattle.machine_core.proofs.Common.{vec_capacity, ◌≡◌, ℕ, ◌<◌, List, [], ◌∷◌, ◌++◌, length, refl, sym, ap, ◌∙◌, arith, Bool, true, false, cond, Option, Some, None, is_some, slice_get, set, option_map, option_map_or, InRange, Choice, Entry, Hart, HartState, History, Inside, Parts, Setting, Sight, credit_of, draws, hart_at, seen_if, Generator, generator_in, next_generator, all_chosen, credit_at, has_ended, history, over_at, Plain, plain_after, length-history, followed, generators_after, is_followed, IsTied, IsMachine, generator_at, past_of, seen, setting_of, IsBlockRun, ◌≤◌}
-use Rattle.std.proofs.lemmas.Bool.{lt-leb}
+use Rattle.machine_core.proofs.Common.{vec_capacity, ◌≡◌, ℕ, ◌<◌, List, [], ◌∷◌, ◌++◌, length, refl, sym, ap, ◌∙◌, arith, Bool, true, false, cond, Option, Some, None, is_some, slice_get, set, option_map, option_map_or, InRange, Choice, Entry, Hart, HartState, History, Inside, Parts, Setting, Sight, credit_of, draws, hart_at, seen_if, Generator, generator_in, next_generator, all_chosen, credit_at, has_ended, history, over_at, Plain, plain_after, length-history, followed, generators_after, is_followed, IsTied, IsMachine, generator_at, past_of, seen, setting_of, IsBlockRun, ◌≤◌, lt-leb, same_length, mapped_is}
 use Rattle.std.proofs.lemmas.List.{length-set}
 use Rattle.machine_core.proofs.ChoiceCredits.{IsFollowing, chosen_after, credit_after, generator_after}
-use Rattle.process.proofs.Laws.{same_length, mapped_is}
 use Rattle.machine_core.proofs.Readings.{over_read}
 use Rattle.machine_core.proofs.Steps.{IsStep}
 

@@ -1,10 +1,6 @@
 -- What is read of a machine is what is read by looking back over its log.
-use Rattle.machine_core.proofs.Common.{◌≡◌, ℕ, ◌<◌, length, sym, ap, ◌∙◌, arith, get_or, Option, Some, same_Some, slice_get-get_or, word_at, HartState, Inside, IsMachine, credit_of, hart_at, hart_in, seen, setting_of, byte_in, can_write_in, credit_at, Here, is_writable, memory, waiting_here, History, events, here_in_history, ran, history, over_at, Plain, plain_over, plain_seen, same_here, same_state}
-use Rattle.rv_inst.specs.Execution.{seen_byte}
+use Rattle.machine_core.proofs.Common.{◌≡◌, ℕ, ◌<◌, length, sym, ap, ◌∙◌, arith, get_or, Option, Some, same_Some, slice_get-get_or, word_at, HartState, Inside, IsMachine, credit_of, hart_at, hart_in, seen, setting_of, byte_in, can_write_in, credit_at, Here, is_writable, memory, waiting_here, History, events, here_in_history, ran, history, over_at, Plain, plain_over, plain_seen, same_here, same_state, seen_byte, view, console, file, kernel, bytes_held, writable_held}
 use Rattle.sys_calls.specs.Made.{AreSaved}
-use Rattle.block_model.specs.Here.{view}
-use Rattle.block_model.specs.History.{console, file, kernel}
-use Rattle.process.proofs.Laws.{bytes_held, writable_held}
 
 -- the history of a machine's log, and what a rule may read there
 abbrev pub history_of : Inside → History

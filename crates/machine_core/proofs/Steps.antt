@@ -1,12 +1,6 @@
 -- One step: what is decided at a place, and a machine that made the event.
-use Rattle.machine_core.proofs.Common.{InRange, ◌≡◌, ℕ, ◌<◌, [], ◌∷◌, ◌++◌, length, sym, ap, ◌∙◌, subst, arith, Option, Some, None, Ok, Err, Result, IfOk-at_ok, choice_of, Choice, Entry, Hart, Inside, IsBlockRun, IsMachine, Parts, Seen, seen, Why, decide, entry_in, history, done_of, refusal_of, here_of, plain_after, plain_seen, stand_of, standing, IsAfter, IsTied, answer_to, answered}
-use Rattle.block_model.proofs.Laws.{plain_made}
-use Rattle.std.proofs.Common.{IfOk}
+use Rattle.machine_core.proofs.Common.{InRange, ◌≡◌, ℕ, ◌<◌, [], ◌∷◌, ◌++◌, length, sym, ap, ◌∙◌, subst, arith, Option, Some, None, Ok, Err, Result, IfOk-at_ok, choice_of, Choice, Entry, Hart, Inside, IsBlockRun, IsMachine, Parts, Seen, seen, Why, decide, entry_in, history, done_of, refusal_of, here_of, plain_after, plain_seen, stand_of, standing, IsAfter, IsTied, answer_to, answered, plain_made, IfOk, unless, apply, at_kind, decided_is, next_event, run_on, IsPlace}
 use Rattle.block_model.specs.declared.refusals.Refused.TheVariants.{NotEnabled}
-use Rattle.block_model.specs.Deciding.{unless}
-use Rattle.block_model.specs.Plain.{apply}
-use Rattle.block_model.proofs.Laws.{at_kind, decided_is, next_event, run_on}
-use Rattle.process.specs.Refinement.{IsPlace}
 
 answer_ok : (made e : Entry) (o : Option Why) → answered made o ≡ Ok e → unless made o ≡ Ok e
 answer_ok made e None is = cc

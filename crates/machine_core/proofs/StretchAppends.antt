@@ -1,14 +1,6 @@
 -- A machine that takes a stretch in: the hart is as it was when the stretch was lent.
-use Rattle.machine_core.proofs.Common.{List, [], ◌∷◌, ◌-◌, take, zero, suc, eqb, eq-eqb, ◌+◌, map, Bool, leb, is_some, not, ◌&&◌, ◌≡◌, ℕ, ◌<◌, ◌≤◌, ◌++◌, length, refl, sym, ap, ◌∙◌, subst, true, false, get_or, None, Some, arith, option_map, IsSome, with_item, same_Some, slice_get-get_or, Hart, HartState, ImagePage, Inside, IsBlockRun, IsMachine, Parts, Saved, Setting, past_of, plain_seen, seen, setting_of, thread, Tid, IsChosen, Luck, all_chosen, has_ended, history, over_at, History, events, stand_of, Stretch, advanced, stepped, Steps, is_lent, length-history, credit_of, file_of, file_on, hart_at, executed}
-use Rattle.std.proofs.lemmas.Bool.{or_parts}
-use Rattle.std.proofs.Common.{min, ◌^◌, leb-false}
-use Rattle.std.proofs.lemmas.Option.{get_or_from_slice_get}
+use Rattle.machine_core.proofs.Common.{List, [], ◌∷◌, ◌-◌, take, zero, suc, eqb, eq-eqb, ◌+◌, map, Bool, leb, is_some, not, ◌&&◌, ◌≡◌, ℕ, ◌<◌, ◌≤◌, ◌++◌, length, refl, sym, ap, ◌∙◌, subst, true, false, get_or, None, Some, arith, option_map, IsSome, with_item, same_Some, slice_get-get_or, Hart, HartState, ImagePage, Inside, IsBlockRun, IsMachine, Parts, Saved, Setting, past_of, plain_seen, seen, setting_of, thread, Tid, IsChosen, Luck, all_chosen, has_ended, history, over_at, History, events, stand_of, Stretch, advanced, stepped, Steps, is_lent, length-history, credit_of, file_of, file_on, hart_at, executed, or_parts, min, ◌^◌, leb-false, get_or_from_slice_get, awaits, IsStretchOf, appended, HasStayed, events_few, ran_few, stays, steps_of, worked_keeps, HasCode, IsAlone, taken_in}
 use Rattle.std.proofs.lemmas.List.{length-take-le}
-use Rattle.block_model.specs.History.{awaits}
-use Rattle.block_model.specs.Stretches.{IsStretchOf, appended}
-use Rattle.block_model.proofs.Laws.{HasStayed, events_few, ran_few, stays, steps_of, worked_keeps}
-use Rattle.process.specs.Refinement.{HasCode, IsAlone}
-use Rattle.machine_core.specs.Stretches.{taken_in}
 use Rattle.machine_core.proofs.AdvanceAnswers.{all_of, none_of}
 use Rattle.machine_core.proofs.StretchSteps.{AreAllOn, IsOnWay, all_on, own_is, settled_alike}
 use Rattle.machine_core.proofs.ChoiceCredits.{credit_read}

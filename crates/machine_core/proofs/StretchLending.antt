@@ -1,14 +1,8 @@
 -- The stretch that a machine lends of a hart is the one that is lent by its log.
-use Rattle.machine_core.proofs.Common.{List, [], sym, ◌∷◌, ◌++◌, ◌+◌, subst, arith, ◌≡◌, ℕ, ◌≤◌, ◌<◌, ◌||◌, ◌&&◌, refl, ap, ◌∙◌, Bool, true, false, not, cond, eqb, ltb, Option, None, Some, is_some, zero, suc, IsSome, le-ltb, lt-ltb, ne_eqb, option_and_then, option_map, option_map_or, Ended, Entry, HartState, Setting, sets_register, advance_at, has_ended, luck, next_entry, sight_with, history, is_writable, memory, waiting_here, History, events, here_in_history, ran, next_effect, is_local_on, thread, Stretch, advanced, file_on, hart_in}
-use Rattle.std.proofs.Common.{if◌then◌else◌}
+use Rattle.machine_core.proofs.Common.{List, [], sym, ◌∷◌, ◌++◌, ◌+◌, subst, arith, ◌≡◌, ℕ, ◌≤◌, ◌<◌, ◌||◌, ◌&&◌, refl, ap, ◌∙◌, Bool, true, false, not, cond, eqb, ltb, Option, None, Some, is_some, zero, suc, IsSome, le-ltb, lt-ltb, ne_eqb, option_and_then, option_map, option_map_or, Ended, Entry, HartState, Setting, sets_register, advance_at, has_ended, luck, next_entry, sight_with, history, is_writable, memory, waiting_here, History, events, here_in_history, ran, next_effect, is_local_on, thread, Stretch, advanced, file_on, hart_in, if◌then◌else◌, made_or_none, running, next_is_none, id_on, stretch_on}
 use Rattle.mach_types.specs.declared.events.Advance.{Advance}
-use Rattle.block_model.specs.Choosing.{made_or_none}
-use Rattle.block_model.specs.History.{running}
 use Rattle.block_model.specs.Stretches.{is_on_credit, lent, lent_to}
-use Rattle.block_model.proofs.Laws.{next_is_none}
 use Rattle.machine_core.specs.Advancing.{made_in}
-use Rattle.process.specs.Harts.{id_on}
-use Rattle.machine_core.specs.Stretches.{stretch_on}
 use Rattle.machine_core.proofs.Sights.{next_local}
 
 -- nothing is lent where the run has ended, or of a hart that the machine hasn't
@@ -77,9 +71,6 @@ pub record IsOnItsWay (s : Setting) (seed h : ℕ) (begun now : List Entry) (mad
   pub left : ℕ
   pub counted : left + made ≡ count
   pub whole : advanced s seed h left now ≡ advanced s seed h count begun
-
-pub on_its_way : (s : Setting) (seed h : ℕ) (begun : List Entry) (count : ℕ) → IsOnItsWay s seed h begun begun 0 count
-on_its_way s seed h begun count = record { left = count; counted = omega arith; whole = refl }
 
 -- the entry that a hart makes next is made by an attempt to go on
 made_next : (s : Setting) (seed h : ℕ) (log : List Entry) (n : ℕ) (o : Option Entry) (over : Bool) → next_entry s seed h (history s log) ≡ o → has_ended s (history s log) ≡ over

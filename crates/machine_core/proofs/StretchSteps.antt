@@ -1,27 +1,17 @@
 -- Instructions that touch registers alone, one after another, as `run` chooses them on credit: what becomes of the parts of a
 -- machine and of its log.
-use Rattle.machine_core.proofs.Common.{◌≡◌, ◌≢◌, ℕ, ◌+◌, ◌-◌, ◌<◌, ◌≤◌, ◌&&◌, List, [], ◌∷◌, ◌++◌, length, map, refl, sym, ap, ◌∙◌, subst, arith, Bool, true, false, cond, eqb, ltb, leb, get_or, set, slice_get, Option, None, Some, Ok, is_none, is_some, append-nil, suc, eq-eqb, ◌⊎◌, inl, inr, option_and_then, option_map, option_map_or, option_or, with_item, cases_eq, ne_eqb, same_Some, slice_get-get_or, InRange, Choice, Entry, Hart, HartState, History, ImagePage, IsBlockRun, Parts, Saved, Seen, Setting, Sight, executed, here_in_history, ran, sets_register, Tid, instruction_gate, Effect, draws, pick, Generator, generator_in, word, Pick, after_pick-settled, byte_in, all_chosen, choice_at, credit_at, has_ended, next_entry, pick_at, entry_in, history, over_at, done_of, refusal_of, is_held, effect_at, fault_at, others_gate, refusal_exec_by, unless_in_barrier, Here, is_storable, is_writable, memory, reached, runs, waiting_here, fault_by, fetched, next_effect, here_of, plain_after, plain_over, plain_seen, is_local_on, sight_in, stand_of, Stretch, advanced, goes_on, longest, stepped, Steps, length-history, same_here, same_state, credit_of, file_of, file_on, hart_at, IsAfter, answer_to, answered, followed, generators_after, is_followed, is_picked, IsPlanned, and_right}
-use Rattle.std.proofs.Common.{append_assoc}
+use Rattle.machine_core.proofs.Common.{◌≡◌, ◌≢◌, ℕ, ◌+◌, ◌-◌, ◌<◌, ◌≤◌, ◌&&◌, List, [], ◌∷◌, ◌++◌, length, map, refl, sym, ap, ◌∙◌, subst, arith, Bool, true, false, cond, eqb, ltb, leb, get_or, set, slice_get, Option, None, Some, Ok, is_none, is_some, append-nil, suc, eq-eqb, ◌⊎◌, inl, inr, option_and_then, option_map, option_map_or, option_or, with_item, cases_eq, ne_eqb, same_Some, slice_get-get_or, InRange, Choice, Entry, Hart, HartState, History, ImagePage, IsBlockRun, Parts, Saved, Seen, Setting, Sight, executed, here_in_history, ran, sets_register, Tid, instruction_gate, Effect, draws, pick, Generator, generator_in, word, Pick, after_pick-settled, byte_in, all_chosen, choice_at, credit_at, has_ended, next_entry, pick_at, entry_in, history, over_at, done_of, refusal_of, is_held, effect_at, fault_at, others_gate, refusal_exec_by, unless_in_barrier, Here, is_storable, is_writable, memory, reached, runs, waiting_here, fault_by, fetched, next_effect, here_of, plain_after, plain_over, plain_seen, is_local_on, sight_in, stand_of, Stretch, advanced, goes_on, longest, stepped, Steps, length-history, same_here, same_state, credit_of, file_of, file_on, hart_at, IsAfter, answer_to, answered, followed, generators_after, is_followed, is_picked, IsPlanned, and_right, append_assoc, and_parts, and_from, all_stored, written, Outcome, has_credit, on_credit, by_outcome, file_after, none_of_both, credited, changed_as, entry_exec, get_set_other, get_set_same, in_list, none_beside, performing, plain_next, plain_own, runs_there, saved_plain, thread_is}
 use Rattle.std.proofs.lemmas.List.{length-append}
-use Rattle.std.proofs.lemmas.Bool.{and_parts, and_from}
 use Rattle.mach_types.specs.Registers.{with_register}
-use Rattle.mach_types.specs.Bytes.{all_stored, written}
 use Rattle.mach_types.specs.declared.events.Choice.TheVariants as asked
 use Rattle.mach_types.specs.declared.events.Kind.TheVariants as kind
 use Rattle.mach_types.specs.declared.events.Why.TheVariants.{Waiting, FullBuffer}
 use Rattle.mach_types.specs.declared.user_memory.Store.{Store}
-use Rattle.rv_inst.specs.Execution.{Outcome}
 use Rattle.rv_inst.specs.declared.effects.Effect.TheVariants as effect
-use Rattle.chooser.specs.Cases.{has_credit, on_credit}
 use Rattle.sys_calls.specs.Made.{HoldsPages}
 use Rattle.hart_state.specs.State.{hart_after, outcome_on}
-use Rattle.block_model.specs.Events.Exec.{by_outcome}
-use Rattle.block_model.specs.Stretches.{file_after}
-use Rattle.block_model.proofs.Laws.{none_of_both}
-use Rattle.machine_core.specs.Credits.{credited}
 use Rattle.process.specs.EventOutcomes.{entry_from}
 use Rattle.machine_core.proofs.ChoiceCredits.{choice_where, pick_read}
-use Rattle.process.proofs.Laws.{changed_as, entry_exec, get_set_other, get_set_same, in_list, none_beside, performing, plain_next, plain_own, runs_there, saved_plain, thread_is}
 use Rattle.machine_core.proofs.MachineCredits.{IsSettled, mapped_itself, not_ended, settled_next, tied_with}
 use Rattle.machine_core.proofs.Sights.{next_local}
 use Rattle.machine_core.proofs.Steps.{IsLogPlace, stepped as stepped_by, log_place}

@@ -1,6 +1,5 @@
 -- A stretch that is worked instruction by instruction.
-use Rattle.machine_core.proofs.Common.{◌≡◌, ℕ, ◌+◌, ◌<◌, List, refl, sym, ap, ◌∙◌, arith, cond, false, zero, suc, ImagePage, Stretch, goes_on, longest, stepped}
-use Rattle.block_model.specs.Stretches.{gone_on, worked}
+use Rattle.machine_core.proofs.Common.{◌≡◌, ℕ, ◌+◌, ◌<◌, List, refl, sym, ap, ◌∙◌, arith, cond, false, zero, suc, ImagePage, Stretch, goes_on, longest, stepped, gone_on, worked}
 
 -- after as many attempts as are left the stretch is what it becomes in all
 pub record IsHalfWorked (code : List ImagePage) (begun now : Stretch) (made : ℕ) : Type 0 where
@@ -27,11 +26,3 @@ stays_so (suc n) code l stops = ap (λ b. worked n code (cond b (stepped code l)
 
 pub stopped : (code : List ImagePage) (begun now : Stretch) (made : ℕ) → IsHalfWorked code begun now made → false ≡ goes_on code now → now ≡ worked longest code begun
 stopped code begun now made half stops = sym (stays_so half.left code now stops) ∙ half.whole
-
--- and when no attempt is left it is worked
-pub all_made : (code : List ImagePage) (begun now : Stretch) (made : ℕ) → IsHalfWorked code begun now made → made ≡ longest → now ≡ worked longest code begun
-all_made code begun now made half all = go half.left half.counted half.whole
-  where
-    go : (left : ℕ) → left + made ≡ longest → worked left code now ≡ worked longest code begun → now ≡ worked longest code begun
-    go zero counted whole = whole
-    go (suc n) counted whole = absurd (omega (arith, counted, all))

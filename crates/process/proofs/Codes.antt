@@ -1,12 +1,6 @@
 -- The pages of a program that may be executed are all that its instructions are read from.
-use Rattle.process.proofs.Common.{◌≡◌, ◌≢◌, ℕ, ◌+◌, ◌-◌, ◌/◌, ◌%◌, ◌<◌, ◌&&◌, List, [], ◌∷◌, ◌++◌, length, map, filter, refl, sym, ap, ◌∙◌, arith, Bool, true, false, cond, eqb, ltb, get_or, Option, Some, None, zero, suc, IsStrictlyIncreasing, option_map_or, eqb-true, false≢true, ne_eqb, length-map, AllPairs-from_increasing, is_in, code_word, page_of, return_run, stack_run, Effect, ImagePage, sets_register, fetched, code_of, word_of_page}
-use Rattle.std.proofs.Common.{if◌then◌else◌, AllPairs}
-use Rattle.std.proofs.lemmas.Bool.{cond_both}
-use Rattle.std.proofs.lemmas.List.{get_or-map}
-use Rattle.std.proofs.lemmas.List.Kept.{AllPairs-filter}
-use Rattle.block_model.specs.Instruction.{effect_of}
+use Rattle.process.proofs.Common.{◌≡◌, ◌≢◌, ℕ, ◌+◌, ◌-◌, ◌/◌, ◌%◌, ◌<◌, ◌&&◌, List, [], ◌∷◌, ◌++◌, length, map, filter, refl, sym, ap, ◌∙◌, arith, Bool, true, false, cond, eqb, ltb, get_or, Option, Some, None, zero, suc, IsStrictlyIncreasing, option_map_or, eqb-true, false≢true, ne_eqb, length-map, AllPairs-from_increasing, is_in, code_word, page_of, return_run, stack_run, Effect, ImagePage, sets_register, fetched, code_of, word_of_page, if◌then◌else◌, AllPairs, cond_both, get_or-map, AllPairs-filter, effect_of, is_executable}
 use Rattle.block_model.specs.Stretches.{Stretch, file_after, gone_on, longest, worked}
-use Rattle.process.specs.Pages.{is_executable}
 use Rattle.process.proofs.Fetches.{four_bytes, word_of_image}
 
 -- the number of a page is below that of another

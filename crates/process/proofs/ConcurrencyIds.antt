@@ -1,11 +1,7 @@
 -- The ids that the threads on harts hold: they stay theirs while other threads begin to run and leave, and the harts know which are
 -- held.
-use Rattle.process.proofs.Common.{◌≡◌, ◌≢◌, ℕ, zero, suc, ◌+◌, ◌*◌, ◌%◌, ◌^◌, ◌<◌, ◌≤◌, ◌&&◌, ◌||◌, List, [], ◌∷◌, find, filter, map, length, take, get_or, refl, sym, ap, ◌∙◌, arith, Bool, true, false, cond, eqb, Option, Some, None, is_some, list_any, option_map, option_map_or, fun_ext, take-length, list_any_more, slice_get-get_or, HartState, IsPlace, IsTables, IsTied, Parts, Plain, Setting, Stand, credit_of, hart_at, harts_that, here_in_plain, holds, id_on, thread, Scheduling, Threads, is_ready, is_ready_state, running_on, state_of, ThreadState, idle_hart, id_of, next_id, with_id, without_id, running_is}
-use Rattle.std.proofs.Common.{Fits, w8}
+use Rattle.process.proofs.Common.{◌≡◌, ◌≢◌, ℕ, zero, suc, ◌+◌, ◌*◌, ◌%◌, ◌^◌, ◌<◌, ◌≤◌, ◌&&◌, ◌||◌, List, [], ◌∷◌, find, filter, map, length, take, get_or, refl, sym, ap, ◌∙◌, arith, Bool, true, false, cond, eqb, Option, Some, None, is_some, list_any, option_map, option_map_or, fun_ext, take-length, list_any_more, slice_get-get_or, HartState, IsPlace, IsTables, IsTied, Parts, Plain, Setting, Stand, credit_of, hart_at, harts_that, here_in_plain, holds, id_on, thread, Scheduling, Threads, is_ready, is_ready_state, running_on, state_of, ThreadState, idle_hart, id_of, next_id, with_id, without_id, running_is, Fits, w8, times, held_ids, is_id_of, is_held_below, is_held_by, stand_taken}
 use Rattle.mach_types.proofs.Laws.{eqb_other, eqb_same, filtered_other, found_at_end, harts_that-fits, not_at_end}
-use Rattle.mach_types.specs.Kernel.Threads.{times}
-use Rattle.block_model.specs.Ids.{held_ids, is_id_of}
-use Rattle.block_model.proofs.Laws.{is_held_below, is_held_by, stand_taken}
 use Rattle.process.proofs.HartStates.{hart_there}
 
 -- the ids of other threads stay

@@ -1,7 +1,5 @@
 -- Instructions that are kept beside a page.
-use Rattle.process.proofs.Common.{◌≡◌, ℕ, ◌*◌, ◌<◌, List, [], ◌∷◌, ◌++◌, length, ap, sym, ◌∙◌, refl, arith, Option, Some, slice_get, inl, inr, cases_eq, length_push, slice_get_read, ImagePage, Inst, instruction_of, AreDecoded, word_of_page}
-use Rattle.std.proofs.lemmas.List.{get_or_append_left, get_or_push}
-use Rattle.std.proofs.lemmas.Option.{get_or_from_slice_get, slice_get_within}
+use Rattle.process.proofs.Common.{◌≡◌, ℕ, ◌*◌, ◌<◌, List, [], ◌∷◌, ◌++◌, length, ap, sym, ◌∙◌, refl, arith, Option, Some, slice_get, inl, inr, cases_eq, length_push, slice_get_read, ImagePage, Inst, instruction_of, AreDecoded, word_of_page, get_or_append_left, get_or_push, get_or_from_slice_get, slice_get_within}
 
 -- none of them
 pub none_decoded : (page : ImagePage) (insts : List (Option Inst)) → insts ≡ [] → AreDecoded page insts

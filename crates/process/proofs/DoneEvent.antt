@@ -1,8 +1,6 @@
 -- The event done: whose barrier returns, and the parts after it.
-use Rattle.process.proofs.Common.{◌≡◌, ◌≢◌, ℕ, append-nil, refl, sym, ap, ◌∙◌, eq-eqb, Option, Some, None, option_map, ne_eqb, Tid, HartState, Here, Plain, Setting, Why, counted, file_among, hart_at, hart_in, here_in_plain, refusal_of, runs, thread, Idle, done_done_by}
+use Rattle.process.proofs.Common.{◌≡◌, ◌≢◌, ℕ, append-nil, refl, sym, ap, ◌∙◌, eq-eqb, Option, Some, None, option_map, ne_eqb, Tid, HartState, Here, Plain, Setting, Why, counted, file_among, hart_at, hart_in, here_in_plain, refusal_of, runs, thread, Idle, done_done_by, refusal_done_by, refusal_return, gone_on}
 use Rattle.mach_types.specs.declared.events.Choice.TheVariants as asked
-use Rattle.block_model.specs.Events.Finish.{refusal_done_by, refusal_return}
-use Rattle.process.specs.Barriers.{gone_on}
 use Rattle.process.proofs.HartEvents.{zero_more}
 use Rattle.process.proofs.HartStates.{own_after}
 

@@ -1,8 +1,6 @@
 -- The store that enters memory.
-use Rattle.process.proofs.Common.{◌≡◌, ℕ, List, [], ◌∷◌, ap, ◌∙◌, subst, sym, true, Option, None, get_or, slice_get, IfSome, HartState, IsPlace, Parts, Stand, Store, can_write_in, each_byte, here_at, is_writable, Pages, can_write, permission_at, Neighbour}
-use Rattle.std.specs.List.{AllByRecursion}
+use Rattle.process.proofs.Common.{◌≡◌, ℕ, List, [], ◌∷◌, ap, ◌∙◌, subst, sym, true, Option, None, get_or, slice_get, IfSome, HartState, IsPlace, Parts, Stand, Store, can_write_in, each_byte, here_at, is_writable, Pages, can_write, permission_at, Neighbour, AllByRecursion, MayDrain}
 use Rattle.block_model.specs.Standing.{MayEnter}
-use Rattle.process.specs.Refinement.{MayDrain}
 use Rattle.process.proofs.Places.{hart_is, writable_at}
 
 -- where the process is alone, each store that waits lies on its pages

@@ -6,10 +6,6 @@ use Rattle.process.proofs.HartStates.{get_set_other, get_set_same}
 abbrev pub changed_before : (ℕ → HartState → HartState) → ℕ → ℕ → HartState → HartState
 changed_before f n j x = cond (nat_lt j n) (f j x) x
 
-pub none_through : (f : ℕ → HartState → HartState) (j : ℕ) (o : Option HartState) → o ≡ option_map (changed_before f 0 j) o
-none_through f j None = refl
-none_through f j (Some x) = ap Some (rw (le-ltb j 0 (omega arith)) refl)
-
 all_changed : (f : ℕ → HartState → HartState) (n j : ℕ) (o : Option HartState) → j < n → option_map (changed_before f n j) o ≡ option_map (f j) o
 all_changed f n j None lt = refl
 all_changed f n j (Some x) lt = ap Some (rw (lt-ltb j n lt) refl)

@@ -1,9 +1,7 @@
 -- The entry of an event, and an event that is known to have done this.
-use Rattle.process.proofs.Common.{◌≡◌, ℕ, List, [], ◌∷◌, get_or, set, refl, sym, ap, subst, Option, Some, None, option_map, Choice, Hart, HartState, Parts, Plain, Setting, Stand, Store, counted, credit_of, done_of, entry_from, file_on, hart_at, here_at, here_in_plain, id_of, refusal_of, thread, Kind, Done, Here, runs, waiting_here, entry_in, final, number_of, pc_in, IsFit, IsAfter, IsPlace, IsUncounted}
+use Rattle.process.proofs.Common.{◌≡◌, ℕ, List, [], ◌∷◌, get_or, set, refl, sym, ap, subst, Option, Some, None, option_map, Choice, Hart, HartState, Parts, Plain, Setting, Stand, Store, counted, credit_of, done_of, entry_from, file_on, hart_at, here_at, here_in_plain, id_of, refusal_of, thread, Kind, Done, Here, runs, waiting_here, entry_in, final, number_of, pc_in, IsFit, IsAfter, IsPlace, IsUncounted, refusal_drain_of, refusal_preempt_by}
 use Rattle.mach_types.specs.declared.events.Choice.TheVariants as asked
 use Rattle.mach_types.specs.declared.events.Kind.TheVariants as kind
-use Rattle.block_model.specs.Events.Drain.{refusal_drain_of}
-use Rattle.block_model.specs.Events.Preempt.{refusal_preempt_by}
 use Rattle.block_model.specs.Record.{Kernel}
 use Rattle.process.proofs.Events.{AreBeside, IsChange, IsMade, IsQuiet, changed, none_beside, uncounted}
 use Rattle.process.proofs.HartStates.{own_after}

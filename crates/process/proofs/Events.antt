@@ -1,7 +1,6 @@
 -- What ties the parts after an event, for every kind: what is to be shown of each part.
-use Rattle.process.proofs.Common.{◌≡◌, ℕ, ◌+◌, ◌<◌, ◌^◌, arith, List, [], ◌∷◌, length, refl, sym, ap, ◌∙◌, Bool, true, false, cond, eqb, Option, Some, None, slice_get, set, suc, is_some, ◌≢◌, eq-eqb, inl, inr, option_map, option_or, cases_eq, ne_eqb, length-set, written, Done, End, HartState, IsTable, Parts, Stand, counted, credit_of, file_among, final, hart_at, is_stuck, AreSaved, HoldsPages, HoldsTables, Plain, apply, here_at, IsFit, lost_by_all, lost_unless, IsAfter, IsPlace, IsReadable, IsTied, IsUncounted}
+use Rattle.process.proofs.Common.{◌≡◌, ℕ, ◌+◌, ◌<◌, ◌^◌, arith, List, [], ◌∷◌, length, refl, sym, ap, ◌∙◌, Bool, true, false, cond, eqb, Option, Some, None, slice_get, set, suc, is_some, ◌≢◌, eq-eqb, inl, inr, option_map, option_or, cases_eq, ne_eqb, length-set, written, Done, End, HartState, IsTable, Parts, Stand, counted, credit_of, file_among, final, hart_at, is_stuck, AreSaved, HoldsPages, HoldsTables, Plain, apply, here_at, IsFit, lost_by_all, lost_unless, IsAfter, IsPlace, IsReadable, IsTied, IsUncounted, IsCounted}
 use Rattle.mach_types.specs.declared.limits.End.TheVariants as over
-use Rattle.process.specs.Refinement.{IsCounted}
 use Rattle.process.proofs.HartStates.{KeepsIds, beside, beside_unless, credits_kept, get_set_other, get_set_same, harts_tied, of_each, own_after}
 
 -- lists with the same places filled are equally long

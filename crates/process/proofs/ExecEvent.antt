@@ -1,10 +1,7 @@
 -- What the next instruction of a thread does, by its effect and its fault.
-use Rattle.process.proofs.Common.{◌≡◌, ◌≢◌, ℕ, refl, sym, ap, ◌∙◌, Bool, true, false, cond, is_some, Option, Some, None, length, option_map, option_or, Done, Effect, HartState, Here, Why, done_of, file_on, hart_in, refusal_of, runs, thread, Idle, InBarrier, is_call, fault_in, instruction_gate, exec_refusal, outcome_on, called, killed_in_call, is_inside_here, by_call, by_outcome, has_handler, is_held, next_effect, next_fault, others_gate, outcome_of, refusal_exec_by, unless_in_barrier, is_storable, reached, waiting_here, signalled, with_pending, Killed}
-use Rattle.rv_inst.specs.Execution.{outcome}
+use Rattle.process.proofs.Common.{◌≡◌, ◌≢◌, ℕ, refl, sym, ap, ◌∙◌, Bool, true, false, cond, is_some, Option, Some, None, length, option_map, option_or, Done, Effect, HartState, Here, Why, done_of, file_on, hart_in, refusal_of, runs, thread, Idle, InBarrier, is_call, fault_in, instruction_gate, exec_refusal, outcome_on, called, killed_in_call, is_inside_here, by_call, by_outcome, has_handler, is_held, next_effect, next_fault, others_gate, outcome_of, refusal_exec_by, unless_in_barrier, is_storable, reached, waiting_here, signalled, with_pending, Killed, outcome, by_fault, one_instruction, view_of_all}
 use Rattle.rv_inst.specs.declared.effects.Effect.TheVariants as effect
 use Rattle.mach_types.specs.declared.events.Choice.TheVariants as asked
-use Rattle.block_model.specs.Events.Exec.{by_fault, one_instruction}
-use Rattle.block_model.specs.Here.{view_of_all}
 use Rattle.block_model.specs.Instruction as instruction
 
 -- a fault, a call, and another instruction

@@ -1,19 +1,9 @@
 -- Stores that wait on pages, and the gate of the next instruction.
-use Rattle.process.proofs.Common.{and_right, not-true, ◌≡◌, ℕ, zero, suc, ◌+◌, ◌-◌, ◌/◌, ◌<◌, ◌≤◌, List, [], ◌∷◌, length, take, get_or, refl, sym, ap, ◌∙◌, arith, Bool, true, false, cond, not, ◌&&◌, ◌||◌, Option, Some, None, is_some, nat_le, nat_lt, list_any, option_or, le-ltb, take-length, list_any_more, slice_get-get_or, each_byte, is_in, HartState, IsTied, Next, Parts, Plain, Setting, Stand, Store, Why, exec_refusal, hart_at, here_at, runs, Idle, InBarrier, instruction_gate, Neighbour, or_in_segment, lies_waiting_on, is_held, next_effect, next_fault, others_gate, refusal_exec, unless_in_barrier, IsNextAt, lies_in, lies_outside, nat_tests}
-use Rattle.page_map.proofs.Laws.{each_byte-fails}
-use Rattle.std.proofs.lemmas.Bool.{not-false, not_from_false}
-use Rattle.std.proofs.Common.{◌↔◌, min, max, IsTrue}
-use Rattle.std.specs.List.{Any}
-use Rattle.std.proofs.lemmas.List.Folds.{Any-from_list_any, list_any-from_Any}
+use Rattle.process.proofs.Common.{and_right, not-true, ◌≡◌, ℕ, zero, suc, ◌+◌, ◌-◌, ◌/◌, ◌<◌, ◌≤◌, List, [], ◌∷◌, length, take, get_or, refl, sym, ap, ◌∙◌, arith, Bool, true, false, cond, not, ◌&&◌, ◌||◌, Option, Some, None, is_some, nat_le, nat_lt, list_any, option_or, le-ltb, take-length, list_any_more, slice_get-get_or, each_byte, is_in, HartState, IsTied, Next, Parts, Plain, Setting, Stand, Store, Why, exec_refusal, hart_at, here_at, runs, Idle, InBarrier, instruction_gate, Neighbour, or_in_segment, lies_waiting_on, is_held, next_effect, next_fault, others_gate, refusal_exec, unless_in_barrier, IsNextAt, lies_in, lies_outside, nat_tests, each_byte-fails, not-false, not_from_false, ◌↔◌, min, max, IsTrue, Any, Any-from_list_any, list_any-from_Any, covers, PageRun, is_in_segment, lies_on, AreOfSegment}
 use Rattle.mach_types.proofs.Laws.{each_byte-same}
-use Rattle.mach_types.specs.Bytes.{covers}
-use Rattle.mach_types.specs.Kernel.Pages.{PageRun}
 use Rattle.store_buffers.specs.Pages.{HasByteAmong}
-use Rattle.block_model.specs.Beside.{is_in_segment}
-use Rattle.block_model.specs.Calls.Memory.{lies_on}
 use Rattle.sys_calls.specs.Remapped.{has_page}
 use Rattle.sys_calls.specs.declared.memory_calls.PageSpan.{PageSpan}
-use Rattle.process.specs.ExecGates.{AreOfSegment}
 use Rattle.process.proofs.HartStates.{hart_there}
 
 -- a store has a byte on one of the pages where a buffer finds it there

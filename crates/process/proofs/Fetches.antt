@@ -1,11 +1,5 @@
 -- The instruction word at an address that is a multiple of 4: its four bytes lie in one page.
-use Rattle.process.proofs.Common.{nat_tests, ◌≡◌, ◌≢◌, ℕ, ◌+◌, ◌*◌, ◌/◌, ◌%◌, ◌<◌, ◌&&◌, List, [], ◌∷◌, map, Option, Some, None, Bool, true, false, cond, nat_le, nat_lt, nat_eq, nat_cmp, refl, ap, sym, ◌∙◌, arith, option_map, ne_eqb, is_in, permission_of, ImagePage, code_word, image_run, page_of, return_run, stack_run, start_runs, word_of_page}
-use Rattle.std.proofs.lemmas.Bool.{lt-leb}
-use Rattle.std.proofs.Common.{is_le, is_lt, slice_index}
-use Rattle.mach_types.specs.Bytes.{joined}
-use Rattle.mach_types.specs.Kernel.Pages.{can_execute}
-use Rattle.elf_load.specs.Start.{code_byte, image_byte, page_byte}
-use Rattle.process.specs.Pages.{word_in}
+use Rattle.process.proofs.Common.{nat_tests, ◌≡◌, ◌≢◌, ℕ, ◌+◌, ◌*◌, ◌/◌, ◌%◌, ◌<◌, ◌&&◌, List, [], ◌∷◌, map, Option, Some, None, Bool, true, false, cond, nat_le, nat_lt, nat_eq, nat_cmp, refl, ap, sym, ◌∙◌, arith, option_map, ne_eqb, is_in, permission_of, ImagePage, code_word, image_run, page_of, return_run, stack_run, start_runs, word_of_page, lt-leb, is_le, is_lt, slice_index, joined, can_execute, code_byte, image_byte, page_byte, word_in}
 
 -- a byte of page n at an offset, where it may be executed
 abbrev pub code_in : List ImagePage → ℕ → ℕ → Option ℕ

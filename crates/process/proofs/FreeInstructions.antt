@@ -1,6 +1,5 @@
 -- An instruction that sets a register and does nothing else makes no fault, and may be executed whatever waits.
-use Rattle.process.proofs.Common.{and_right, not-true, ◌≡◌, ℕ, Bool, true, false, cond, ltb, ◌&&◌, is_some, not, length, Option, Some, None, refl, sym, option_map_or, option_or, and_parts, false≢true, Waiting, sets_register, instruction_gate, exec_refusal, is_held, others_gate, refusal_exec, fault_by, Effect, HartState, IsNextAt, Next, Plain, Setting, hart_at, here_in_plain}
-use Rattle.mach_types.specs.declared.events.Why.TheVariants.{FullBuffer}
+use Rattle.process.proofs.Common.{and_right, not-true, ◌≡◌, ℕ, Bool, true, false, cond, ltb, ◌&&◌, is_some, not, length, Option, Some, None, refl, sym, option_map_or, option_or, and_parts, false≢true, Waiting, sets_register, instruction_gate, exec_refusal, is_held, others_gate, refusal_exec, fault_by, Effect, HartState, IsNextAt, Next, Plain, Setting, hart_at, here_in_plain, FullBuffer}
 use Rattle.rv_inst.specs.declared.effects.Effect.TheVariants as effect
 use Rattle.process.proofs.ExecGates.{gate_is}
 

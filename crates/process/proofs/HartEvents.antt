@@ -1,8 +1,7 @@
 -- The own hart after each kind of event.
-use Rattle.process.proofs.Common.{◌≡◌, ℕ, ◌+◌, ◌<◌, List, ◌∷◌, drop, refl, ◌∙◌, arith, true, Some, None, append-nil, eq-eqb, no_registers, HartState, IsTables, Plain, Saved, Setting, Store, by_call, by_outcome, counted, file_among, files_interrupted, hart_at, here_in_plain, is_ready, runs, thread, entered, hart_after, killed_in_call, done_drain_of, done_preempt_by, done_killed, done_running, id_of, with_id, begun_without}
+use Rattle.process.proofs.Common.{◌≡◌, ℕ, ◌+◌, ◌<◌, List, ◌∷◌, drop, refl, ◌∙◌, arith, true, Some, None, append-nil, eq-eqb, no_registers, HartState, IsTables, Plain, Saved, Setting, Store, by_call, by_outcome, counted, file_among, files_interrupted, hart_at, here_in_plain, is_ready, runs, thread, entered, hart_after, killed_in_call, done_drain_of, done_preempt_by, done_killed, done_running, id_of, with_id, begun_without, left_idle, ran_runs}
 use Rattle.mach_types.specs.declared.sequences.Outcome.{Outcome as Comes}
 use Rattle.rv_inst.specs.Execution.{Outcome}
-use Rattle.block_model.proofs.Laws.{left_idle, ran_runs}
 use Rattle.process.proofs.ExecEvent.{fault_killing, fault_pending}
 use Rattle.process.proofs.HartStates.{own_after}
 

@@ -1,6 +1,5 @@
 -- The harts after an event: the own one is as the event left it, and the others as it leaves those beside it.
-use Rattle.process.proofs.Common.{◌≡◌, ◌≢◌, ℕ, ◌+◌, ◌<◌, List, [], ◌∷◌, ◌++◌, drop, get_or, length, refl, sym, ap, ◌∙◌, subst, arith, Bool, true, false, cond, eqb, ◌||◌, Option, Some, None, slice_get, eq-eqb, set, ◌⊎◌, inl, inr, zero, suc, option_map, option_map_or, ne_eqb, cases_eq, same_Some, slice_get-get_or, Done, HartState, IsTied, Parts, Saved, Setting, credit_of, file_on, hart_at, hart_in, id_of, id_on, running_on, thread, file_among, lost_after, Plain, apply, here_in_plain, is_about, restarts_at, with_hart}
-use Rattle.block_model.specs.Requests.{awaits_after, awaits_of_own, requests_after, restart_after, without_hart}
+use Rattle.process.proofs.Common.{◌≡◌, ◌≢◌, ℕ, ◌+◌, ◌<◌, List, [], ◌∷◌, ◌++◌, drop, get_or, length, refl, sym, ap, ◌∙◌, subst, arith, Bool, true, false, cond, eqb, ◌||◌, Option, Some, None, slice_get, eq-eqb, set, inl, inr, zero, suc, option_map, option_map_or, ne_eqb, cases_eq, same_Some, slice_get-get_or, Done, HartState, IsTied, Parts, Saved, Setting, credit_of, file_on, hart_at, hart_in, id_of, id_on, running_on, thread, file_among, lost_after, Plain, apply, here_in_plain, is_about, restarts_at, with_hart, awaits_after, awaits_of_own, requests_after, restart_after, without_hart}
 
 -- a hart in the list is the plain machine's
 pub hart_there : (s : Setting) (p : Plain) (m : Parts) (h : ℕ) (x : HartState) → IsTied s p m → h < s.limits.harts → slice_get m.harts.items h ≡ Some x → x ≡ hart_at s p h (credit_of m.harts.items h)

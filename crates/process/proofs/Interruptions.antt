@@ -1,6 +1,5 @@
 -- A thread that is interrupted on its way to a hart: what is written, and which harts lose reservations of it.
-use Rattle.process.proofs.Common.{◌≡◌, ◌≢◌, ℕ, ◌+◌, ◌<◌, ◌^◌, List, [], ◌++◌, append-nil, refl, sym, ap, ◌∙◌, subst, Bool, true, false, not, cond, eqb, eq-eqb, Option, Some, None, is_some, set, slice_get, IfSome, option_map, ne_eqb, after_writes, each_byte, written, Words, interruption, is_inside, named, pc_after, words_entered, words_on, words_written, writes_of, Area, Done, HartState, Here, IsWritten, Outcome, Parts, Saved, Write, file_among, is_writable, lost_unless, next_id, BadWhy, IsAlike, Map, are_visible, byte_in, can_write_in, held_in, writable_is_visible, done_killed, done_run, done_running, lives_on, area_here, can_write_words, files_interrupted, interruption_here, words_to, IsChanged, IsReadied, IsWaiting}
-use Rattle.std.proofs.lemmas.Bool.{and_from}
+use Rattle.process.proofs.Common.{◌≡◌, ◌≢◌, ℕ, ◌+◌, ◌<◌, ◌^◌, List, [], ◌++◌, append-nil, refl, sym, ap, ◌∙◌, subst, Bool, true, false, not, cond, eqb, eq-eqb, Option, Some, None, is_some, set, slice_get, IfSome, option_map, ne_eqb, after_writes, each_byte, written, Words, interruption, is_inside, named, pc_after, words_entered, words_on, words_written, writes_of, Area, Done, HartState, Here, IsWritten, Outcome, Parts, Saved, Write, file_among, is_writable, lost_unless, next_id, IsAlike, Map, are_visible, byte_in, can_write_in, held_in, writable_is_visible, done_killed, done_run, done_running, lives_on, area_here, can_write_words, files_interrupted, interruption_here, words_to, IsChanged, IsReadied, IsWaiting, and_from, alike_holds}
 use Rattle.sys_calls.proofs.AreaWords.{pass_each, writable_below, words_visible as area_words_visible}
 use Rattle.sys_calls.proofs.KernelWrites.{twice, none_written as none_written_by}
 use Rattle.mach_types.specs.Kernel.Areas.{are_words_writable, is_clearable, outcome_of, pointer_cleared}
@@ -8,21 +7,11 @@ use Rattle.mach_types.specs.declared.sequences.BadWhy.TheVariants as bad
 use Rattle.mach_types.specs.declared.sequences.Named.{Named}
 use Rattle.mach_types.specs.declared.sequences.Named.TheVariants as names
 use Rattle.mach_types.specs.declared.sequences.Outcome.TheVariants as comes_to
-use Rattle.page_map.proofs.Laws.{alike_holds}
 use Rattle.process.proofs.Events.{AreBeside, HaveLost, IsQuiet, quietly}
 use Rattle.process.proofs.HartStates.{get_set_other, get_set_same, of_each}
 use Rattle.process.proofs.ReservationLosses.{lost_app}
 
 -- HARTS
-
--- one hart of a list changed
-pub changed_set : (h : ℕ) (xs : List HartState) (x y : HartState) (f : HartState → HartState) → slice_get xs h ≡ Some x → y ≡ f x → IsChanged h f xs (set xs h y)
-changed_set h xs x y f at is k =
-    of_each (λ j. slice_get (set xs h y) j ≡ cond (eqb j h) (option_map f (slice_get xs j)) (slice_get xs j)) h k own
-    (λ ne. get_set_other xs h k y ne ∙ sym (rw (ne_eqb k h ne) refl))
-  where
-    own : slice_get (set xs h y) h ≡ cond (eqb h h) (option_map f (slice_get xs h)) (slice_get xs h)
-    own = get_set_same xs h x y at ∙ ap Some is ∙ sym (rw (eq-eqb h h refl, at) refl)
 
 -- a hart that changed after the others lost what was written
 begun_lost : (h : ℕ) (d : Done) (xs ys zs : List HartState) (x : HartState) (f : HartState → HartState) → slice_get xs h ≡ Some x
@@ -171,25 +160,6 @@ entered_by_words here t o true may = refl
 entered_by_words here t o false fails =
     ap (λ ws. writes_of (area_here here t) o ++ ws) (no_words here (area_here here t) (words_on here.hart (next_id here.kernel.ids)) fails)
     ∙ append-nil (writes_of (area_here here t) o)
-
--- a thread whose interruption kills
-pub readied_killed : (here : Here) (t h : ℕ) (why : BadWhy) (x y : Saved) (m m' : Parts) (a : Option Area) (n : ℕ) → IsWaiting here t h m.pages a x n
-    → interruption (byte_in m.pages) (can_write_in m.pages) a x.pc ≡ comes_to.Killed why → y ≡ record x { pc = pc_after x.pc (comes_to.Killed why) }
-    → IsWritten (writes_of a (comes_to.Killed why)) m.pages m'.pages
-    → ((k : ℕ) → slice_get m'.harts.items k ≡ option_map (lost_unless (eqb k h) (writes_of a (comes_to.Killed why))) (slice_get m.harts.items k))
-    → IsReadied here t false y m m'
-readied_killed here t h why x y m m' a n waits comes file pages harts =
-    let o : interruption_here here t ≡ comes_to.Killed why = outcome_here here t h x m a n waits ∙ comes in
-    record {
-      lives = sym (ap (lives_on here t) o);
-      file = rw o (file ∙ file_is here t (comes_to.Killed why) x waits.file);
-      pages = rw o pages;
-      harts = rw (o, ← waits.hart) harts;
-    }
-  where
-    outcome_here : (here : Here) (t h : ℕ) (x : Saved) (m : Parts) (a : Option Area) (n : ℕ) → IsWaiting here t h m.pages a x n
-        → interruption_here here t ≡ interruption (byte_in m.pages) (can_write_in m.pages) a x.pc
-    outcome_here here t h x m a n waits = rw (waits.bytes, waits.writable, waits.area, waits.file) refl
 
 -- the words of an area are written, or can't be
 told_entered : (m m' : Map) (area : Area) (w : Words) (r : Bool) → r ≡ are_words_writable (can_write_in m) area → IsAlike m m'

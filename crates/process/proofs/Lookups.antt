@@ -1,11 +1,7 @@
 -- A page found by a search of rising numbers.
-use Rattle.process.proofs.Common.{position, Bool, true, false, cond, nat_eq, nat_lt, ◌≡◌, ◌≢◌, ℕ, ◌<◌, ◌≤◌, List, [], ◌∷◌, length, map, Some, None, nat_cmp, refl, sym, ap, arith, zero, suc, get_or, eq-eqb, inl, inr, Ok, Err, IsStrictlyIncreasing, ne_eqb, cases_eq, cases_lt, lt-ltb, le-ltb, eqb-true, ImagePage, page_of, AllPairs-from_increasing}
-use Rattle.std.specs.List.{position_or_len}
+use Rattle.process.proofs.Common.{position, Bool, true, false, cond, nat_eq, nat_lt, ◌≡◌, ◌≢◌, ℕ, ◌<◌, ◌≤◌, List, [], ◌∷◌, length, map, Some, None, nat_cmp, refl, sym, ap, arith, zero, suc, get_or, eq-eqb, inl, inr, Ok, Err, IsStrictlyIncreasing, ne_eqb, cases_eq, cases_lt, lt-ltb, le-ltb, eqb-true, ImagePage, page_of, AllPairs-from_increasing, position_or_len, IsBinarySearchResult, ltb-false}
 use Rattle.std.proofs.lemmas.List.Quantifiers.{position-Some}
 use Rattle.std.proofs.lemmas.List.Sums.{position_or_len_is, fails_before_first}
-use Rattle.std.proofs.Common.{add-one}
-use Rattle.std.specs.List.Sorted.{IsBinarySearchResult}
-use Rattle.std.proofs.lemmas.Bool.{ltb-false}
 use Rattle.std.proofs.lemmas.List.Sorted.{searched}
 
 -- among rising numbers, a later one is greater

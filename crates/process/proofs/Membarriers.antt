@@ -1,6 +1,5 @@
 -- Barriers on harts: which harts run threads, and the harts beside one that asks, or that takes its requests.
-use Rattle.process.proofs.Common.{◌≡◌, ◌≢◌, ℕ, zero, suc, ◌+◌, ◌-◌, ◌<◌, ◌≤◌, ◌^◌, List, set, refl, sym, ap, ◌∙◌, arith, Bool, true, false, cond, eqb, eq-eqb, ◌||◌, Option, Some, None, is_some, slice_get, ne_eqb, option_map, option_map_or, slice_get_past, HartState, Here, IsPlace, IsTied, Parts, Plain, Setting, Stand, asked_by, by_call, harts_that, is_busy, lost_unless, running_on, thread, CallDone, running_harts, with_hart}
-use Rattle.mach_types.specs.Kernel.Scheduling.{has_hart}
+use Rattle.process.proofs.Common.{◌≡◌, ◌≢◌, ℕ, zero, suc, ◌+◌, ◌-◌, ◌<◌, ◌≤◌, ◌^◌, List, set, refl, sym, ap, ◌∙◌, arith, Bool, true, false, cond, eqb, eq-eqb, ◌||◌, Option, Some, None, is_some, slice_get, ne_eqb, option_map, option_map_or, slice_get_past, HartState, Here, IsPlace, IsTied, Parts, Plain, Setting, Stand, asked_by, by_call, harts_that, is_busy, lost_unless, running_on, thread, CallDone, running_harts, with_hart, has_hart}
 use Rattle.process.proofs.Events.{AreBeside}
 use Rattle.process.proofs.HartStates.{beside_unless, get_set_other, get_set_same, of_each}
 

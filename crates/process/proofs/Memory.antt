@@ -1,16 +1,7 @@
 -- Memory as the page map shows it where it holds the pages of the process, and the pages after writes.
-use Rattle.process.proofs.Common.{◌≡◌, ℕ, ◌/◌, ◌%◌, List, [], ◌∷◌, refl, sym, ap, ◌∙◌, Bool, true, false, cond, Option, Some, None, option_map, fun_ext, written, all_stored, IsWritten, Store, Write, Pages, can_read, can_write, permission_at, permission_of, Map, byte_in, can_write_in, held_in, permission_in, HoldsPages, IsReadable}
+use Rattle.process.proofs.Common.{◌≡◌, ℕ, ◌/◌, ◌%◌, List, refl, sym, ap, ◌∙◌, Bool, true, false, cond, Option, Some, None, option_map, fun_ext, written, IsWritten, Write, Pages, can_read, can_write, permission_at, permission_of, Map, byte_in, can_write_in, held_in, permission_in, HoldsPages, IsReadable, lets, Page, byte_at, bytes_if, page_in, memory_in, writable_in}
 use Rattle.sys_calls.proofs.KernelWrites.{both, if_readable, over_held}
-use Rattle.mach_types.specs.Bytes.{overlay, byte_over}
-use Rattle.mach_types.specs.Kernel.Pages.{lets}
 use Rattle.block_model.specs.Record.{Kernel}
-use Rattle.page_map.specs.Map.{Page, byte_at, bytes_if, page_in}
-use Rattle.block_model.specs.Here.{memory_in, writable_in}
-
--- stores as writes
-pub written_stored : (ss : List Store) (a below : ℕ) → written (all_stored ss) a below ≡ overlay ss a below
-written_stored [] a below = refl
-written_stored (s ∷ ss) a below = written_stored ss a (byte_over s a below)
 
 -- a byte that can be read is the one that its page holds
 shown : (o : Option Page) (offset : ℕ)

@@ -1,8 +1,6 @@
 -- The parts of a process after an event of another process, which passed it by.
-use Rattle.process.proofs.Common.{and_right, ◌≡◌, ℕ, List, [], ◌∷◌, map, refl, sym, ap, ◌∙◌, Bool, true, false, eqb, Option, Some, None, is_some, slice_get, option_map, zero, suc, eq-eqb, inl, inr, option_map_or, cases_eq, ne_eqb, Write, Barrier, Done, Plain, Setting, HartState, IsTied, Parts, asked_by, credit_of, hart_at, taken_aside, lost_by_all}
-use Rattle.block_model.specs.Stands.{aside}
+use Rattle.process.proofs.Common.{and_right, ◌≡◌, ℕ, List, [], ◌∷◌, map, refl, sym, ap, ◌∙◌, Bool, true, false, eqb, Option, Some, None, is_some, slice_get, option_map, zero, suc, eq-eqb, inl, inr, option_map_or, cases_eq, ne_eqb, Write, Barrier, Done, Plain, Setting, HartState, IsTied, Parts, asked_by, credit_of, hart_at, taken_aside, lost_by_all, aside, passed_by}
 use Rattle.process.proofs.Events.{same_length, mapped_is}
-use Rattle.process.specs.Passing.{passed_by}
 
 -- each hart is as the event leaves it
 abbrev pub ArePassed : ℕ → Bool → Option Barrier → List Write → List HartState → List HartState → Type 0

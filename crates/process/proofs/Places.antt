@@ -1,9 +1,7 @@
 -- What holds at a place: the state of its hart, counts that fit their words, and what an event that isn't a call leaves as it is.
-use Rattle.process.proofs.Common.{◌≡◌, ℕ, ◌+◌, ◌<◌, ◌^◌, length, refl, sym, ap, ◌∙◌, arith, Bool, true, false, cond, eqb, eq-eqb, List, Option, Some, None, get_or, slice_get, option_map, option_or, Choice, End, Hart, HartState, Here, IsPlace, IsTables, Parts, Running, Stand, Write, byte_in, can_write_in, credit_of, done_of, final, hart_at, here_at, here_in_plain, is_stuck, is_writable, lost_unless, memory, refusal_of, runs, state_of, thread, Tid, Neighbour, or_in_segment, is_storable, reached, IsFit, running_is, HasHart}
+use Rattle.process.proofs.Common.{◌≡◌, ℕ, ◌+◌, ◌<◌, ◌^◌, length, refl, sym, ap, ◌∙◌, arith, Bool, true, false, cond, eqb, eq-eqb, List, Option, Some, None, get_or, slice_get, option_map, option_or, Choice, End, Hart, HartState, Here, IsPlace, IsTables, Parts, Running, Stand, Write, byte_in, can_write_in, credit_of, done_of, final, hart_at, here_at, here_in_plain, is_stuck, is_writable, lost_unless, memory, refusal_of, runs, state_of, thread, Tid, Neighbour, or_in_segment, is_storable, reached, IsFit, running_is, HasHart, with_segment, stand_fit}
 use Rattle.mach_types.specs.declared.limits.End.TheVariants as over
-use Rattle.block_model.specs.Beside.{with_segment}
 use Rattle.block_model.specs.Record.{Kernel}
-use Rattle.block_model.proofs.Laws.{stand_fit}
 use Rattle.process.proofs.HartStates.{hart_tied}
 use Rattle.process.proofs.Memory.{bytes_held, writable_held}
 

@@ -1,13 +1,10 @@
 -- A plain instruction that was executed is the one that was planned, and what it did is its event.
-use Rattle.process.proofs.Common.{◌≡◌, ℕ, ◌+◌, Bool, true, false, cond, ◌&&◌, List, [], is_some, get_or, set, not, refl, sym, ap, ◌∙◌, subst, Some, None, option_or, all_stored, is_call, HasAccessSizes, hart_after, is_held, refusal_exec, fetched, Effect, Hart, HartState, ImagePage, IsNextAt, IsPlace, IsPlanned, IsUncounted, Parts, Plain, Setting, Stand, byte_in, by_outcome, can_write_in, counted, credit_of, done_of, exec_refusal, hart_at, here_at, here_in_plain, runs, file_of, stepped}
+use Rattle.process.proofs.Common.{◌≡◌, ℕ, ◌+◌, Bool, true, false, cond, ◌&&◌, List, [], is_some, get_or, set, not, refl, sym, ap, ◌∙◌, subst, Some, None, option_or, all_stored, is_call, HasAccessSizes, hart_after, is_held, refusal_exec, fetched, Effect, Hart, HartState, ImagePage, IsNextAt, IsPlace, IsPlanned, IsUncounted, Parts, Plain, Setting, Stand, byte_in, by_outcome, can_write_in, counted, credit_of, done_of, exec_refusal, hart_at, here_at, here_in_plain, runs, file_of, stepped, Others, IsPlainStep, IsAlone}
 use Rattle.mach_types.specs.declared.events.Choice.TheVariants as asked
-use Rattle.mach_types.specs.declared.events.Why.TheVariants.{Others}
 use Rattle.rv_inst.specs.Execution.{Outcome}
 use Rattle.block_model.specs.Instruction.{next_effect}
-use Rattle.process.specs.PlainSteps.{IsPlainStep}
 use Rattle.process.specs.declared.plain.PlainStep.{PlainStep}
 use Rattle.process.specs.declared.plain.PlainStep.TheVariants as step
-use Rattle.process.specs.Refinement.{IsAlone}
 use Rattle.process.proofs.Entries.{uncounted_as}
 use Rattle.process.proofs.Events.{AreBeside, none_beside}
 use Rattle.process.proofs.ExecGates.{gate_is}

@@ -1,6 +1,5 @@
 -- The thread that leaves a hart.
-use Rattle.process.proofs.Common.{live_in, ◌≡◌, sym, ap, ◌∙◌, true, false, eqb, Some, None, get_or, list_any, option_map_or, Scheduling, is_live, is_ready_state, state_of, Entry, Hart, HartState, IsPlace, Parts, Running, Stand, credit_of, entry_from, file_on, hart_at, here_at, refusal_of, runs, number_of, ready_listed, running_is}
-use Rattle.mach_types.specs.Kernel.Scheduling.{is_of}
+use Rattle.process.proofs.Common.{live_in, ◌≡◌, sym, ap, ◌∙◌, true, false, eqb, Some, None, get_or, list_any, option_map_or, Scheduling, is_live, is_ready_state, state_of, Entry, Hart, HartState, IsPlace, Parts, Running, Stand, credit_of, entry_from, file_on, hart_at, here_at, refusal_of, runs, number_of, ready_listed, running_is, is_of}
 use Rattle.mach_types.specs.declared.events.Choice.TheVariants as asked
 use Rattle.mach_types.specs.declared.events.Kind.TheVariants as kind
 use Rattle.process.proofs.Entries.{entry_here, leaver}

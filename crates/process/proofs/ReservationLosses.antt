@@ -1,8 +1,5 @@
 -- A hart that loses its reservation, write after write.
-use Rattle.process.proofs.Common.{◌≡◌, ℕ, ◌+◌, ◌<◌, List, [], ◌∷◌, ◌++◌, take, length, refl, sym, ap, ◌∙◌, Option, get_or, HartState, Write, lost_after, lost_by_all}
-use Rattle.std.proofs.lemmas.List.{take_more}
-use Rattle.block_model.specs.History.{lost_to}
-use Rattle.process.specs.Reservations.{lost_by_write}
+use Rattle.process.proofs.Common.{◌≡◌, ℕ, ◌+◌, ◌<◌, List, [], ◌∷◌, ◌++◌, take, length, refl, sym, ap, ◌∙◌, Option, get_or, HartState, Write, lost_after, lost_by_all, take_more, lost_to, lost_by_write}
 
 -- reservations that are lost to some writes and to others behind them
 pub lost_app : (ws vs : List Write) (r : Option ℕ) → lost_after vs (lost_after ws r) ≡ lost_after (ws ++ vs) r

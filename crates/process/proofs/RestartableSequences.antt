@@ -1,7 +1,6 @@
 -- What the area of the thread on a hart names, and whether the thread is inside.
-use Rattle.process.proofs.Common.{◌≡◌, ℕ, ap, ◌∙◌, refl, Option, Some, None, option_and_then, option_map_or, named, Area, HartState, IsTied, Parts, Plain, Saved, Setting, byte_in, file_on, hart_at, here_in_plain, Here, view, waiting_here, area_here, named_here}
+use Rattle.process.proofs.Common.{◌≡◌, ℕ, ap, ◌∙◌, refl, Option, Some, None, option_and_then, option_map_or, named, Area, HartState, IsTied, Parts, Plain, Saved, Setting, byte_in, file_on, hart_at, here_in_plain, Here, view, waiting_here, area_here, named_here, seen_byte}
 use Rattle.mach_types.specs.declared.sequences.Named.TheVariants as names
-use Rattle.rv_inst.specs.Execution.{seen_byte}
 use Rattle.process.proofs.Memory.{bytes_held}
 
 -- memory behind the waiting stores of a hart is what the hart sees

@@ -1,16 +1,9 @@
 -- A thread that begins to run, and one that stays ready since the process is killed first.
-use Rattle.process.proofs.Common.{◌≡◌, ◌≢◌, ℕ, suc, ◌<◌, List, [], ◌∷◌, find, map, length, get_or, slice_get, refl, sym, ap, ◌∙◌, subst, arith, Bool, true, false, cond, eqb, Option, Some, None, inl, inr, list_any, IsStrictlyIncreasing, option_map, option_map_or, cases_eq, eqb-true, ne_eqb, AllPairs-from_increasing, area_of, lowest_cid, AreSaved, Area, Done, Hart, HartState, Here, IsPlace, IsUncounted, IsWritten, Kernel, Map, Outcome, Parts, Saved, Stand, Write, counted, credit_of, file_among, files_interrupted, hart_at, harts_that, here_at, holds, interruption_here, lost_unless, refusal_of, Scheduling, without_ready, Thread, Threads, is_ready, is_ready_state, is_thread, state_if, state_of, with_state, Tid, Killed, SIGSEGV, ThreadState, Ready, Running, entered, IsTable, Table, saved_of, with_saved, is_kept, saved_of_others, areas_by_number, HoldsTables, done_killed, done_run, done_running, lives_on, id_of, next_id, with_id, ready_listed, HasHart, IsChanged, IsReadied, IsWaiting, begun_without}
-use Rattle.std.specs.Option.{IsSome}
+use Rattle.process.proofs.Common.{◌≡◌, ◌≢◌, ℕ, suc, ◌<◌, List, [], ◌∷◌, find, map, length, get_or, slice_get, refl, sym, ap, ◌∙◌, subst, arith, Bool, true, false, cond, eqb, Option, Some, None, inl, inr, list_any, IsStrictlyIncreasing, option_map, option_map_or, cases_eq, eqb-true, ne_eqb, AllPairs-from_increasing, area_of, lowest_cid, AreSaved, Area, Done, Hart, HartState, Here, IsPlace, IsUncounted, IsWritten, Kernel, Map, Outcome, Parts, Saved, Stand, Write, counted, credit_of, file_among, files_interrupted, hart_at, harts_that, here_at, holds, interruption_here, lost_unless, refusal_of, Scheduling, without_ready, Thread, Threads, is_ready, is_ready_state, is_thread, state_if, state_of, with_state, Tid, Killed, SIGSEGV, ThreadState, Ready, Running, entered, IsTable, Table, saved_of, with_saved, is_kept, saved_of_others, areas_by_number, HoldsTables, done_killed, done_run, done_running, lives_on, id_of, next_id, with_id, ready_listed, HasHart, IsChanged, IsReadied, IsWaiting, begun_without, IsSome, is_running_state, numbers, ready_saves_something, holds_past_ids, holds_scheduling, holds_threads, is_running, ran, run_ready, stand_free_id}
 use Rattle.mach_types.proofs.Laws.{state_of-with_state_same}
-use Rattle.mach_types.specs.Kernel.Threads.{is_running_state, numbers}
 use Rattle.mach_types.specs.declared.events.Choice.TheVariants as asked
 use Rattle.mach_types.specs.declared.sequences.Outcome.TheVariants as comes_to
 use Rattle.scheduler.specs.Holding.{is_ready as is_listed}
-use Rattle.kernel_threads.proofs.Laws.{ready_saves_something}
-use Rattle.sys_calls.proofs.Laws.{holds_past_ids, holds_scheduling, holds_threads}
-use Rattle.block_model.specs.Ids.{is_running}
-use Rattle.block_model.specs.Kernel.{ran}
-use Rattle.block_model.proofs.Laws.{run_ready, stand_free_id}
 use Rattle.process.proofs.Entries.{uncounted_as}
 use Rattle.process.proofs.HartEvents.{killed_own, run_own}
 use Rattle.process.proofs.ConcurrencyIds.{held_here, id_with_other, id_with_same, ready_apart}

@@ -1,7 +1,6 @@
 -- What is kept of the threads after an event.
-use Rattle.process.proofs.Common.{◌≡◌, ◌≢◌, ℕ, [], ◌∷◌, sym, ap, ◌∙◌, Some, None, inl, inr, cases_eq, AreSaved, Hart, Running, Saved, file_among, state_of, Table, IsTable, saved_of, with_saved, is_kept, running_saves_nothing, saved_of_others}
+use Rattle.process.proofs.Common.{◌≡◌, ◌≢◌, ℕ, [], ◌∷◌, sym, ap, ◌∙◌, Some, None, inl, inr, cases_eq, AreSaved, Hart, Running, Saved, file_among, state_of, Table, IsTable, saved_of, with_saved, is_kept, running_saves_nothing, saved_of_others, emptied}
 use Rattle.sys_calls.proofs.CallAnswers.{kept_own}
-use Rattle.kernel_threads.proofs.Laws.{emptied}
 
 -- what is kept depends on no file of a thread of which nothing is kept
 pub saved_but_one : (f g : ℕ → Saved) (t : ℕ) (table : Table) → saved_of t table.saved ≡ None → ((u : ℕ) → u ≢ t → g u ≡ f u) → AreSaved f table → AreSaved g table

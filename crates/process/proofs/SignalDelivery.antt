@@ -1,13 +1,11 @@
 -- A signal that is delivered: what is kept of the signals, the handler that is entered or isn't, and the parts after it.
-use Rattle.process.proofs.Common.{and_right, ◌≡◌, ◌≢◌, ℕ, zero, suc, ◌-◌, ◌≤◌, List, [], ◌∷◌, ◌++◌, append-nil, map, find, set, get_or, refl, sym, ap, ◌∙◌, subst, arith, Bool, true, false, not, cond, eqb, eq-eqb, ◌||◌, Option, Some, None, slice_get, ◌⊎◌, inl, inr, list_any, option_map, option_map_or, cases_eq, le-ltb, ne_eqb, Area, Done, Here, IsWritten, Outcome, Parts, Saved, Write, area_here, byte_in, can_write_in, file_among, interruption_here, is_writable, lost_unless, BadWhy, Action, SIGSEGV, area_of, interruption, pc_after, writes_of, can_write_frame, frame_writes, Signalling, action_of, is_handler, is_ignored, is_ignored_by_default, mask_of, areas_by_number, done_delivery, dropped_if_ignored, file_interrupted, handled_unless_killed, kills, kills_unhandled, IsDelivered, IsInterrupted, done_here, killer_of}
+use Rattle.process.proofs.Common.{◌≡◌, ℕ, ◌-◌, List, [], ◌∷◌, ◌++◌, append-nil, map, find, refl, sym, ap, ◌∙◌, subst, Bool, true, false, not, cond, eqb, eq-eqb, ◌||◌, Option, Some, None, slice_get, list_any, option_map, option_map_or, Area, Done, Here, IsWritten, Outcome, Parts, Saved, Write, area_here, byte_in, can_write_in, file_among, interruption_here, is_writable, lost_unless, SIGSEGV, area_of, interruption, pc_after, writes_of, can_write_frame, frame_writes, Signalling, action_of, is_handler, mask_of, areas_by_number, done_delivery, file_interrupted, handled_unless_killed, kills, kills_unhandled, IsDelivered, IsInterrupted, done_here, killer_of, signals_handled, signals_taken, IsEntered}
 use Rattle.process.proofs.Events.{lost_nothing}
 use Rattle.mach_types.specs.declared.signal_words.ThreadSignals.{ThreadSignals}
 use Rattle.mach_types.specs.Kernel.Signals.{is_of}
 use Rattle.mach_types.specs.declared.sequences.Outcome.TheVariants as comes_to
-use Rattle.mach_types.specs.Kernel.SignalFrames.{entered, entered_action, has_flag}
-use Rattle.mach_types.specs.Kernel.Signals.{acted, default_action, dropped, is_held, refuses_action, set_action, take_if, without_pending, without_signal}
-use Rattle.block_model.specs.Events.Signal.{signals_handled, signals_taken}
-use Rattle.process.specs.Delivering.{IsEntered}
+use Rattle.mach_types.specs.Kernel.SignalFrames.{entered}
+use Rattle.mach_types.specs.Kernel.Signals.{is_held, take_if, without_pending, without_signal}
 use Rattle.process.proofs.Interruptions.{file_is, is_fatal, lost_twice, none_written, written_both}
 
 -- SIGNALS
@@ -41,65 +39,6 @@ mask_over t s u (x ∷ xs) = mask_first (is_of t x) s u x xs (map (take_if t s) 
 
 pub mask_taken : (t s u : ℕ) (g : Signalling) → mask_of u (without_pending t s g) ≡ mask_of u g
 mask_taken t s u g = mask_over t s u g.threads
-
--- an action that is set to what it is
-set_same : (xs : List Action) (i : ℕ) (d : Action) → set xs i (get_or xs i d) ≡ xs
-set_same [] i d = refl
-set_same (x ∷ xs) zero d = refl
-set_same (x ∷ xs) (suc i) d = ap (λ ys. x ∷ ys) (set_same xs i d)
-
-action_kept : (s : ℕ) (g : Signalling) → set_action s (action_of s g) g ≡ g
-action_kept s g = ap (λ xs. let k : Signalling = record g { actions = xs } in k) (set_same g.actions (s - 1) default_action)
-
--- it drops its signal where it ignores it
-pub acted_same : (s : ℕ) (a : Action) (g : Signalling) → a ≡ action_of s g → acted s (Some a) g ≡ dropped_if_ignored s g
-acted_same s a g is = rw is (ap (λ k. cond (is_ignored s (action_of s g)) (dropped s k) k) (action_kept s g))
-
-pub not_dropped : (s : ℕ) (g : Signalling) → is_ignored s (action_of s g) ≡ false → g ≡ dropped_if_ignored s g
-not_dropped s g heeds = ap (λ b. cond b (dropped s g) g) (sym heeds)
-
--- where sigaction(2) would refuse an action of a signal, its default is not to ignore it
-never_by_default : (s : ℕ) (a : Action) → 1 ≤ s → s ≤ 31 → refuses_action s (Some a) ≡ true → is_ignored_by_default s ≡ false
-never_by_default s a lowest highest refused = elim (cases_eq s 9) [
-  | inl kill ↦ rw kill refl
-  | inr other ↦ elim (cases_eq s 19) [
-    | inl stop ↦ rw stop refl
-    | inr another ↦
-        let none : s ≢ 0 = λ zero_is. omega (arith, lowest, zero_is) in
-        let allowed : refuses_action s (Some a) ≡ false = rw (ne_eqb s 0 none, le-ltb 31 s highest, ne_eqb s 9 other, ne_eqb s 19 another) refl in
-        let bad : false ≡ true = sym allowed ∙ refused in
-        absurd (cc)
-  ]
-]
-
--- an action once its handler was entered isn't SIG_IGN
-get_set : (xs : List Action) (i : ℕ) (y d : Action) → (get_or (set xs i y) i d ≡ y) ⊎ (get_or (set xs i y) i d ≡ d)
-get_set [] i y d = inr refl
-get_set (x ∷ xs) zero y d = inl refl
-get_set (x ∷ xs) (suc i) y d = get_set xs i y d
-
-handler_heeded : (a : Action) → is_handler a ≡ true → eqb a.at 1 ≡ false
-handler_heeded a is = go (eqb a.at 0) (eqb a.at 1) is
-  where
-    go : (default ignored : Bool) → not (default || ignored) ≡ true → ignored ≡ false
-    go default ignored e = grind arith
-
-entered_heeded : (a : Action) → is_handler a ≡ true → eqb (entered_action a).at 1 ≡ false
-entered_heeded a is = go (has_flag a.flags 0x80000000)
-  where
-    go : (b : Bool) → eqb (cond b (record a { at = 0 }) a).at 1 ≡ false
-    go true = refl
-    go false = handler_heeded a is
-
-pub kept_where_refused : (t s : ℕ) (g g' : Signalling) → 1 ≤ s → s ≤ 31 → is_handler (action_of s g) ≡ true → g' ≡ entered t s g
-    → refuses_action s (Some (action_of s g')) ≡ true → is_ignored s (action_of s g') ≡ false
-kept_where_refused t s g g' lowest highest handler is refused =
-    let a = action_of s g' in
-    let heeded : eqb a.at 1 ≡ false = elim (get_set g.actions (s - 1) (entered_action (action_of s g)) default_action) [
-      | inl its ↦ ap (λ (b : Action). eqb b.at 1) (ap (action_of s) is ∙ its) ∙ entered_heeded (action_of s g) handler
-      | inr none ↦ ap (λ (b : Action). eqb b.at 1) (ap (action_of s) is ∙ none)
-    ] in
-    rw (heeded, never_by_default s a lowest highest refused) (and_right (eqb a.at 0) false refl)
 
 -- THE HANDLER
 
@@ -209,7 +148,3 @@ module _ (here : Here) (t h s : ℕ) (o : Outcome) (x x1 x2 : Saved) (a : Option
   delivered_by killer goes dies writable is =
       let there : can_write_in m1.pages ≡ is_writable here = writable ∙ half.found.writable in
       whole killer (dies ∙ rw (there, its_file, its_action) refl ∙ sym (unhandled here t s o goes)) is
-
-pub delivered_bad : (here : Here) (t h s : ℕ) (why : BadWhy) (x x1 : Saved) (a : Option Area) (m m1 : Parts) → IsHalfway here t h s (comes_to.Killed why) x x1 a m m1
-    → IsDelivered here t s (Some SIGSEGV) x1 m m1
-delivered_bad here t h s why x x1 a m m1 half = whole here t h s (comes_to.Killed why) x x1 x1 a m m1 m1 half (Some SIGSEGV) refl (not_entered t h s SIGSEGV x1 m1)

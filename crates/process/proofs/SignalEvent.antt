@@ -1,11 +1,7 @@
 -- The event of a signal: who receives it, and the parts after it.
-use Rattle.process.proofs.Common.{◌≡◌, ◌≢◌, ℕ, List, [], ◌∷◌, append-nil, refl, sym, ap, ◌∙◌, subst, Bool, cond, eqb, not, is_some, length, Option, Some, None, slice_get, option_and_then, option_map, ne_eqb, same_Some, AreSaved, Done, Hart, HartState, Here, IsPlace, IsUncounted, IsWritten, Kernel, Map, Outcome, Parts, Plain, Running, Saved, Setting, Stand, Store, Why, Write, area_of, counted, credit_of, done_of, file_among, file_on, hart_at, hart_in, here_at, here_in_plain, interruption_here, lost_unless, refusal_of, runs, state_of, thread, Idle, InBarrier, Waiting, IsTable, Table, running_saves_nothing, HoldsTables, holds_signals, unless_in_barrier, unless_waiting, handled_unless_killed, kills, IsChanged, IsDelivered, IsInterrupted, done_here, ended_unless, next_on}
+use Rattle.process.proofs.Common.{◌≡◌, ◌≢◌, ℕ, List, [], ◌∷◌, append-nil, refl, sym, ap, ◌∙◌, subst, Bool, cond, eqb, not, is_some, length, Option, Some, None, slice_get, option_and_then, option_map, ne_eqb, same_Some, AreSaved, Done, Hart, HartState, Here, IsPlace, IsUncounted, IsWritten, Kernel, Map, Outcome, Parts, Plain, Running, Saved, Setting, Stand, Store, Why, Write, area_of, counted, credit_of, done_of, file_among, file_on, hart_at, hart_in, here_at, here_in_plain, interruption_here, lost_unless, refusal_of, runs, state_of, thread, Idle, InBarrier, Waiting, IsTable, Table, running_saves_nothing, HoldsTables, holds_signals, unless_in_barrier, unless_waiting, handled_unless_killed, kills, IsChanged, IsDelivered, IsInterrupted, done_here, ended_unless, next_on, NoSignal, next_for, done_next, done_signal_by, refusal_delivery, refusal_signal_by, gone_on_with}
 use Rattle.process.proofs.SavedFiles.{saved_but_one}
 use Rattle.mach_types.specs.declared.events.Choice.TheVariants as asked
-use Rattle.mach_types.specs.declared.events.Why.TheVariants.{NoSignal}
-use Rattle.mach_types.specs.Kernel.Signals.{next_for}
-use Rattle.block_model.specs.Events.Signal.{done_next, done_signal_by, refusal_delivery, refusal_signal_by}
-use Rattle.process.specs.Delivering.{gone_on_with}
 use Rattle.process.proofs.Entries.{uncounted_as}
 use Rattle.process.proofs.HartEvents.{zero_more}
 use Rattle.process.proofs.HartStates.{own_after}

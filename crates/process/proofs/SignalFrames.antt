@@ -1,11 +1,6 @@
 -- The frame of a handler on the stack: who loses a reservation of it, that it can be read, and where it lies.
-use Rattle.process.proofs.Common.{nat_tests, ◌≡◌, ℕ, suc, ◌+◌, ◌*◌, List, [], ◌∷◌, take, drop, set, length, refl, sym, ap, ◌∙◌, arith, Bool, true, false, is_some, Option, Some, None, option_map, and_parts, length-set, take_all, after_writes, each_byte, can_write_frame, frame_writes, stack_pointer, Action, HartState, IsWritten, Saved, lost_unless, IsAlike, Map, are_visible, byte_in, can_write_in, writable_is_visible, lost_after, cond}
+use Rattle.process.proofs.Common.{nat_tests, ◌≡◌, ℕ, suc, ◌+◌, ◌*◌, List, [], ◌∷◌, take, drop, set, length, refl, sym, ap, ◌∙◌, arith, Bool, true, false, is_some, Option, Some, None, option_map, and_parts, length-set, take_all, after_writes, each_byte, can_write_frame, frame_writes, stack_pointer, Action, HartState, IsWritten, Saved, lost_unless, IsAlike, Map, are_visible, byte_in, can_write_in, writable_is_visible, lost_after, cond, length-append, get_or-set_other, get_or-set_same, frame_at, frame_words, handler_file, words_stored, Zeroed, has_reserved, lost_by}
 use Rattle.mach_types.proofs.Laws.{each_byte-split}
-use Rattle.std.proofs.Common.{length-append}
-use Rattle.std.proofs.lemmas.List.{get_or-set_other, get_or-set_same}
-use Rattle.mach_types.specs.Kernel.SignalFrames.{frame_at, frame_words, handler_file, words_stored}
-use Rattle.mach_types.specs.declared.user_memory.Write.TheVariants.{Zeroed}
-use Rattle.rv_inst.specs.Execution.{has_reserved, lost_by}
 use Rattle.process.proofs.Interruptions.{written_by}
 
 -- RESERVATIONS

@@ -1,15 +1,11 @@
 -- Signals at a place: they are kept of the thread on a hart, a fault's signal is one of 31, and which faults have handlers.
-use Rattle.process.proofs.Common.{live_in, ◌≡◌, ℕ, ◌≤◌, ◌<◌, List, sym, ap, ◌∙◌, arith, Bool, true, false, not, cond, eqb, ◌&&◌, ◌||◌, Option, Some, None, get_or, subst, ◌%◌, option_map, Entry, Effect, Hart, HartState, ImagePage, IsPlace, IsPlanned, IsTied, Next, Parts, Running, Saved, Stand, entry_from, here_at, runs, thread, Kind, Action, SIGSEGV, Signalling, action_of, is_handler, is_ignored, is_ignored_by_default, with_pending, fault_in, fault_by, fetched, is_storable, reached, running_is}
+use Rattle.process.proofs.Common.{live_in, ◌≡◌, ℕ, ◌≤◌, ◌<◌, List, sym, ap, ◌∙◌, arith, Bool, true, false, not, cond, eqb, ◌&&◌, ◌||◌, Option, Some, None, get_or, subst, ◌%◌, option_map, Entry, Effect, Hart, HartState, ImagePage, IsPlace, IsPlanned, IsTied, Next, Parts, Running, Saved, Stand, entry_from, here_at, runs, thread, Kind, Action, SIGSEGV, Signalling, action_of, is_handler, is_ignored, is_ignored_by_default, with_pending, fault_in, fault_by, fetched, is_storable, reached, running_is, SIGBUS, atomic_write, conditional_write, plain_read, plain_write, reserving_read, access_fault, is_allowed, unless_allowed, HasSignals}
 use Rattle.sys_calls.proofs.ThreadSignals.{held_as_live}
-use Rattle.mach_types.specs.declared.signals.TheConstants.{SIGBUS}
 use Rattle.mach_types.specs.Kernel.Signals.{is_held, posted}
-use Rattle.rv_inst.specs.Class.{atomic_write, conditional_write, plain_read, plain_write, reserving_read}
-use Rattle.rv_inst.specs.Execution.{access_fault, is_allowed, unless_allowed}
 use Rattle.rv_inst.specs.declared.class.Access.{Access}
 use Rattle.rv_inst.specs.declared.effects.Effect.TheVariants as effect
 use Rattle.block_model.specs.Instruction.{fetch_fault, next_effect, next_fault}
 use Rattle.block_model.specs.Standing.{IsStanding}
-use Rattle.process.specs.Delivering.{HasSignals}
 use Rattle.process.proofs.HartStates.{hart_there}
 use Rattle.process.proofs.Places.{hart_is, thread_is}
 

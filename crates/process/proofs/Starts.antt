@@ -1,15 +1,9 @@
 -- Parts that have done nothing yet.
-use Rattle.process.proofs.Common.{◌≡◌, ℕ, nat_eq, zero, suc, ◌+◌, ◌/◌, ◌<◌, arith, List, [], ◌∷◌, length, map, refl, sym, ap, ◌∙◌, cond, Bool, true, false, Option, Some, None, is_some, slice_get, All, and_parts, same_Some, option_and_then, option_map, option_map_or, none_registered, can_read, can_write, is_in, permission_of, HartState, ImagePage, Parts, Saved, credit_of, hart_at, image_run, program_of, return_run, stack_run, start_file, start_runs, idle_hart, IsTable, saved_of, start_table, held_in, permission_in, areas_by_number, Setting, IsTied}
+use Rattle.process.proofs.Common.{◌≡◌, ℕ, nat_eq, zero, suc, ◌+◌, ◌/◌, ◌<◌, arith, List, [], ◌∷◌, length, map, refl, sym, ap, ◌∙◌, cond, Bool, true, false, Option, Some, None, is_some, slice_get, All, and_parts, same_Some, option_and_then, option_map, option_map_or, none_registered, can_read, can_write, is_in, permission_of, HartState, ImagePage, Parts, Saved, credit_of, hart_at, image_run, program_of, return_run, stack_run, start_file, start_runs, idle_hart, IsTable, saved_of, start_table, held_in, permission_in, areas_by_number, Setting, IsTied, start_signalling, start_byte, break_in, break_start_in, free_in, may_write, write_alone, first_kernel, plain_start}
 use Rattle.std.proofs.lemmas.List.Elements.{All-map}
-use Rattle.mach_types.specs.Kernel.Signals.{start_signalling}
 use Rattle.mach_types.specs.declared.limits.Limits.{Limits}
 use Rattle.elf_load.specs.Images.{IsPermission}
-use Rattle.elf_load.specs.Start.{start_byte}
 use Rattle.elf_load.specs.declared.image.Image.{Image}
-use Rattle.page_map.specs.Map.{break_in, break_start_in, free_in, may_write}
-use Rattle.page_map.proofs.Laws.{write_alone}
-use Rattle.block_model.specs.Kernel.{first_kernel}
-use Rattle.block_model.specs.Plain.{plain_start}
 use Rattle.block_model.specs.Setting.{setting_of as setting_by}
 
 -- where all elements are one, each place has that one

@@ -1,16 +1,11 @@
 -- A call of the thread on a hart.
-use Rattle.process.proofs.Common.{◌≡◌, ◌≢◌, ℕ, ◌+◌, ◌-◌, ◌<◌, ◌^◌, append-nil, length, inl, inr, refl, subst, sym, ap, ◌∙◌, arith, Bool, true, false, cond, ◌||◌, ◌⊎◌, Option, Some, None, get_or, option_map, option_or, false≢true, End, Hart, HartState, IsPlace, Next, Parts, Plain, Saved, Setting, Stand, Threads, asked_by, by_call, credit_of, done_of, file_among, file_on, hart_at, hart_in, harts_that, here_at, here_in_plain, id_on, is_busy, is_stuck, running_on, no_registers, Entry, barrier_of, gives_up, called, CallDone, running_harts, final, number_of, Barrier, runs, id_of, without_id, is_about, restarts_at, with_hart, is_inside_here, IsTables, areas_by_number, entry_from, IsOwnStep, IsPlanned}
-use Rattle.block_model.specs.Tables.{AreSignalsOfLive}
+use Rattle.process.proofs.Common.{◌≡◌, ◌≢◌, ℕ, ◌+◌, ◌-◌, ◌<◌, ◌^◌, append-nil, length, inl, inr, refl, subst, sym, ap, ◌∙◌, arith, Bool, true, false, cond, ◌||◌, ◌⊎◌, Option, Some, None, get_or, option_map, option_or, false≢true, End, Hart, HartState, IsPlace, Next, Parts, Plain, Saved, Setting, Stand, Threads, asked_by, by_call, credit_of, done_of, file_among, file_on, hart_at, hart_in, harts_that, here_at, here_in_plain, id_on, is_busy, is_stuck, running_on, no_registers, Entry, barrier_of, gives_up, called, CallDone, running_harts, final, number_of, Barrier, runs, id_of, without_id, is_about, restarts_at, with_hart, is_inside_here, IsTables, areas_by_number, entry_from, IsOwnStep, IsPlanned, AreSignalsOfLive, IsAt, IsOwnCall, process_end, AreOfLive, hart_after_call, waits_after, IsInside}
 use Rattle.mach_types.specs.declared.events.Choice.TheVariants as asked
 use Rattle.mach_types.specs.declared.events.Kind.TheVariants as kind
 use Rattle.mach_types.specs.declared.limits.End.TheVariants as over
 use Rattle.rv_inst.specs.declared.effects.Effect.TheVariants as effect
-use Rattle.sys_calls.specs.Made.{IsAt, IsOwnCall, process_end}
 use Rattle.sys_calls.specs.declared.calling.CallEnd.{CallEnd}
 use Rattle.sys_calls.specs.declared.calling.CallEnd.TheVariants as ends
-use Rattle.block_model.specs.Tables.{AreOfLive}
-use Rattle.process.specs.EventOutcomes.{hart_after_call, waits_after}
-use Rattle.process.specs.Planned.{IsInside}
 use Rattle.process.proofs.Membarriers.{running_here}
 use Rattle.process.proofs.Entries.{entry_here}
 use Rattle.process.proofs.ExecEvent.{done_call}

@@ -1,9 +1,6 @@
 -- The event take: what the interruption of the hart's thread comes to, if it is to restart, and the parts after it.
-use Rattle.process.proofs.Common.{◌≡◌, ◌≢◌, ℕ, List, [], append-nil, refl, sym, ap, ◌∙◌, subst, Bool, true, false, cond, eqb, eq-eqb, Option, Some, None, slice_get, set, ne_eqb, option_and_then, option_map, option_or, interruption, pc_after, writes_of, AreSaved, Area, Done, End, Hart, HartState, Here, IsPlace, IsUncounted, IsWritten, Map, Outcome, Parts, Plain, Saved, Setting, Stand, Write, area_here, byte_in, can_write_in, counted, credit_of, done_of, file_among, files_interrupted, hart_at, hart_in, here_at, here_in_plain, interruption_here, is_writable, lost_unless, memory, refusal_of, runs, unless_waiting, done_take, done_take_by, killed_by, ended_by}
+use Rattle.process.proofs.Common.{◌≡◌, ◌≢◌, ℕ, List, [], append-nil, refl, sym, ap, ◌∙◌, subst, Bool, true, false, cond, eqb, eq-eqb, Option, Some, None, slice_get, set, ne_eqb, option_and_then, option_map, option_or, interruption, pc_after, writes_of, AreSaved, Area, Done, End, Hart, HartState, Here, IsPlace, IsUncounted, IsWritten, Map, Outcome, Parts, Plain, Saved, Setting, Stand, Write, area_here, byte_in, can_write_in, counted, credit_of, done_of, file_among, files_interrupted, hart_at, hart_in, here_at, here_in_plain, interruption_here, is_writable, lost_unless, memory, refusal_of, runs, unless_waiting, done_take, done_take_by, killed_by, ended_by, NoRequest, only_took, took_and_interrupted, IsRestarted, noticed, restart_here, taken_or_noticed, taken_with}
 use Rattle.mach_types.specs.declared.events.Choice.TheVariants as asked
-use Rattle.mach_types.specs.declared.events.Why.TheVariants.{NoRequest}
-use Rattle.block_model.specs.Events.Take.{only_took, took_and_interrupted}
-use Rattle.process.specs.Barriers.{IsRestarted, noticed, restart_here, taken_or_noticed, taken_with}
 use Rattle.process.proofs.Entries.{uncounted_as}
 use Rattle.process.proofs.Events.{AreBeside, lost_nothing}
 use Rattle.process.proofs.HartEvents.{zero_more}

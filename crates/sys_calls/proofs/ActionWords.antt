@@ -1,8 +1,5 @@
 -- The three words of an action: where they can be written, or read, they lie below 2^64.
-use Rattle.sys_calls.proofs.Common.{and_right, ◌≡◌, ℕ, ◌+◌, ◌<◌, ◌≤◌, ◌^◌, Bool, true, false, ◌&&◌, is_some, refl, sym, ap, ◌∙◌, each_byte-past, each_byte-split, Here, IsRead, Map, Saved, byte_in, can_write_in, each_byte, are_readable, are_writable, pass_action, byte_in-ends, byte_in-readable, and_parts}
-use Rattle.mach_types.proofs.Laws.{each_byte-same}
-use Rattle.block_model.specs.Calls.Signals.{action_size}
-use Rattle.sys_calls.proofs.GuestMemory.{readable_is, writable_is}
+use Rattle.sys_calls.proofs.Common.{and_right, ◌≡◌, ℕ, ◌+◌, ◌<◌, ◌≤◌, ◌^◌, Bool, true, false, ◌&&◌, is_some, refl, sym, ap, ◌∙◌, each_byte-past, each_byte-split, Map, byte_in, can_write_in, each_byte, pass_action, byte_in-ends, byte_in-readable, and_parts, each_byte-same}
 use Rattle.sys_calls.proofs.Spans.{readable_end}
 
 -- the words by a test of a byte
@@ -36,15 +33,6 @@ readable_words m at = refl
 
 pub readable_action : (m : Map) (at : ℕ) → at < 2 ^ 64 → pass_action (λ a. is_some (byte_in m a)) at ≡ true → at + 24 ≤ 2 ^ 64
 readable_action m at lt all = readable_end m at 24 lt (readable_words m at ∙ all)
-
--- as a rule reads it
-pub readable_here : (h : Here) (m : Map) (t : ℕ) (saved : Saved) → IsRead h m t saved → (at : ℕ) → pass_action (λ a. is_some (byte_in m a)) at ≡ are_readable h at action_size
-unfolding pass_action
-readable_here h m t saved read at = readable_is h m t saved read at 24
-
-pub writable_here : (h : Here) (m : Map) (t : ℕ) (saved : Saved) → IsRead h m t saved → (at : ℕ) → pass_action (can_write_in m) at ≡ are_writable h at action_size
-unfolding pass_action
-writable_here h m t saved read at = writable_is h m t saved read at 24
 
 -- and the same after writes that change no permission
 pub still_writable : (m m' : Map) (at n : ℕ) → ((a : ℕ) → can_write_in m' a ≡ can_write_in m a) → each_byte (can_write_in m) at n ≡ true → each_byte (can_write_in m') at n ≡ true

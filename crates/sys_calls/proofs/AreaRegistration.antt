@@ -1,7 +1,5 @@
 -- rseq(2): what the call comes to, case by case.
-use Rattle.sys_calls.proofs.Common.{◌≡◌, ℕ, Bool, true, false, Some, ap, are_words_writable, words_on, words_unregistered, words_written, Area, EFAULT, Here, IsRead, Map, Saved, can_write_in, is_writable, id_of, CallDone, refused, said, killed_in_call, unregisters, cond-false, cond-true}
-use Rattle.block_model.specs.Kernel.{registered, unregistered}
-use Rattle.block_model.specs.Calls.Sequences.{registers}
+use Rattle.sys_calls.proofs.Common.{◌≡◌, ℕ, Bool, true, false, Some, ap, are_words_writable, words_on, words_unregistered, words_written, Area, EFAULT, Here, IsRead, Map, Saved, can_write_in, is_writable, id_of, CallDone, refused, said, killed_in_call, unregisters, cond-false, cond-true, registered, unregistered, registers}
 
 -- whether the words of an area can be written, as a rule reads it
 pub words_can : (h : Here) (m : Map) (t : ℕ) (saved : Saved) → IsRead h m t saved → (area : Area) → are_words_writable (can_write_in m) area ≡ are_words_writable (is_writable h) area

@@ -1,7 +1,6 @@
 -- The four words of an area: where they can be written they can be read, and they lie below 2^64.
-use Rattle.sys_calls.proofs.Common.{◌≡◌, ℕ, suc, ◌+◌, ◌<◌, ◌^◌, Bool, true, refl, sym, ap, ◌∙◌, inl, inr, arith, cases_lt, false≢true, and_parts, each_byte-past, each_byte-split, after_writes, each_byte, Words, are_words_writable, words_written, Area, IsEntered, Map, byte_in, can_write_in, byte_in-ends, byte_in-readable}
+use Rattle.sys_calls.proofs.Common.{◌≡◌, ℕ, suc, ◌+◌, ◌<◌, ◌^◌, Bool, true, refl, sym, ap, ◌∙◌, inl, inr, arith, cases_lt, false≢true, and_parts, each_byte-past, each_byte-split, after_writes, each_byte, Words, are_words_writable, words_written, Area, IsEntered, Map, byte_in, can_write_in, byte_in-ends, byte_in-readable, IsAlike, are_visible}
 use Rattle.page_map.proofs.Laws.{alike_holds, writable_is_visible}
-use Rattle.page_map.specs.Map.{IsAlike, are_visible}
 
 -- each of the words passes a test
 pub record PassEach (test : ℕ → Bool) (at : ℕ) : Type 0 where

@@ -1,15 +1,11 @@
 -- membarrier(2): a command that begins a barrier registers nothing, and what the call comes to.
-use Rattle.sys_calls.proofs.Common.{◌≡◌, ℕ, Bool, false, cond, [], Option, Some, None, refl, sym, ap, subst, ◌∙◌, option_map_or, command, CallEnd, EINVAL, Here, HoldsTables, IsCaller, IsEntered, Kernel, Map, Saved, Table, Threads, argument, file_among, int_argument, returned, running_on, runs, saved_of, without_id, Registered, signed_32, running_harts, AreSaved, HasPages, IsAnswer, IsMade, StandsSo, barrier_of, gives_up, process_end, Answer, answers}
-use Rattle.mach_types.specs.Kernel.Barriers.{answer_of, refusal, registered_by}
+use Rattle.sys_calls.proofs.Common.{◌≡◌, ℕ, Bool, false, cond, [], Option, Some, None, refl, sym, ap, subst, ◌∙◌, option_map_or, command, CallEnd, EINVAL, Here, HoldsTables, IsCaller, IsEntered, Kernel, Map, Saved, Table, Threads, argument, file_among, int_argument, returned, running_on, runs, saved_of, without_id, Registered, signed_32, running_harts, AreSaved, HasPages, IsAnswer, IsMade, StandsSo, barrier_of, gives_up, process_end, Answer, answers, answer_of, refusal, registered_by, sum_64, word, for_barriers, membarrier}
 use Rattle.mach_types.specs.Kernel.Barriers as barriers
 use Rattle.mach_types.specs.Kernel.PairBarriers.{answer_beside}
 use Rattle.mach_types.specs.declared.barriers.Answer.TheVariants.{Value, Begin}
 use Rattle.mach_types.specs.declared.barriers.BarrierCommand.{BarrierCommand}
 use Rattle.mach_types.specs.declared.barriers.BarrierCommand.TheVariants.{RegisterGlobalExpedited, RegisterPrivateExpedited, RegisterPrivateExpeditedRseq}
-use Rattle.rv_inst.specs.Words.{sum_64, word}
-use Rattle.block_model.specs.Kernel.{for_barriers}
 use Rattle.block_model.specs.Record as record_of
-use Rattle.block_model.specs.Calls.Barriers.{membarrier}
 use Rattle.sys_calls.proofs.KernelWrites.{entered_none, pages_kept}
 use Rattle.sys_calls.proofs.Laws.{holds_barriers}
 use Rattle.sys_calls.proofs.CallAnswers.{kept_own}

@@ -1,14 +1,9 @@
 -- Calls whose threads go on: an answer, with bytes printed, or with writes; what a call comes to that answers, is refused or ends the
 -- process; and calls by which a thread leaves its hart.
-use Rattle.sys_calls.proofs.Common.{cases_eq, ne_eqb, eq-eqb, ◌≡◌, ℕ, Bool, true, false, cond, List, [], ◌∷◌, ◌++◌, length, Some, None, Result, Err, refl, sym, ap, subst, ◌∙◌, CallEnd, Errno, Here, HoldsTables, IsRemapped, IsTables, Kernel, Map, Ready, Saved, Write, file_among, on, register, with_ready, without_id, Threads, running_on, runs, state_of, with_state, Table, saved_of, left, CallDone, refused, returned, said, wrote, running_is, state_now, AreTables, IsAnswered, IsCaller, IsEntered, AreSaved, HasPages, IsAnswer, IsMade, StandsSo, barrier_of, gives_up, process_end, inl, inr}
-use Rattle.std.proofs.Common.{pos}
+use Rattle.sys_calls.proofs.Common.{cases_eq, ne_eqb, eq-eqb, ◌≡◌, ℕ, Bool, true, false, cond, List, [], ◌∷◌, ◌++◌, length, Some, None, Result, Err, refl, sym, ap, subst, ◌∙◌, CallEnd, Errno, Here, HoldsTables, IsRemapped, IsTables, Kernel, Map, Ready, Saved, Write, file_among, on, register, with_ready, without_id, Threads, running_on, runs, state_of, with_state, Table, saved_of, left, CallDone, refused, returned, said, wrote, running_is, state_now, AreTables, IsAnswered, IsCaller, IsEntered, AreSaved, HasPages, IsAnswer, IsMade, StandsSo, barrier_of, gives_up, process_end, inl, inr, pos, forget, with_saved, printed, negative, left_idle}
 use Rattle.mach_types.specs.declared.limits.End.{End}
-use Rattle.kernel_threads.specs.Table.{forget, with_saved}
 use Rattle.kernel_threads.proofs.Laws.{saved_of-forget_other, saved_of-forget_same, is_kept, saved_of_others}
-use Rattle.block_model.specs.Kernel.{printed}
 use Rattle.block_model.specs.Record as record_of
-use Rattle.block_model.specs.Calls.Answers.{negative}
-use Rattle.block_model.proofs.Laws.{left_idle}
 use Rattle.sys_calls.specs.declared.calling.CallEnd.TheVariants as over
 use Rattle.sys_calls.specs.Answered.{answer_of}
 use Rattle.sys_calls.proofs.KernelWrites.{entered_none, pages_entered, pages_kept}

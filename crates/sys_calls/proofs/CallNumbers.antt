@@ -1,10 +1,6 @@
 -- The calls by their numbers, and which of them write nothing.
-use Rattle.sys_calls.proofs.Common.{◌≡◌, ◌≢◌, inl, inr, ℕ, Bool, true, false, cond, eqb, List, [], Option, Some, None, refl, sym, ap, ◌∙◌, ◌∷◌, Result, subst, CallDone, CallEnd, Errno, Errors, Here, IsAnswered, IsMade, Kernel, Map, Saved, Write, argument, int_argument, memory, refused, register, said, unless, call_of, called, call_number, moved_off, sched_setaffinity, futex, futex_wait, futex_wake, resumed, waited, frame_read}
+use Rattle.sys_calls.proofs.Common.{◌≡◌, ◌≢◌, inl, inr, ℕ, Bool, true, false, cond, eqb, List, [], Option, Some, None, refl, sym, ap, ◌∙◌, ◌∷◌, Result, subst, CallDone, CallEnd, Errno, Errors, Here, IsAnswered, IsMade, Kernel, Map, Saved, Write, argument, int_argument, memory, refused, register, said, unless, call_of, called, call_number, moved_off, sched_setaffinity, futex, futex_wait, futex_wake, resumed, waited, frame_read, set_given, setaffinity_errors, operation, futex_errors, wait_errors, rt_sigreturn, IsOwnCall}
 use Rattle.block_model.specs.Beside.{Neighbour}
-use Rattle.block_model.specs.Calls.Affinity.{set_given, setaffinity_errors}
-use Rattle.block_model.specs.Calls.Futexes.{operation, futex_errors, wait_errors}
-use Rattle.block_model.specs.Calls.Signals.{rt_sigreturn}
-use Rattle.sys_calls.specs.Made.{IsOwnCall}
 
 -- the call that the number names
 pub numbered : (h : Here) (t n i : ℕ) (saved : Saved) → saved ≡ h.file t → n ≡ register saved.file 17 → n ≡ i → called h t ≡ call_of i h t

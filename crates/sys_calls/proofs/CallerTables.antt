@@ -1,8 +1,6 @@
 -- What the tables say of a thread that calls, and of the others.
-use Rattle.sys_calls.proofs.Common.{◌≡◌, ℕ, Bool, true, false, cond, eqb, List, [], ◌∷◌, map, Option, Some, None, is_some, refl, ap, ◌∙◌, list_any, option_map, option_map_or, is_of, Thread, Threads, is_live, is_ready_state, running_on, runs, state_of, with_clear, Table, IsTable, saved_of, AreTables, IsCaller, Kernel, on, running_is, ready_listed}
-use Rattle.std.specs.List.{find}
+use Rattle.sys_calls.proofs.Common.{◌≡◌, ℕ, Bool, true, false, cond, eqb, List, [], ◌∷◌, map, Option, Some, None, is_some, refl, ap, ◌∙◌, list_any, option_map, option_map_or, is_of, Thread, Threads, is_live, is_ready_state, running_on, runs, state_of, with_clear, Table, IsTable, saved_of, AreTables, IsCaller, Kernel, on, running_is, ready_listed, find, clear_if, is_on, is_thread}
 use Rattle.mach_types.specs.declared.threads.ThreadState.{ThreadState}
-use Rattle.mach_types.specs.Kernel.Threads.{clear_if, is_on, is_thread}
 use Rattle.kernel_threads.proofs.Laws.{running_saves_nothing}
 
 -- a thread in a state is live

@@ -1,9 +1,6 @@
 -- clone(2): a child is new, and is ready.
-use Rattle.sys_calls.proofs.Common.{cases_eq, ne_eqb, eq-eqb, ◌≡◌, ◌≢◌, ℕ, ◌+◌, Bool, true, false, cond, eqb, [], ◌∷◌, Option, Some, None, is_some, refl, sym, ap, ◌∙◌, list_any, option_map, option_map_or, Scheduling, is_of, with_thread, IsThreads, Thread, Threads, is_full, is_live, is_ready_state, running_on, with_child, with_clear, AreSaved, AreTables, Here, Kernel, Ready, Saved, argument, file_among, IsTable, Table, saved_of, with_start, next_is_new, cleared, had_child, next_number, ready_listed, inl, inr}
-use Rattle.mach_types.specs.Kernel.Threads.{thread_of}
-use Rattle.mach_types.proofs.Laws.{state_of-with_child_same}
+use Rattle.sys_calls.proofs.Common.{cases_eq, ne_eqb, eq-eqb, ◌≡◌, ◌≢◌, ℕ, ◌+◌, Bool, true, false, cond, eqb, [], ◌∷◌, Option, Some, None, is_some, refl, sym, ap, ◌∙◌, list_any, option_map, option_map_or, Scheduling, is_of, with_thread, IsThreads, Thread, Threads, is_full, is_live, is_ready_state, running_on, with_child, with_clear, AreSaved, AreTables, Here, Kernel, Ready, Saved, argument, file_among, IsTable, Table, saved_of, with_start, next_is_new, cleared, had_child, next_number, ready_listed, inl, inr, thread_of, state_of-with_child_same, child_not_held, child_same}
 use Rattle.kernel_threads.proofs.Laws.{saved_of-child, saved_of-with_start_other}
-use Rattle.block_model.proofs.Laws.{child_not_held, child_same}
 use Rattle.sys_calls.proofs.CallerTables.{cleared_runs, live_in}
 
 -- the next number isn't held, nor ready

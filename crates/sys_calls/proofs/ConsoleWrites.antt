@@ -1,9 +1,5 @@
 -- write(2) and writev(2): what is done with spans of bytes, by how many they are, whether they can be read, and the console's room.
-use Rattle.sys_calls.proofs.Common.{◌≡◌, ℕ, ◌≤◌, ◌<◌, true, false, not, eqb, leb, List, length, take, ◌∙◌, eq-eqb, le-leb, lt-leb, ne_eqb, EFAULT, ENOSPC, CONSOLE_ROOM, Here, memory, refused, said, Span, all_readable, bytes_of, room, total, wrote, cond-false, cond-true, not_from_false, not_from_true}
-use Rattle.block_model.specs.Calls.Console.{write_spans}
-
-pub spans_empty : (h : Here) (t : ℕ) (spans : List Span) → total spans ≡ 0 → write_spans h t spans ≡ said h t 0
-spans_empty h t spans none = cond-true (eqb (total spans) 0) _ _ (eq-eqb (total spans) 0 none)
+use Rattle.sys_calls.proofs.Common.{◌≡◌, ℕ, ◌≤◌, ◌<◌, true, false, not, eqb, leb, List, length, take, ◌∙◌, le-leb, lt-leb, ne_eqb, EFAULT, ENOSPC, CONSOLE_ROOM, Here, memory, refused, Span, all_readable, bytes_of, room, total, wrote, cond-false, cond-true, not_from_false, not_from_true, write_spans}
 
 pub spans_unreadable : (h : Here) (t : ℕ) (spans : List Span) → (total spans ≡ 0 → ⊥) → all_readable h spans ≡ false → write_spans h t spans ≡ refused h t EFAULT
 spans_unreadable h t spans some cannot = cond-false (eqb (total spans) 0) _ _ (ne_eqb (total spans) 0 some) ∙ cond-true (not (all_readable h spans)) _ _ (not_from_false _ cannot)

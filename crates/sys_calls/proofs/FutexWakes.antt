@@ -1,12 +1,7 @@
 -- futex(2), wake: one after the other, the longest waiting first.
-use Rattle.sys_calls.proofs.Common.{◌≡◌, ◌≢◌, ℕ, zero, suc, ◌+◌, ◌-◌, ◌<◌, Bool, true, false, cond, eqb, List, [], ◌∷◌, ◌++◌, length, map, Option, Some, None, refl, sym, ap, subst, ◌∙◌, arith, append_assoc, append-nil, length-append, inl, inr, eq-eqb, ne_eqb, option_map, option_map_or, AreSaved, Here, HoldsTables, IsTables, Ready, Saved, Scheduling, file_among, with_ready, Threads, is_live, longest_waiter, running_on, waits, with_woken, Table, answering, saved_of, with_answer, woken, answered_wait, wake, woken_same, IsOnward, IsWoken, cases_eq}
-use Rattle.std.proofs.lemmas.List.{set-set}
+use Rattle.sys_calls.proofs.Common.{◌≡◌, ◌≢◌, ℕ, zero, suc, ◌+◌, ◌-◌, ◌<◌, Bool, true, false, cond, eqb, List, [], ◌∷◌, ◌++◌, length, map, Option, Some, None, refl, sym, ap, subst, ◌∙◌, arith, append_assoc, append-nil, length-append, inl, inr, eq-eqb, ne_eqb, option_map, option_map_or, AreSaved, Here, HoldsTables, IsTables, Ready, Saved, Scheduling, file_among, with_ready, Threads, is_live, longest_waiter, running_on, waits, with_woken, Table, answering, saved_of, with_answer, woken, answered_wait, wake, woken_same, IsOnward, IsWoken, cases_eq, set-set, numbers, same_numbers, Woken, woken_first, tables_woken, wake_by, wake_keeps, waits_elsewhere, live_changed}
 use Rattle.block_model.specs.Record.{Kernel}
-use Rattle.mach_types.specs.Kernel.Threads.{numbers}
-use Rattle.mach_types.proofs.Laws.{same_numbers}
 use Rattle.kernel_threads.proofs.Laws.{saved_of-answered, saved_of-with_answer_other}
-use Rattle.block_model.specs.Calls.Futexes.{Woken, woken_first}
-use Rattle.block_model.proofs.Laws.{tables_woken, wake_by, wake_keeps, waits_elsewhere, live_changed}
 use Rattle.sys_calls.specs.declared.kernel.Kernel.{Kernel as Tables}
 use Rattle.sys_calls.proofs.Laws.{held_is, holds_itself, holds_woken, record_with}
 

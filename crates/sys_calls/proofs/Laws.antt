@@ -1,10 +1,8 @@
 -- For the crates above too: the tables hold the kernel's record, and what stays of it where one table and its part change.
-use Rattle.sys_calls.proofs.Common.{◌≡◌, ℕ, ◌+◌, Bool, true, false, cond, List, refl, ap, ◌∙◌, without_area, Pages, Scheduling, with_ready, with_thread, Area, HoldsTables, Kernel, Ready, RegisteredArea, Signalling, Table, areas_by_number, Threads, with_child, with_clear, with_state, with_woken, Registered, cleared, had_child, left, woken}
+use Rattle.sys_calls.proofs.Common.{◌≡◌, ℕ, ◌+◌, Bool, true, false, cond, List, refl, ap, ◌∙◌, without_area, Pages, Scheduling, with_ready, with_thread, Area, HoldsTables, Kernel, Ready, RegisteredArea, Signalling, Table, areas_by_number, Threads, with_child, with_clear, with_state, with_woken, Registered, cleared, had_child, left, woken, without, gone}
 use Rattle.arrayvec.specs.ArrayVec.{ArrayVec as Items}
 use Rattle.mach_types.specs.Kernel.Scheduling.{forget}
 use Rattle.mach_types.specs.Kernel.Signals as signals
-use Rattle.mach_types.specs.Kernel.Threads.{without}
-use Rattle.block_model.specs.Kernel.{gone}
 use Rattle.block_model.specs.Record as model_of
 
 -- the six equations together

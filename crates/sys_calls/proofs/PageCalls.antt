@@ -1,16 +1,6 @@
 -- Calls that change pages: what the page map holds after them, which writes they tell, and when they are refused.
-use Rattle.sys_calls.proofs.Common.{◌≡◌, ℕ, ◌+◌, ◌-◌, ◌/◌, ◌<◌, ◌≤◌, ◌&&◌, inl, inr, Bool, true, false, not, cond, eqb, leb, ltb, List, [], ◌∷◌, Option, Some, None, is_some, Result, Ok, Err, refl, sym, ap, subst, ◌∙◌, arith, option_map, and_parts, cases_lt, false≢true, le-leb, lt-ltb, ne_eqb, written, EINVAL, Errno, Here, IsRemapped, Write, PageRun, Pages, is_in, permission_of, run, zeros_of, break_run, permission_for, Map, break_in, break_start_in, free_in, held_in, permission_in, CallDone, argument, call_number, refused, said, mmap, zeros_if_mapped, HasPages, HoldsPages, cond-false, cond-true}
-use Rattle.std.proofs.lemmas.Bool.{eqb-true}
-use Rattle.std.proofs.Common.{IsErr, IsErrAnd}
-use Rattle.std.proofs.lemmas.Bool.{leb-true, ltb-false, ltb-true}
-use Rattle.mach_types.specs.declared.kernel_words.TheConstants.{MOST_PROT}
-use Rattle.mach_types.specs.Kernel.Pages.{mapped_count, pages_of, run_over}
-use Rattle.mach_types.specs.Kernel.PageCalls.{answer_unless, free_past, mapped_at, may_move_break, mmap_answer, mprotect_refusal, munmap_refusal, protected, unmapped}
-use Rattle.mach_types.proofs.Laws.{zeros_of-at}
-use Rattle.page_map.specs.Map.{code_in, held_over}
+use Rattle.sys_calls.proofs.Common.{◌≡◌, ℕ, ◌+◌, ◌-◌, ◌/◌, ◌<◌, ◌≤◌, ◌&&◌, inl, inr, Bool, true, false, not, cond, eqb, leb, ltb, List, [], ◌∷◌, Option, Some, None, is_some, Result, Ok, Err, refl, sym, ap, subst, ◌∙◌, arith, option_map, and_parts, cases_lt, false≢true, le-leb, lt-ltb, ne_eqb, written, EINVAL, Errno, Here, IsRemapped, Write, PageRun, Pages, is_in, permission_of, run, zeros_of, break_run, permission_for, Map, break_in, break_start_in, free_in, held_in, permission_in, CallDone, argument, call_number, refused, said, mmap, zeros_if_mapped, HasPages, HoldsPages, cond-false, cond-true, eqb-true, IsErr, IsErrAnd, leb-true, ltb-false, ltb-true, MOST_PROT, mapped_count, pages_of, run_over, answer_unless, free_past, mapped_at, may_move_break, mmap_answer, mprotect_refusal, munmap_refusal, protected, unmapped, zeros_of-at, code_in, held_over, paged, are_mapping_flags, changed_unless, mapped_or_refused, may_break, permission_here, taken_by, unless_refused}
 use Rattle.page_map.proofs.Laws.{IsProtectable, protectable}
-use Rattle.block_model.specs.Kernel.{paged}
-use Rattle.block_model.specs.Calls.Memory.{are_mapping_flags, changed_unless, mapped_or_refused, may_break, permission_here, taken_by, unless_refused}
 
 -- an error that `?` hands on
 pub passed_on : (x : Result ℕ Errno) (e : Errno) → IsErr x × IsErrAnd x (λ (d : Errno). d ≡ e) → x ≡ Err e
@@ -122,13 +112,6 @@ munmap_at h t at len = changed_unless h t (munmap_refusal (permission_here h) at
 module _ (h : Here) (t : ℕ) (m m' : Map) (has : HasPages h m) (at len at' len' : ℕ) (at_is : at ≡ at') (len_is : len ≡ len') where
   munmap_refusal_is : (o : Option Errno) → munmap_refusal (permission_in m) at len ≡ o → munmap_refusal (permission_here h) at len ≡ o
   munmap_refusal_is o is = ap (λ (p : ℕ → Option ℕ). munmap_refusal p at len) (sym (permissions_are h m has)) ∙ is
-
-  pub munmap_refused : (e : Errno) → Err e ≡ answer_unless (munmap_refusal (permission_in m) at len) → m' ≡ m
-      → IsRemapped h t m m' [] (Err e) (munmap_at h t at' len')
-  munmap_refused e is same =
-      subst (λ (d : CallDone). IsRemapped h t m m' [] (Err e) d) (λ i. munmap_at h t (at_is i) (len_is i))
-      (changed_refused h t m m' (munmap_refusal (permission_here h) at len) e (unmapped at len h.kernel.pages) has
-      (munmap_refusal_is (Some e) (refusal_is (munmap_refusal (permission_in m) at len) e is)) same)
 
   pub munmap_made : (u : Unit {0}) → Ok u ≡ answer_unless (munmap_refusal (permission_in m) at len)
       → ((n : ℕ) → permission_in m' n ≡ run_over (run (at / 4096) (pages_of len) None) (permission_in m) n)

@@ -1,8 +1,5 @@
 -- tkill(2) and tgkill(2): a signal is posted, and a wait that it breaks is answered.
-use Rattle.sys_calls.proofs.Common.{◌≡◌, ℕ, Bool, true, false, not, ◌||◌, cond, eqb, [], ◌∷◌, None, is_some, ◌&&◌, Ok, refl, sym, ap, subst, ◌∙◌, ne_eqb, option_map_or, AreTables, CallDone, EINVAL, ESRCH, Here, HoldsTables, IsAnswered, Kernel, Map, Scheduling, file_among, int_argument, refused, returned, said, with_ready, Signalling, next_for, posted, Threads, is_live, running_on, state_of, waits, with_woken, Table, answering, with_answer, woken, is_below_one, post, send, tgkill, tkill, woken_same, cond-false, cond-true}
-use Rattle.mach_types.specs.Kernel.Threads.{is_waiting_state}
-use Rattle.kernel_threads.specs.Table.{interrupted}
-use Rattle.block_model.specs.Calls.Signals.{broken_wait, waits_in_vain, with_posted}
+use Rattle.sys_calls.proofs.Common.{◌≡◌, ℕ, Bool, true, false, not, ◌||◌, cond, eqb, [], ◌∷◌, None, is_some, ◌&&◌, Ok, refl, sym, ap, subst, ◌∙◌, ne_eqb, option_map_or, AreTables, CallDone, EINVAL, ESRCH, Here, HoldsTables, IsAnswered, Kernel, Map, Scheduling, file_among, int_argument, refused, returned, said, with_ready, Signalling, next_for, posted, Threads, is_live, running_on, state_of, waits, with_woken, Table, answering, with_answer, woken, is_below_one, post, send, tgkill, tkill, woken_same, cond-false, cond-true, is_waiting_state, interrupted, broken_wait, waits_in_vain, with_posted}
 use Rattle.sys_calls.proofs.KernelWrites.{entered_none}
 use Rattle.sys_calls.proofs.Laws.{holds_signals, holds_woken}
 use Rattle.sys_calls.proofs.FutexWakes.{quiet_woken, kept_answered}

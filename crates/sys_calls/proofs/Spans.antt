@@ -1,6 +1,5 @@
 -- The spans of bytes that records name, one after the other.
-use Rattle.sys_calls.proofs.Common.{◌≡◌, ℕ, zero, suc, ◌+◌, ◌-◌, ◌*◌, ◌<◌, ◌≤◌, ◌^◌, min, true, false, List, [], ◌∷◌, ◌++◌, length, take, Option, is_some, unwrap_or, refl, ap, ◌∙◌, arith, inl, inr, cases_lt, and_parts, Here, Map, Span, byte_in, byte_in-ends, bytes_from, each_byte, number_at, spans_at}
-use Rattle.std.proofs.Common.{add-one}
+use Rattle.sys_calls.proofs.Common.{◌≡◌, ℕ, zero, suc, ◌+◌, ◌-◌, ◌*◌, ◌<◌, ◌≤◌, ◌^◌, min, true, false, List, [], ◌∷◌, ◌++◌, length, take, Option, is_some, unwrap_or, refl, ap, ◌∙◌, arith, inl, inr, cases_lt, and_parts, Here, Map, Span, byte_in, byte_in-ends, bytes_from, each_byte, number_at, spans_at, add-one}
 
 -- the record at an index
 abbrev pub span_at : Here → ℕ → ℕ → Span

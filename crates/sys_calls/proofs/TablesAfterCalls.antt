@@ -1,16 +1,10 @@
 -- A call keeps what agrees in the tables. There is a place for any tables, page map and registers: so what each place says of a call
 -- holds of it.
-use Rattle.sys_calls.proofs.Common.{◌≡◌, ℕ, zero, suc, ◌+◌, ◌/◌, ◌%◌, ◌<◌, ◌≤◌, ◌&&◌, true, false, leb, ltb, List, [], ◌∷◌, Option, Some, None, refl, sym, ap, subst, ◌∙◌, inl, inr, arith, cases_lt, eq-eqb, le-leb, le-ltb, lt-leb, lt-ltb, option_map, option_map_or, PageRun, permission_of, CallEnd, HoldsTables, IsTables, Kernel, Saved, running_on, Map, break_in, break_start_in, free_in, held_in, permission_in, called, running_harts, Here, id_of, HasPages, IsMade, HoldSignals, cond-false, cond-true, and_right}
+use Rattle.sys_calls.proofs.Common.{◌≡◌, ℕ, zero, suc, ◌+◌, ◌/◌, ◌%◌, ◌<◌, ◌≤◌, ◌&&◌, true, false, leb, ltb, List, [], ◌∷◌, Option, Some, None, refl, sym, ap, subst, ◌∙◌, inl, inr, arith, cases_lt, eq-eqb, le-leb, le-ltb, lt-leb, lt-ltb, option_map, option_map_or, PageRun, permission_of, CallEnd, HoldsTables, IsTables, Kernel, Saved, running_on, Map, break_in, break_start_in, free_in, held_in, permission_in, called, running_harts, Here, id_of, HasPages, IsMade, HoldSignals, cond-false, cond-true, and_right, Page, byte_at, page_in, page_in-past, first_kernel, IsAgreed, agreed_called, IsAt, HoldAreas}
 use Rattle.mach_types.specs.declared.events.Hart.{Hart}
 use Rattle.mach_types.specs.declared.events.Tid.{Tid}
-use Rattle.page_map.specs.Map.{Page, byte_at, page_in}
-use Rattle.page_map.specs.MapLaws.{page_in-past}
 use Rattle.block_model.specs.Here.{runs}
-use Rattle.block_model.specs.Kernel.{first_kernel}
 use Rattle.block_model.specs.Setting.{Setting}
-use Rattle.block_model.proofs.Laws.{IsAgreed, agreed_called}
-use Rattle.sys_calls.specs.Made.{IsAt}
-use Rattle.sys_calls.specs.Registered.{HoldAreas}
 use Rattle.sys_calls.proofs.Laws.{held_is, holds_itself, record_with}
 
 -- WHAT A CALL KEEPS

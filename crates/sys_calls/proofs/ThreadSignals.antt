@@ -1,11 +1,8 @@
 -- The signals in the tables are those of the live threads, in the same order: so each live thread is held.
-use Rattle.sys_calls.proofs.Common.{◌≡◌, ℕ, ◌+◌, true, false, ◌||◌, cond, eqb, List, [], ◌∷◌, length, map, Option, is_some, refl, sym, ap, ◌∙◌, list_any, length-map, next_is_new, Signalling, action_of, posted, IsThreads, Thread, Threads, is_live, IsCaller, Kernel, HoldSignals}
-use Rattle.mach_types.proofs.Laws.{map_stays}
+use Rattle.sys_calls.proofs.Common.{◌≡◌, ℕ, ◌+◌, true, false, ◌||◌, cond, eqb, List, [], ◌∷◌, length, map, Option, is_some, refl, sym, ap, ◌∙◌, list_any, length-map, next_is_new, Signalling, action_of, posted, IsThreads, Thread, Threads, is_live, IsCaller, Kernel, HoldSignals, map_stays, AreSignalsOfLive, any_live}
 use Rattle.mach_types.specs.Kernel.Signals.{is_held, is_ignored, is_of, joined, only, post_if, with_pending}
 use Rattle.mach_types.specs.declared.signal_words.ThreadSignals.{ThreadSignals}
-use Rattle.block_model.specs.Tables.{AreSignalsOfLive}
 use Rattle.sys_calls.proofs.CallerTables.{caller_lives}
-use Rattle.block_model.proofs.Laws.{any_live}
 
 -- the numbers of the threads that are held
 abbrev pub tids : Signalling → List ℕ

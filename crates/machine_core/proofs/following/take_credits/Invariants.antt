@@ -1,5 +1,4 @@
-use Rattle.machine_core.proofs.Common.{◌≡◌, ◌++◌, map, take, uncredited}
-use Rattle.std.proofs.Common.{drop}
+use Rattle.machine_core.proofs.Common.{◌≡◌, ◌++◌, map, take, uncredited, drop}
 use Rattle.machine_core.proofs.following.take_credits.Given as goal
 
 -- the harts so far have no credit, and the others are as they were

@@ -1,4 +1,4 @@
-use Rattle.process.proofs.Laws.{code_enough}
+use Rattle.machine_core.proofs.Common.{code_enough}
 use Rattle.machine_core.proofs.theorems.code_is_enough.Goals as goal
 
 pub returns : goal.returns

@@ -1,5 +1,4 @@
-use Rattle.process.proofs.Common.{◌≡◌, List, ◌++◌, Ok, Err, arith, false≢true, Write}
-use Rattle.std.proofs.Common.{Result, IsOk, OnOk}
+use Rattle.process.proofs.Common.{◌≡◌, List, ◌++◌, Ok, Err, arith, false≢true, Write, Result, IsOk, OnOk}
 use Rattle.process.proofs.kernel_writes.add.Goals as goal
 
 -- what fits is added

@@ -1,6 +1,5 @@
 -- So far the harts before this one have noticed.
-use Rattle.process.proofs.Common.{◌≡◌, ℕ, eqb, slice_get, option_map}
-use Rattle.process.specs.Barriers.{noticed_unless}
+use Rattle.process.proofs.Common.{◌≡◌, ℕ, eqb, slice_get, option_map, noticed_unless}
 use Rattle.process.proofs.EachHart.{changed_before}
 use Rattle.process.proofs.requests.notice_all.Given as goal
 

@@ -1,4 +1,4 @@
-use Rattle.block_model.proofs.Laws.{with_hart-or}
+use Rattle.process.proofs.Common.{with_hart-or}
 use Rattle.process.proofs.requests.with_hart.Goals as goal
 
 pub returns : goal.returns

@@ -1,5 +1,4 @@
-use Rattle.process.proofs.Common.{arith}
-use Rattle.block_model.proofs.Laws.{without_hart-and}
+use Rattle.process.proofs.Common.{arith, without_hart-and}
 use Rattle.process.proofs.requests.without_hart.Goals as goal
 
 pub returns : goal.returns

@@ -1,8 +1,5 @@
 -- The tests of a set, in their order.
-use Rattle.sys_calls.proofs.Common.{◌≡◌, ℕ, min, true, false, not, eqb, ◌||◌, inl, inr, [], ◌∷◌, Option, is_some, refl, sym, ap, ◌∙◌, eq-eqb, ne_eqb, EFAULT, ESRCH, Errors, Here, HoldsTables, IsRead, Kernel, Map, Saved, Threads, byte_in, each_byte, int_in, is_live, register, unless, sched_setaffinity, setaffinity_with, cond-false, cond-true}
-use Rattle.std.proofs.Common.{◌⊎◌}
-use Rattle.mach_types.specs.declared.errors.TheConstants.{EPERM}
-use Rattle.block_model.specs.Calls.Affinity.{set_at}
+use Rattle.sys_calls.proofs.Common.{◌≡◌, ℕ, min, true, false, not, eqb, ◌||◌, inl, inr, [], ◌∷◌, Option, is_some, refl, sym, ap, ◌∙◌, eq-eqb, ne_eqb, EFAULT, ESRCH, Errors, Here, HoldsTables, IsRead, Kernel, Map, Saved, Threads, byte_in, each_byte, int_in, is_live, register, unless, sched_setaffinity, setaffinity_with, cond-false, cond-true, ◌⊎◌, EPERM, set_at}
 use Rattle.sys_calls.proofs.GuestMemory.{argument_is, int_argument_is, met, unmet}
 use Rattle.sys_calls.proofs.affinity.asked_set.Goals as goal
 

@@ -1,6 +1,5 @@
 -- The hart and the node, where they are asked.
-use Rattle.sys_calls.proofs.Common.{◌≡◌, ℕ, ◌+◌, Bool, true, false, not, ◌&&◌, ◌||◌, eqb, List, ◌++◌, sym, ap, subst, ◌∙◌, Ok, Err, CallDone, EFAULT, Here, IsAnswered, IsEntered, Map, Write, argument, can_write_in, each_byte, is_writable, said, and_parts, cond-false, cond-true, not_from_false, not_from_true}
-use Rattle.block_model.specs.Calls.Affinity.{getcpu, is_usable, written_unless_zero}
+use Rattle.sys_calls.proofs.Common.{◌≡◌, ℕ, ◌+◌, Bool, true, false, not, ◌&&◌, ◌||◌, eqb, List, ◌++◌, sym, ap, subst, ◌∙◌, Ok, Err, CallDone, EFAULT, Here, IsAnswered, IsEntered, Map, Write, argument, can_write_in, each_byte, is_writable, said, and_parts, cond-false, cond-true, not_from_false, not_from_true, getcpu, is_usable, written_unless_zero}
 use Rattle.sys_calls.proofs.KernelWrites.{entered_twice}
 use Rattle.sys_calls.proofs.GuestMemory.{argument_is}
 use Rattle.sys_calls.proofs.CallAnswers.{answered_said, answered_wrote}

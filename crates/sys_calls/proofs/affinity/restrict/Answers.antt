@@ -1,10 +1,7 @@
 -- The thread's harts are others; where its own isn't among them it leaves.
-use Rattle.sys_calls.proofs.Common.{◌≡◌, ℕ, Bool, true, false, [], eqb, cond, refl, sym, ap, subst, ◌∙◌, Ok, list_any, eq-eqb, false≢true, ne_eqb, CallDone, EINVAL, Errno, Here, IsCaller, IsMade, IsTables, Kernel, refused, said, Scheduling, affinity_of, is_of, left, moved_off, setaffinity_with, cond-false, cond-true}
+use Rattle.sys_calls.proofs.Common.{◌≡◌, ℕ, Bool, true, false, [], eqb, cond, refl, sym, ap, subst, ◌∙◌, Ok, list_any, eq-eqb, false≢true, ne_eqb, CallDone, EINVAL, Errno, Here, IsCaller, IsMade, IsTables, Kernel, refused, said, Scheduling, affinity_of, is_of, left, moved_off, setaffinity_with, cond-false, cond-true, harts_in, has_hart, with_affinity, restricted, tables_allowed}
 use Rattle.block_model.specs.Record as record_of
-use Rattle.mach_types.specs.Kernel.Scheduling.{harts_in, has_hart, with_affinity}
 use Rattle.scheduler.proofs.Laws.{affinity_of-changed}
-use Rattle.block_model.specs.Kernel.{restricted}
-use Rattle.block_model.proofs.Laws.{tables_allowed}
 use Rattle.sys_calls.proofs.Laws.{holds_scheduling}
 use Rattle.sys_calls.proofs.CallAnswers.{made_left, made_answered, answered_changed, made_refused}
 use Rattle.sys_calls.proofs.CallerTables.{caller_held}

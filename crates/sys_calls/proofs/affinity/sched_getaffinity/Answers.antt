@@ -1,6 +1,5 @@
 -- The harts of the thread that is named.
-use Rattle.sys_calls.proofs.Common.{◌≡◌, ℕ, ◌%◌, Bool, true, false, not, ◌||◌, cond, eqb, List, [], ◌∷◌, ◌++◌, Ok, Err, nat_lt, refl, sym, ap, subst, ◌∙◌, EFAULT, EINVAL, ESRCH, Here, HoldsTables, IsAnswered, IsRead, Kernel, Map, Saved, Threads, Write, can_write_in, each_byte, int_in, is_live, register, Scheduling, affinity_of, CallDone, Errors, double_written, said, unless, cond-false}
-use Rattle.block_model.specs.Calls.Affinity.{sched_getaffinity}
+use Rattle.sys_calls.proofs.Common.{◌≡◌, ℕ, ◌%◌, Bool, true, false, not, ◌||◌, cond, eqb, List, [], ◌∷◌, ◌++◌, Ok, Err, nat_lt, refl, sym, ap, subst, ◌∙◌, EFAULT, EINVAL, ESRCH, Here, HoldsTables, IsAnswered, IsRead, Kernel, Map, Saved, Threads, Write, can_write_in, each_byte, int_in, is_live, register, Scheduling, affinity_of, CallDone, Errors, double_written, said, unless, cond-false, sched_getaffinity}
 use Rattle.sys_calls.proofs.GuestMemory.{argument_is, int_argument_is, met, unmet}
 use Rattle.sys_calls.proofs.CallAnswers.{answered_said, answered_wrote}
 use Rattle.sys_calls.proofs.affinity.sched_getaffinity.Goals as goal

@@ -1,6 +1,5 @@
 -- The first byte of a set.
-use Rattle.sys_calls.proofs.Common.{◌≡◌, ℕ, Option, None, Some, unwrap_or, refl, sym, ◌∙◌, arith, eqb, ne_eqb, byte_in, cond-false}
-use Rattle.mach_types.specs.Bytes.{joined}
+use Rattle.sys_calls.proofs.Common.{◌≡◌, ℕ, Option, None, Some, unwrap_or, refl, sym, ◌∙◌, arith, eqb, ne_eqb, byte_in, cond-false, joined}
 use Rattle.sys_calls.proofs.GuestMemory.{number_is}
 use Rattle.sys_calls.proofs.affinity.set_at.Goals as goal
 

@@ -1,6 +1,5 @@
 -- a0 is a register.
-use Rattle.sys_calls.proofs.Common.{arith}
-use Rattle.std.proofs.lemmas.List.{get_or-set_same}
+use Rattle.sys_calls.proofs.Common.{arith, get_or-set_same}
 use Rattle.sys_calls.proofs.arguments.answer.Goals as goal
 
 pub returns-clause-a0 : goal.returns-clause-a0

@@ -1,6 +1,5 @@
 -- The answer that is told is the one in a0.
-use Rattle.sys_calls.proofs.Common.{◌≡◌, ◌<◌, ◌∙◌, ap, sym, ℤ, ℕ, to_z, of_z, of_z-to_z}
-use Rattle.std.proofs.Common.{w64}
+use Rattle.sys_calls.proofs.Common.{◌≡◌, ◌<◌, ◌∙◌, ap, sym, ℤ, ℕ, to_z, of_z, of_z-to_z, w64}
 use Rattle.sys_calls.proofs.arguments.go_on.Goals as goal
 
 -- bits that are read as a signed number and written again, twice

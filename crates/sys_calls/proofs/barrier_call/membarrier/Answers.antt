@@ -1,7 +1,5 @@
 -- The command is asked for by the registers.
-use Rattle.sys_calls.proofs.Common.{answers, Answer, ◌≡◌, ◌<◌, ◌%◌, ℕ, ℤ, sym, ap, ◌∙◌, arith, to_z, of_z, of_z-to_z, command, signed_32, argument, int_argument, running_harts, IsMade, subst}
-use Rattle.mach_types.specs.Kernel.Barriers.{registered_after}
-use Rattle.std.proofs.Common.{w32}
+use Rattle.sys_calls.proofs.Common.{answers, Answer, ◌≡◌, ◌<◌, ◌%◌, ℕ, ℤ, sym, ap, ◌∙◌, arith, to_z, of_z, of_z-to_z, command, signed_32, argument, int_argument, running_harts, IsMade, subst, registered_after, w32}
 use Rattle.sys_calls.proofs.Barriers.{answer_asked, made_answers, registered_then}
 use Rattle.sys_calls.proofs.GuestMemory.{argument_is, int_argument_is}
 use Rattle.sys_calls.proofs.barrier_call.membarrier.Goals as goal

@@ -1,6 +1,5 @@
 -- Each call that changes no pages, by its number.
-use Rattle.sys_calls.proofs.Common.{◌≡◌, ℕ, List, eqb, refl, sym, subst, ◌∙◌, arith, cond, Ok, Err, ne_eqb, CallDone, IsAnswered, Write, refused, call_of, cond-false}
-use Rattle.mach_types.specs.declared.errors.TheConstants.{ENOSYS}
+use Rattle.sys_calls.proofs.Common.{◌≡◌, ℕ, List, eqb, refl, sym, subst, ◌∙◌, arith, cond, Ok, Err, ne_eqb, CallDone, IsAnswered, Write, refused, call_of, cond-false, ENOSYS}
 use Rattle.block_model.specs.Calls.Numbers.{getpid, gettid}
 use Rattle.sys_calls.proofs.CallAnswers.{answered_said}
 use Rattle.sys_calls.proofs.ThreadSignals.{signals_held}

@@ -1,7 +1,6 @@
 -- Each call by its number.
-use Rattle.sys_calls.proofs.Common.{refl, sym, ap, subst, ◌∙◌, [], CallEnd, IsAnswered, IsMade, running_on, called, ended_with}
+use Rattle.sys_calls.proofs.Common.{refl, sym, ap, subst, ◌∙◌, [], CallEnd, IsAnswered, IsMade, running_on, called, ended_with, exit_group}
 use Rattle.block_model.specs.Calls.Beside.{barrier_call, sequence_call}
-use Rattle.block_model.specs.Calls.Ending.{exit_group}
 use Rattle.sys_calls.proofs.Barriers.{silent_membarrier}
 use Rattle.sys_calls.proofs.CallNumbers.{alone_by, made_alone, made_numbered, numbered, silent_futex, silent_setaffinity, silent_sigreturn, told_numbered}
 use Rattle.sys_calls.proofs.CallAnswers.{made_answered, made_ended}

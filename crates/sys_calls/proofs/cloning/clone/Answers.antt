@@ -1,7 +1,5 @@
 -- The child is there, and its number is written.
-use Rattle.sys_calls.proofs.Common.{◌≡◌, ℕ, ◌+◌, [], ◌∷◌, sym, ap, subst, ◌∙◌, Ok, IsAnswered, IsEntered, Threads, argument, returned, running_on, with_start, next_number, clone_child_cleartid, has_flag, cloned}
-use Rattle.block_model.specs.Calls.Cloning.{child_file, with_new_child}
-use Rattle.sys_calls.specs.Cloned.{numbers_written}
+use Rattle.sys_calls.proofs.Common.{◌≡◌, ℕ, ◌+◌, [], ◌∷◌, sym, ap, subst, ◌∙◌, Ok, IsAnswered, IsEntered, Threads, argument, returned, running_on, with_start, next_number, clone_child_cleartid, has_flag, cloned, child_file, with_new_child, numbers_written}
 use Rattle.sys_calls.proofs.Children.{asked_ids, asked_pages, kept_started, lives_other, quiet_started}
 use Rattle.sys_calls.proofs.cloning.clone.Goals as goal
 use Rattle.sys_calls.proofs.CallAnswers.{answered_with}

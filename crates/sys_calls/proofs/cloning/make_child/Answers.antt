@@ -1,6 +1,5 @@
 -- The child lives, and the record has it.
-use Rattle.sys_calls.proofs.Common.{◌≡◌, ℕ, ◌+◌, cond, sym, ap, subst, ◌∙◌, HoldsTables, Kernel, Saved, Threads, argument, register, running_on, with_start, cleared, had_child, next_number, clone_child_cleartid, has_flag}
-use Rattle.sys_calls.specs.Cloned.{clear_asked}
+use Rattle.sys_calls.proofs.Common.{◌≡◌, ℕ, ◌+◌, cond, sym, ap, subst, ◌∙◌, HoldsTables, Kernel, Saved, Threads, argument, register, running_on, with_start, cleared, had_child, next_number, clone_child_cleartid, has_flag, clear_asked}
 use Rattle.sys_calls.proofs.Children.{asked_runs, child_lives, child_runs}
 use Rattle.sys_calls.proofs.Laws.{holds_child, holds_cleared}
 use Rattle.sys_calls.proofs.cloning.make_child.Goals as goal

@@ -1,7 +1,5 @@
 -- The tests of a clone, in their order.
-use Rattle.sys_calls.proofs.Common.{◌≡◌, ℕ, ◌<◌, Bool, false, not, ◌&&◌, ◌||◌, leb, [], ◌∷◌, length, sym, ap, ◌∙◌, lt-leb, Threads, is_full, EAGAIN, EFAULT, EINVAL, Errors, Here, HoldsTables, IsRead, Kernel, Map, Saved, argument, each_byte, is_writable, register, unless, clone_child_settid, clone_parent_settid, has_flag, cloned, cond-false}
-use Rattle.block_model.specs.Calls.Cloning.{are_flags, clone, may_write}
-use Rattle.sys_calls.specs.Cloned.{can_write_numbers}
+use Rattle.sys_calls.proofs.Common.{◌≡◌, ℕ, ◌<◌, Bool, false, not, ◌&&◌, ◌||◌, leb, [], ◌∷◌, length, sym, ap, ◌∙◌, lt-leb, Threads, is_full, EAGAIN, EFAULT, EINVAL, Errors, Here, HoldsTables, IsRead, Kernel, Map, Saved, argument, each_byte, is_writable, register, unless, clone_child_settid, clone_parent_settid, has_flag, cloned, cond-false, are_flags, clone, may_write, can_write_numbers}
 use Rattle.sys_calls.proofs.GuestMemory.{argument_is, met, unmet}
 use Rattle.sys_calls.proofs.cloning.may_clone.Goals as goal
 

@@ -1,6 +1,5 @@
 -- The second word can be written still.
-use Rattle.sys_calls.proofs.Common.{◌≡◌, ℕ, ◌+◌, true, not, ◌||◌, ap, ◌∙◌, Map, can_write_in, each_byte, register, clone_child_settid, clone_parent_settid, has_flag, and_parts}
-use Rattle.sys_calls.specs.Cloned.{can_write_word}
+use Rattle.sys_calls.proofs.Common.{◌≡◌, ℕ, ◌+◌, true, not, ◌||◌, ap, ◌∙◌, Map, can_write_in, each_byte, register, clone_child_settid, clone_parent_settid, has_flag, and_parts, can_write_word}
 use Rattle.sys_calls.proofs.cloning.write_numbers.Goals as goal
 
 after : (m m' : Map) (flags at : ℕ) → ((a : ℕ) → can_write_in m' a ≡ can_write_in m a) → (not (has_flag flags clone_child_settid) || each_byte (can_write_in m) at 4) ≡ true

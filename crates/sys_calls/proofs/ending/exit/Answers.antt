@@ -1,10 +1,6 @@
 -- The last thread ends the process, and another one is gone.
-use Rattle.sys_calls.proofs.Common.{◌≡◌, ℕ, Bool, true, false, not, ◌&&◌, cond, eqb, leb, List, [], ◌∷◌, length, refl, sym, ap, subst, ◌∙◌, le-leb, lt-leb, HasPages, Here, HoldsTables, IsEntered, IsMade, IsRead, Kernel, Map, Saved, Write, can_write_in, each_byte, Threads, running_on, CallDone, are_writable, ended_with, cond-false, cond-true}
+use Rattle.sys_calls.proofs.Common.{◌≡◌, ℕ, Bool, true, false, not, ◌&&◌, cond, eqb, leb, List, [], ◌∷◌, length, refl, sym, ap, subst, ◌∙◌, le-leb, lt-leb, HasPages, Here, HoldsTables, IsEntered, IsMade, IsRead, Kernel, Map, Saved, Write, can_write_in, each_byte, Threads, running_on, CallDone, are_writable, ended_with, cond-false, cond-true, clear_of, word_written, clearing, clears, is_last, last_exits, one_exits, woken_at_exit, state_of-without_same}
 use Rattle.std.specs.Int.{from_bool}
-use Rattle.mach_types.specs.Kernel.Threads.{clear_of}
-use Rattle.block_model.specs.Calls.Answers.{word_written}
-use Rattle.block_model.specs.Calls.Ending.{clearing, clears, is_last, last_exits, one_exits, woken_at_exit}
-use Rattle.mach_types.proofs.Laws.{state_of-without_same}
 use Rattle.sys_calls.specs.declared.calling.CallEnd.TheVariants as over
 use Rattle.sys_calls.specs.Ended.{IsGone}
 use Rattle.sys_calls.proofs.KernelWrites.{pages_kept}

@@ -1,6 +1,5 @@
 -- A thread that runs goes on running while others are woken, and then is gone.
-use Rattle.sys_calls.proofs.Common.{ℕ, sym, ap, subst, ◌∙◌, IsCaller, IsOnward, IsTables, Kernel, Scheduling, Threads, running_on, without_id}
-use Rattle.block_model.proofs.Laws.{ended_idle}
+use Rattle.sys_calls.proofs.Common.{ℕ, sym, ap, subst, ◌∙◌, IsCaller, IsOnward, IsTables, Kernel, Scheduling, Threads, running_on, without_id, ended_idle}
 use Rattle.sys_calls.proofs.Laws.{holds_gone}
 use Rattle.sys_calls.proofs.CallAnswers.{kept_gone}
 use Rattle.sys_calls.proofs.ThreadSignals.{caller_signalled, tids}

@@ -1,7 +1,6 @@
 -- Threads are woken, or the operation is refused.
-use Rattle.sys_calls.proofs.Common.{◌≡◌, ℕ, List, [], ◌∷◌, map, refl, sym, ap, subst, ◌∙◌, Ok, AreTables, CallDone, IsAnswered, IsMade, Saved, argument, int_argument, returned, running_on, answered_wait, futex, futex_wake, wake, IsWoken}
+use Rattle.sys_calls.proofs.Common.{◌≡◌, ℕ, List, [], ◌∷◌, map, refl, sym, ap, subst, ◌∙◌, Ok, AreTables, CallDone, IsAnswered, IsMade, Saved, argument, int_argument, returned, running_on, answered_wait, futex, futex_wake, wake, IsWoken, futex_of}
 use Rattle.sys_calls.specs.declared.futexes.Operation.{Operation}
-use Rattle.sys_calls.specs.Woken.{futex_of}
 use Rattle.sys_calls.proofs.KernelWrites.{entered_none}
 use Rattle.sys_calls.proofs.GuestMemory.{argument_is, int_argument_is}
 use Rattle.sys_calls.proofs.CallAnswers.{made_answered, made_refused, answered_with}

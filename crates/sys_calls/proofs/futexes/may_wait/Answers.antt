@@ -1,6 +1,5 @@
 -- The tests of a wait, in their order.
-use Rattle.sys_calls.proofs.Common.{◌≡◌, ◌≢◌, ℕ, true, false, not, eqb, ◌∷◌, [], Option, is_some, unwrap_or, sym, ap, ◌∙◌, eq-eqb, ne_eqb, CallDone, Errors, Here, HoldsTables, IsRead, Kernel, Map, Saved, argument, byte_in, each_byte, int_in, register, said, unless, word_at, next_for, EAGAIN, EFAULT, EINVAL, waited, futex_wait, cond-false, cond-true}
-use Rattle.mach_types.specs.declared.errors.TheConstants.{EINTR}
+use Rattle.sys_calls.proofs.Common.{◌≡◌, ◌≢◌, ℕ, true, false, not, eqb, ◌∷◌, [], Option, is_some, unwrap_or, sym, ap, ◌∙◌, eq-eqb, ne_eqb, CallDone, Errors, Here, HoldsTables, IsRead, Kernel, Map, Saved, argument, byte_in, each_byte, int_in, register, said, unless, word_at, next_for, EAGAIN, EFAULT, EINVAL, waited, futex_wait, cond-false, cond-true, EINTR}
 use Rattle.sys_calls.proofs.GuestMemory.{argument_is, int_argument_is, met, unmet}
 use Rattle.sys_calls.proofs.futexes.may_wait.Goals as goal
 

@@ -1,7 +1,5 @@
 -- The thread waits, with the answer of its wait.
-use Rattle.sys_calls.proofs.Common.{◌≡◌, ℕ, refl, sym, ap, subst, ◌∙◌, Threads, running_on, state_of, Waiting, CallDone, IsMade, Kernel, argument, on, returned, without_id, waited, futex_wait, state_now}
-use Rattle.mach_types.specs.Kernel.Threads.{with_waiter}
-use Rattle.block_model.proofs.Laws.{waited_idle}
+use Rattle.sys_calls.proofs.Common.{◌≡◌, ℕ, refl, sym, ap, subst, ◌∙◌, Threads, running_on, state_of, Waiting, CallDone, IsMade, Kernel, argument, on, returned, without_id, waited, futex_wait, state_now, with_waiter, waited_idle}
 use Rattle.sys_calls.specs.declared.calling.CallEnd.TheVariants as over
 use Rattle.sys_calls.proofs.Laws.{holds_past_ids, holds_threads}
 use Rattle.sys_calls.proofs.CallAnswers.{made_gone, made_refused}

@@ -1,8 +1,7 @@
 -- A byte that can be read is the one that its page holds, and what can be written can be read.
-use Rattle.sys_calls.proofs.Common.{◌/◌, ℕ, cond, Option, None, ap, ◌∙◌, permission_at, held_in, permission_in, can_read}
+use Rattle.sys_calls.proofs.Common.{◌/◌, ℕ, cond, Option, None, ap, ◌∙◌, permission_at, held_in, permission_in, can_read, can_write}
 use Rattle.sys_calls.proofs.KernelWrites.{both, if_readable}
 use Rattle.std.proofs.Math.Path.{fun_ext}
-use Rattle.mach_types.specs.Kernel.Pages.{can_write}
 use Rattle.sys_calls.proofs.memory.shows_pages.Goals as goal
 
 pub returns : goal.returns

@@ -1,6 +1,5 @@
 -- mprotect is refused, or gives pages another permission.
-use Rattle.sys_calls.proofs.Common.{◌≡◌, [], Result, ℕ, subst, sym, ◌∙◌, Errno, IsRemapped, argument}
-use Rattle.block_model.specs.Calls.Memory.{mprotect}
+use Rattle.sys_calls.proofs.Common.{◌≡◌, [], Result, ℕ, subst, sym, ◌∙◌, Errno, IsRemapped, argument, mprotect}
 use Rattle.sys_calls.proofs.GuestMemory.{argument_is}
 use Rattle.sys_calls.proofs.PageCalls.{mprotect_made, mprotect_refused, passed_on, prot_from}
 use Rattle.sys_calls.proofs.memory_calls.mprotect.Goals as goal

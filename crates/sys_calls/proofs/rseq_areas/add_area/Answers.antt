@@ -1,6 +1,5 @@
 -- The area is the last one.
-use Rattle.sys_calls.proofs.Common.{ap, [], ◌∷◌, ◌∙◌, RegisteredArea, areas_by_number}
-use Rattle.std.proofs.lemmas.List.{map-append}
+use Rattle.sys_calls.proofs.Common.{ap, [], ◌∷◌, ◌∙◌, RegisteredArea, areas_by_number, map-append}
 use Rattle.sys_calls.proofs.rseq_areas.add_area.Goals as goal
 
 pub returns : goal.returns

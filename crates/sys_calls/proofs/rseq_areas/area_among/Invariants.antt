@@ -1,5 +1,4 @@
-use Rattle.sys_calls.proofs.Common.{◌≡◌, area_of, areas_by_number}
-use Rattle.std.proofs.Common.{drop}
+use Rattle.sys_calls.proofs.Common.{◌≡◌, area_of, areas_by_number, drop}
 use Rattle.sys_calls.proofs.rseq_areas.area_among.Given as goal
 
 -- none of those before is the thread's

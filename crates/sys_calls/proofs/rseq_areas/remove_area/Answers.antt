@@ -1,8 +1,6 @@
 -- What is left is what isn't of the thread.
-use Rattle.sys_calls.proofs.Common.{not, eqb, ap, rules, ◌∙◌, RegisteredArea, areas_by_number}
+use Rattle.sys_calls.proofs.Common.{not, eqb, ap, rules, ◌∙◌, RegisteredArea, areas_by_number, map_filters, is_area_of}
 use Rattle.arrayvec.proofs.ArrayVecLemmas.{filter-from_retain}
-use Rattle.mach_types.proofs.Laws.{map_filters}
-use Rattle.mach_types.specs.Kernel.Areas.{is_area_of}
 use Rattle.sys_calls.proofs.rseq_areas.remove_area.Goals as goal
 
 pub returns : goal.returns

@@ -1,13 +1,11 @@
 -- The area is registered, or the process is killed.
-use Rattle.sys_calls.proofs.Common.{◌≡◌, ℕ, Bool, true, false, List, [], length, sym, ap, subst, ◌∙◌, arith, refl, ◌∷◌, length-append, Ok, length-map, are_words_writable, words_entered, words_on, words_written, Killed, Area, CallDone, Here, IsEntered, IsMade, Kernel, RegisteredArea, Write, areas_by_number, is_writable, SIGSEGV, id_of}
-use Rattle.mach_types.specs.Kernel.Areas.{with_area}
+use Rattle.sys_calls.proofs.Common.{◌≡◌, ℕ, Bool, true, false, List, [], length, sym, ap, subst, ◌∙◌, arith, refl, ◌∷◌, length-append, Ok, length-map, are_words_writable, words_entered, words_on, words_written, Killed, Area, CallDone, Here, IsEntered, IsMade, Kernel, RegisteredArea, Write, areas_by_number, is_writable, SIGSEGV, id_of, with_area, areas_fit, registered_areas}
 use Rattle.sys_calls.specs.declared.calling.CallEnd.TheVariants as over
 use Rattle.sys_calls.proofs.CallAnswers.{made_answered, answered_changed, made_ended}
 use Rattle.sys_calls.proofs.AreaRegistration.{registered_done, registers_killed, registers_made, words_can}
 use Rattle.sys_calls.proofs.CallerTables.{caller_lives}
 use Rattle.sys_calls.proofs.sequences.register_area.Goals as goal
 use Rattle.sys_calls.proofs.Laws.{holds_areas}
-use Rattle.block_model.proofs.Laws.{areas_fit, registered_areas}
 
 -- the words, as a rule reads the hart and the id
 words_are : (h : Here) (t hart cid here id : ℕ) (area : Area) (b : Bool) (ws : List Write) → hart ≡ here → cid ≡ id → h.hart ≡ here → id_of t h.kernel.ids ≡ id → b ≡ true

@@ -1,7 +1,5 @@
 -- A registration that is refused.
-use Rattle.sys_calls.proofs.Common.{◌≡◌, ℕ, List, sym, ap, ◌∙◌, Area, area_of, refused}
-use Rattle.block_model.specs.Calls.Sequences.{registers_or_refused}
-use Rattle.sys_calls.specs.Registered.{area_asked}
+use Rattle.sys_calls.proofs.Common.{◌≡◌, ℕ, List, sym, ap, ◌∙◌, Area, area_of, refused, registers_or_refused, area_asked}
 use Rattle.sys_calls.proofs.CallAnswers.{made_refused}
 use Rattle.sys_calls.proofs.sequences.register_asked.Goals as goal
 

@@ -1,6 +1,5 @@
 -- The call unregisters an area.
-use Rattle.sys_calls.proofs.Common.{◌≡◌, ◌%◌, ◌^◌, true, eqb, sym, ap, subst, ◌∙◌, AreTables, CallDone, IsMade, Saved, area_of, int_argument, register, unregisters_or_refused, unregistration_asked, cond-true}
-use Rattle.block_model.specs.Calls.Sequences.{rseq}
+use Rattle.sys_calls.proofs.Common.{◌≡◌, ◌%◌, ◌^◌, true, eqb, sym, ap, subst, ◌∙◌, AreTables, CallDone, IsMade, Saved, area_of, int_argument, register, unregisters_or_refused, unregistration_asked, cond-true, rseq}
 use Rattle.sys_calls.proofs.CallAnswers.{made_answered}
 use Rattle.sys_calls.proofs.sequences.rseq.Goals as goal
 

@@ -1,6 +1,5 @@
 -- The four words lie below 2^64, and enter memory.
-use Rattle.sys_calls.proofs.Common.{◌≡◌, ℕ, ◌+◌, true, List, [], ◌++◌, length, Ok, Err, Result, sym, ap, subst, ◌∙◌, arith, false≢true, after_writes, Words, are_words_writable, words_entered, words_written, IsEntered, Write, byte_in, can_write_in}
-use Rattle.std.proofs.Common.{IsOk, OnOk}
+use Rattle.sys_calls.proofs.Common.{◌≡◌, ℕ, ◌+◌, true, List, [], ◌++◌, length, Ok, Err, Result, sym, ap, subst, ◌∙◌, arith, false≢true, after_writes, Words, are_words_writable, words_entered, words_written, IsEntered, Write, byte_in, can_write_in, IsOk, OnOk}
 use Rattle.sys_calls.proofs.AreaWords.{pass_each, words_enter, writable_below}
 use Rattle.sys_calls.proofs.sequences.write_words.Goals as goal
 

@@ -1,7 +1,5 @@
 -- The tests of the call, in their order.
-use Rattle.sys_calls.proofs.Common.{◌≡◌, ℕ, Bool, not, ◌||◌, eqb, ◌∷◌, [], Option, is_some, refl, sym, ap, ◌∙◌, eq-eqb, refuses_action, EFAULT, EINVAL, Errors, Here, IsRead, Map, Saved, byte_in, can_write_in, int_in, register, unless, Action, pass_action, cond-false, cond-true}
-use Rattle.block_model.specs.Calls.Signals.{action_given, rt_sigaction}
-use Rattle.sys_calls.specs.Signalled.{sigaction_with}
+use Rattle.sys_calls.proofs.Common.{◌≡◌, ℕ, Bool, not, ◌||◌, eqb, ◌∷◌, [], Option, is_some, refl, sym, ap, ◌∙◌, eq-eqb, refuses_action, EFAULT, EINVAL, Errors, Here, IsRead, Map, Saved, byte_in, can_write_in, int_in, register, unless, Action, pass_action, cond-false, cond-true, action_given, rt_sigaction, sigaction_with}
 use Rattle.sys_calls.proofs.GuestMemory.{argument_is, int_argument_is, met, unmet}
 use Rattle.sys_calls.proofs.signal_calls.asked_action.Goals as goal
 

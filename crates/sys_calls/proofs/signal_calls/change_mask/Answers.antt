@@ -1,6 +1,5 @@
 -- The mask is changed where a set is given.
-use Rattle.sys_calls.proofs.Common.{ℕ, eqb, sym, ap, ◌∙◌, ne_eqb, mask_of, cond-false}
-use Rattle.mach_types.specs.Kernel.Signals.{changed_mask, with_mask}
+use Rattle.sys_calls.proofs.Common.{ℕ, eqb, sym, ap, ◌∙◌, ne_eqb, mask_of, cond-false, changed_mask, with_mask}
 use Rattle.sys_calls.proofs.signal_calls.change_mask.Goals as goal
 
 pub returns-in-Ok : goal.returns-in-Ok

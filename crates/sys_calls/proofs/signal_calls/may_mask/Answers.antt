@@ -1,7 +1,5 @@
 -- The tests of the call, in their order.
-use Rattle.sys_calls.proofs.Common.{◌≡◌, ℕ, Bool, not, ◌&&◌, ◌||◌, eqb, ◌∷◌, [], Option, is_some, refl, sym, ap, ◌∙◌, eq-eqb, EFAULT, EINVAL, Errors, Here, IsRead, Map, Saved, byte_in, can_write_in, each_byte, int_in, register, unless, refuses_how, cond-false, cond-true}
-use Rattle.block_model.specs.Calls.Signals.{rt_sigprocmask}
-use Rattle.sys_calls.specs.Signalled.{sigprocmask_done}
+use Rattle.sys_calls.proofs.Common.{◌≡◌, ℕ, Bool, not, ◌&&◌, ◌||◌, eqb, ◌∷◌, [], Option, is_some, refl, sym, ap, ◌∙◌, eq-eqb, EFAULT, EINVAL, Errors, Here, IsRead, Map, Saved, byte_in, can_write_in, each_byte, int_in, register, unless, refuses_how, cond-false, cond-true, rt_sigprocmask, sigprocmask_done}
 use Rattle.sys_calls.proofs.GuestMemory.{argument_is, int_argument_is, met, unmet}
 use Rattle.sys_calls.proofs.signal_calls.may_mask.Goals as goal
 

@@ -1,7 +1,5 @@
 -- The action is set, and the old one is written where it is asked for.
-use Rattle.sys_calls.proofs.Common.{◌≡◌, ℕ, ◌≤◌, Bool, true, false, ◌||◌, cond, eqb, List, [], Option, refl, sym, ap, subst, ◌∙◌, inl, inr, Ok, nat_lt, cases_lt, false≢true, lt-ltb, Signalling, action_of, refuses_action, Action, CallDone, Here, IsAnswered, IsEntered, Kernel, Write, argument, can_write_in, int_argument, pass_action, signalled}
-use Rattle.mach_types.specs.Kernel.Signals.{acted}
-use Rattle.block_model.specs.Calls.Signals.{action_written}
+use Rattle.sys_calls.proofs.Common.{◌≡◌, ℕ, ◌≤◌, Bool, true, false, ◌||◌, cond, eqb, List, [], Option, refl, sym, ap, subst, ◌∙◌, inl, inr, Ok, nat_lt, cases_lt, false≢true, lt-ltb, Signalling, action_of, refuses_action, Action, CallDone, Here, IsAnswered, IsEntered, Kernel, Write, argument, can_write_in, int_argument, pass_action, signalled, acted, action_written}
 use Rattle.sys_calls.proofs.GuestMemory.{argument_is, int_argument_is}
 use Rattle.sys_calls.proofs.signal_calls.rt_sigaction.Goals as goal
 use Rattle.sys_calls.proofs.CallAnswers.{answered_changed}

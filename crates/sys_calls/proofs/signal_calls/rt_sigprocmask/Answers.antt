@@ -1,7 +1,5 @@
 -- The mask is changed, and the old one is written where it is asked for.
-use Rattle.sys_calls.proofs.Common.{◌≡◌, ℕ, not, ◌&&◌, ◌||◌, cond, eqb, List, [], ◌∷◌, unwrap_or, sym, ap, subst, ◌∙◌, refl, Ok, Here, IsAnswered, IsEntered, Kernel, Write, byte_in, can_write_in, each_byte, int_in, word_at, Signalling, mask_of, refuses_how, CallDone, argument, double_written, int_argument, number_at, signalled}
-use Rattle.block_model.specs.Calls.Signals.{masked}
-use Rattle.sys_calls.specs.Signalled.{mask_changed}
+use Rattle.sys_calls.proofs.Common.{◌≡◌, ℕ, not, ◌&&◌, ◌||◌, cond, eqb, List, [], ◌∷◌, unwrap_or, sym, ap, subst, ◌∙◌, refl, Ok, Here, IsAnswered, IsEntered, Kernel, Write, byte_in, can_write_in, each_byte, int_in, word_at, Signalling, mask_of, refuses_how, CallDone, argument, double_written, int_argument, number_at, signalled, masked, mask_changed}
 use Rattle.sys_calls.proofs.GuestMemory.{argument_is, int_argument_is, number_there}
 use Rattle.sys_calls.proofs.signal_calls.rt_sigprocmask.Goals as goal
 use Rattle.sys_calls.proofs.CallAnswers.{answered_changed}

@@ -1,6 +1,5 @@
 -- The signal is posted; a wait that it breaks is answered, and the thread is ready.
-use Rattle.sys_calls.proofs.Common.{refl, ap, ◌∙◌, waits, Waiting}
-use Rattle.std.proofs.lemmas.Bool.{OnTrue_at}
+use Rattle.sys_calls.proofs.Common.{refl, ap, ◌∙◌, waits, Waiting, OnTrue_at}
 use Rattle.sys_calls.proofs.SignalPosting.{answered_broken, answered_posted, vain_as}
 use Rattle.sys_calls.proofs.ThreadSignals.{held_as_live, signals_held, tids, tids_posted}
 use Rattle.sys_calls.proofs.CallerTables.{unlisted}

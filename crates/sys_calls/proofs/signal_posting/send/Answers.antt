@@ -1,6 +1,5 @@
 -- A signal that can be sent is posted.
-use Rattle.sys_calls.proofs.Common.{◌≡◌, false, eqb, [], sym, ap, subst, ◌∙◌, Ok, ne_eqb, CallDone, IsAnswered, post, send, cond-false}
-use Rattle.block_model.specs.Calls.Signals.{refuses_signal}
+use Rattle.sys_calls.proofs.Common.{◌≡◌, false, eqb, [], sym, ap, subst, ◌∙◌, Ok, ne_eqb, CallDone, IsAnswered, post, send, cond-false, refuses_signal}
 use Rattle.sys_calls.proofs.signal_posting.send.Goals as goal
 
 pub returns-then-sig-ne0-clause-answered : goal.returns-then-sig-ne0-clause-answered

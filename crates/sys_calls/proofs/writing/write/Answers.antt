@@ -1,6 +1,5 @@
 -- The bytes are one span.
-use Rattle.sys_calls.proofs.Common.{◌≡◌, ℕ, ◌-◌, ◌≤◌, ◌<◌, Bool, true, false, ◌&&◌, List, [], ◌∷◌, ◌++◌, length, take, Option, is_some, sym, ap, ◌∙◌, arith, append-nil, Ok, Err, EFAULT, ENOSPC, CONSOLE_ROOM, Here, IsRead, Map, Saved, are_readable, argument, byte_in, each_byte, memory, register, Span, all_readable, bytes_from, bytes_of, is_elsewhere, room, total, cond-false}
-use Rattle.block_model.specs.Calls.Console.{write}
+use Rattle.sys_calls.proofs.Common.{◌≡◌, ℕ, ◌-◌, ◌≤◌, ◌<◌, Bool, true, false, ◌&&◌, List, [], ◌∷◌, ◌++◌, length, take, Option, is_some, sym, ap, ◌∙◌, arith, append-nil, Ok, Err, EFAULT, ENOSPC, CONSOLE_ROOM, Here, IsRead, Map, Saved, are_readable, argument, byte_in, each_byte, memory, register, Span, all_readable, bytes_from, bytes_of, is_elsewhere, room, total, cond-false, write}
 use Rattle.sys_calls.proofs.GuestMemory.{argument_is, readable_at}
 use Rattle.sys_calls.proofs.CallAnswers.{answered_printed, answered_said}
 use Rattle.sys_calls.proofs.ConsoleWrites.{spans_full, spans_unreadable, spans_wrote}

@@ -1,6 +1,5 @@
 -- The records, and then the spans that they name.
-use Rattle.sys_calls.proofs.Common.{◌≡◌, ℕ, ◌*◌, true, false, not, ltb, [], sym, ap, subst, ◌∙◌, arith, Err, le-ltb, CallDone, EFAULT, IsAnswered, are_readable, argument, is_elsewhere, spans_at, write_joined, cond-false, cond-true, not_from_false, not_from_true}
-use Rattle.block_model.specs.Calls.Console.{writev}
+use Rattle.sys_calls.proofs.Common.{◌≡◌, ℕ, ◌*◌, true, false, not, ltb, [], sym, ap, subst, ◌∙◌, arith, Err, le-ltb, CallDone, EFAULT, IsAnswered, are_readable, argument, is_elsewhere, spans_at, write_joined, cond-false, cond-true, not_from_false, not_from_true, writev}
 use Rattle.sys_calls.proofs.GuestMemory.{argument_is, readable_at}
 use Rattle.sys_calls.proofs.CallAnswers.{answered_said}
 use Rattle.sys_calls.proofs.Spans.{readable_end}

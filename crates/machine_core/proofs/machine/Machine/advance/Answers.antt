@@ -1,5 +1,4 @@
-use Rattle.machine_core.proofs.Common.{◌≡◌, ◌++◌, [], ◌∷◌, ap, sym, ◌∙◌, None, subst, IfOk-at_ok, IsChosen, Seen, entry_in, here_in_history, past_of, seen, setting_of}
-use Rattle.block_model.proofs.Laws.{chosen_more}
+use Rattle.machine_core.proofs.Common.{◌≡◌, ◌++◌, [], ◌∷◌, ap, sym, ◌∙◌, None, subst, IfOk-at_ok, IsChosen, Seen, entry_in, here_in_history, past_of, seen, setting_of, chosen_more}
 use Rattle.machine_core.proofs.AdvanceAnswers.{answers_ended, answers_made, answers_none, answers_past, machine_picks, all_of, never_err, same_entry, turn_picks}
 use Rattle.machine_core.proofs.machine.Machine.advance.Goals as goal
 

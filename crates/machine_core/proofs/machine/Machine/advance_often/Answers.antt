@@ -1,5 +1,4 @@
-use Rattle.machine_core.proofs.Common.{arith, ◌≡◌, ℕ, ◌+◌, ap, subst, sym, ◌∙◌, advance_at, history, Seen, Setting}
-use Rattle.std.proofs.Common.{ap₂}
+use Rattle.machine_core.proofs.Common.{arith, ◌≡◌, ℕ, ◌+◌, ap, subst, sym, ◌∙◌, advance_at, history, Seen, Setting, ap₂}
 use Rattle.machine_core.proofs.StretchLending.{IsOnItsWay, goes_its_way, is_there}
 use Rattle.machine_core.proofs.machine.Machine.advance_often.Goals as goal
 

@@ -1,6 +1,5 @@
 -- The refusal of every choice of a hart.
-use Rattle.machine_core.proofs.Common.{◌<◌, ◌≤◌, length, sym, ◌∙◌, arith, seen}
-use Rattle.block_model.proofs.Laws.{after_end, at_limit, at_no_hart}
+use Rattle.machine_core.proofs.Common.{◌<◌, ◌≤◌, length, sym, ◌∙◌, arith, seen, after_end, at_limit, at_no_hart}
 use Rattle.machine_core.proofs.MachineCredits.{machine_goes}
 use Rattle.machine_core.proofs.machine.Machine.common_refusal.Goals as goal
 

@@ -1,6 +1,5 @@
 -- How the run ends: what ended it, or the step limit, or nothing.
-use Rattle.machine_core.proofs.Common.{◌<◌, ◌≤◌, length, sym, ◌∙◌, arith, length-history, setting_of}
-use Rattle.block_model.proofs.Laws.{end_of-ended, end_of-limit, end_of-open}
+use Rattle.machine_core.proofs.Common.{◌<◌, ◌≤◌, length, sym, ◌∙◌, arith, length-history, setting_of, end_of-ended, end_of-limit, end_of-open}
 use Rattle.machine_core.proofs.Readings.{history_of, over_read}
 use Rattle.machine_core.proofs.machine.Machine.end.Goals as goal
 

@@ -1,12 +1,10 @@
 -- The kernel's tables are those of the record at the end of the log.
-use Rattle.machine_core.proofs.Common.{sym, ap, ◌∙◌, Scheduling, plain_seen, seen}
+use Rattle.machine_core.proofs.Common.{sym, ap, ◌∙◌, Scheduling, plain_seen, seen, good_at, live_signals, held_as_live}
 use Rattle.mach_types.specs.Kernel.Signals.{Signalling, is_held}
 use Rattle.mach_types.specs.Kernel.Threads.{Threads, is_live}
 use Rattle.scheduler.specs.Holding.{is_held as is_scheduled}
 use Rattle.block_model.specs.Record.{Kernel}
-use Rattle.block_model.proofs.Laws.{good_at, live_signals}
 use Rattle.machine_core.proofs.Readings.{console_read, kernel_read, saved_read}
-use Rattle.process.proofs.Laws.{held_as_live}
 use Rattle.machine_core.proofs.machine.Machine.kernel.Goals as goal
 
 pub returns : goal.returns

@@ -1,7 +1,6 @@
 -- A machine that begins anew is tied to its empty log.
-use Rattle.machine_core.proofs.Common.{◌≡◌, ap, arith, length, subst, sym, start_run, start_plain, setting_by, IsTied, Setting, setting_of}
+use Rattle.machine_core.proofs.Common.{◌≡◌, ap, arith, length, subst, sym, start_run, start_plain, setting_by, IsTied, Setting, setting_of, plain_start}
 use Rattle.elf_load.specs.Start.{Program}
-use Rattle.block_model.specs.Plain.{plain_start}
 use Rattle.machine_core.proofs.Boot.{credits_start, generators_start, none_made}
 use Rattle.machine_core.proofs.machine.Machine.reset.Goals as goal
 

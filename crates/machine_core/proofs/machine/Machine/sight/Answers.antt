@@ -1,10 +1,6 @@
 -- What a scheduler sees of a hart.
-use Rattle.machine_core.proofs.Common.{◌≡◌, ◌<◌, ◌∙◌, ◌&&◌, ap, arith, sym, subst, refl, length, is_some, is_none, not, eqb, false, Option, option_map, option_map_or, Scheduling, Why, HartState, Here, events, hart_in, here_of, plain_seen, ran, runs, seen, sets_register, setting_of, byte_in, can_write_in, Effect, credit_at, is_deliverable_on, thread, stand_of, same_here, standing, has_signals}
-use Rattle.mach_types.specs.Kernel.Scheduling.{first_for}
-use Rattle.block_model.specs.Events.Exec.{refusal_exec}
-use Rattle.block_model.specs.Sights.{is_all_taken}
+use Rattle.machine_core.proofs.Common.{◌≡◌, ◌<◌, ◌∙◌, ◌&&◌, ap, arith, sym, subst, refl, length, is_some, is_none, not, eqb, false, Option, option_map, option_map_or, Scheduling, Why, HartState, Here, events, hart_in, here_of, plain_seen, ran, runs, seen, sets_register, setting_of, byte_in, can_write_in, Effect, credit_at, is_deliverable_on, thread, stand_of, same_here, standing, has_signals, first_for, refusal_exec, is_all_taken, next_at}
 use Rattle.process.specs.ExecGates.{IsNextAt}
-use Rattle.process.proofs.Laws.{next_at}
 use Rattle.machine_core.proofs.Readings.{bytes_read, here_read, history_of, scheduling_read, writable_read}
 use Rattle.machine_core.proofs.Sights.{deliverable_read, idle_read, local_read, none_is, numbered, tested, untested}
 use Rattle.machine_core.proofs.machine.Machine.sight.Goals.{then-not-is_idle, else-not-is_idle}

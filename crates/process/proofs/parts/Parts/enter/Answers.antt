@@ -1,5 +1,4 @@
-use Rattle.process.proofs.Common.{[], ◌∷◌, ap, ◌∙◌, Stored, held_in, IsWritten}
-use Rattle.mach_types.specs.Bytes.{after_write}
+use Rattle.process.proofs.Common.{[], ◌∷◌, ap, ◌∙◌, Stored, held_in, IsWritten, after_write}
 use Rattle.process.proofs.parts.Parts.enter.Goals as goal
 
 pub returns-clause-pages : goal.returns-clause-pages

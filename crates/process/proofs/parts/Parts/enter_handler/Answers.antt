@@ -1,7 +1,5 @@
 -- A handler is entered.
-use Rattle.process.proofs.Common.{◌≡◌, length, true, refl, sym, ap, ◌∙◌, eqb, ◌∷◌, [], slice_get, option_map, can_write_frame, frame_writes, stack_pointer, action_of, mask_of, IsWritten, Kernel, Write, byte_in, can_write_in, lost_unless, dropped_if_ignored}
-use Rattle.std.proofs.lemmas.Bool.{OnTrue_at}
-use Rattle.mach_types.specs.Kernel.SignalFrames.{after_frame}
+use Rattle.process.proofs.Common.{◌≡◌, length, true, refl, sym, ap, ◌∙◌, eqb, ◌∷◌, [], slice_get, option_map, can_write_frame, frame_writes, stack_pointer, action_of, mask_of, IsWritten, Kernel, Write, byte_in, can_write_in, lost_unless, dropped_if_ignored, OnTrue_at, after_frame}
 use Rattle.process.proofs.SignalFrames.{frame_is_lost, frame_written}
 use Rattle.process.proofs.parts.Parts.enter_handler.Goals as goal
 

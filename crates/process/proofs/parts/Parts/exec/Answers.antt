@@ -1,7 +1,6 @@
-use Rattle.process.proofs.Common.{sym, subst, IsPlace, IsUncounted, Parts, done_of, here_at}
+use Rattle.process.proofs.Common.{sym, subst, IsPlace, IsUncounted, Parts, done_of, here_at, HasCode}
 use Rattle.std.specs.Prelude.{IfOk}
 use Rattle.mach_types.specs.declared.events.Choice.TheVariants as asked
-use Rattle.process.specs.Refinement.{HasCode}
 use Rattle.process.proofs.parts.Parts.exec.Goals as goal
 
 pub exec_any-requires : goal.exec_any-requires

@@ -1,6 +1,5 @@
-use Rattle.process.proofs.Common.{rules, ◌≡◌, Some, sym, ap, ◌∙◌, subst, Next}
+use Rattle.process.proofs.Common.{rules, ◌≡◌, Some, sym, ap, ◌∙◌, subst, Next, HasPlan, IsExecuted}
 use Rattle.rv_inst.specs.declared.effects.Effect.TheVariants as effect
-use Rattle.process.specs.Planned.{HasPlan, IsExecuted}
 use Rattle.process.proofs.parts.Parts.execute.Goals as goal
 
 pub call-requires : goal.call-requires

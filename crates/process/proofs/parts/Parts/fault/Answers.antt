@@ -1,8 +1,6 @@
-use Rattle.process.proofs.Common.{◌+◌, ◌≡◌, true, false, not, arith, refl, sym, ap, ◌∙◌, and_parts, action_of, is_handler, mask_of, with_pending, HartState, counted, here_at, has_handler, signalled, holds_signals}
-use Rattle.mach_types.specs.Kernel.Signals.{has_signal}
+use Rattle.process.proofs.Common.{◌+◌, ◌≡◌, true, false, not, arith, refl, sym, ap, ◌∙◌, and_parts, action_of, is_handler, mask_of, with_pending, HartState, counted, here_at, has_handler, signalled, holds_signals, has_signal, has_handler_in}
 use Rattle.mach_types.specs.declared.events.Choice.TheVariants as asked
 use Rattle.mach_types.specs.declared.events.Kind.TheVariants as kind
-use Rattle.process.specs.Delivering.{has_handler_in}
 use Rattle.process.proofs.Entries.{killed_as, uncounted_as}
 use Rattle.process.proofs.Events.{none_beside}
 use Rattle.process.proofs.ExecEvent.{done_killing, done_pending, fault_killing, fault_pending}

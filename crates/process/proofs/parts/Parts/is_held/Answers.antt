@@ -1,6 +1,4 @@
-use Rattle.process.proofs.Common.{◌≡◌, sym, ap, ◌∙◌, not, ◌&&◌, list_any, HartState, file_on, here_at, lies_waiting_on, lies_outside}
-use Rattle.block_model.specs.Calls.Answers.{call_number}
-use Rattle.block_model.specs.Calls.Memory.{taken_by}
+use Rattle.process.proofs.Common.{◌≡◌, sym, ap, ◌∙◌, not, ◌&&◌, list_any, HartState, file_on, here_at, lies_waiting_on, lies_outside, call_number, taken_by}
 use Rattle.process.proofs.HartStates.{hart_tied}
 use Rattle.process.proofs.ExecGates.{held_is}
 use Rattle.process.proofs.parts.Parts.is_held.Goals as goal

@@ -1,5 +1,4 @@
-use Rattle.process.proofs.Common.{◌≡◌, sym, ap, ◌∙◌, option_map_or, is_inside, HartState, file_on, here_in_plain, named_here}
-use Rattle.mach_types.specs.Kernel.Areas.{is_inside_named}
+use Rattle.process.proofs.Common.{◌≡◌, sym, ap, ◌∙◌, option_map_or, is_inside, HartState, file_on, here_in_plain, named_here, is_inside_named}
 use Rattle.mach_types.specs.declared.sequences.Named.TheVariants as names
 use Rattle.process.proofs.HartStates.{hart_tied}
 use Rattle.process.proofs.parts.Parts.is_inside.Goals as goal

@@ -1,7 +1,5 @@
-use Rattle.process.proofs.Common.{Some, ◌+◌, refl, ap, ◌∙◌, Ready, HartState, counted, here_at, done_preempt_by}
+use Rattle.process.proofs.Common.{Some, ◌+◌, refl, ap, ◌∙◌, Ready, HartState, counted, here_at, done_preempt_by, left, holds_left}
 use Rattle.mach_types.specs.declared.events.Choice.TheVariants as asked
-use Rattle.block_model.specs.Kernel.{left}
-use Rattle.sys_calls.proofs.Laws.{holds_left}
 use Rattle.process.proofs.Entries.{uncounted_as}
 use Rattle.process.proofs.Events.{none_beside}
 use Rattle.process.proofs.HartEvents.{preempt_own}

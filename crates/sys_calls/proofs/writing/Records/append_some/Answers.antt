@@ -1,6 +1,5 @@
 -- The next record's bytes are appended, as far as they fit.
-use Rattle.sys_calls.proofs.Common.{◌≡◌, ℕ, ◌+◌, ◌-◌, ◌*◌, ◌<◌, ◌≤◌, List, [], ◌++◌, length, take, Option, sym, ap, ◌∙◌, arith, append_assoc, append-nil, length-append, CONSOLE_ROOM, Here, Map, byte_in, bytes_from, bytes_of, memory, number_at, spans_at}
-use Rattle.std.proofs.lemmas.List.{length-take}
+use Rattle.sys_calls.proofs.Common.{◌≡◌, ℕ, ◌+◌, ◌-◌, ◌*◌, ◌<◌, ◌≤◌, List, [], ◌++◌, length, take, Option, sym, ap, ◌∙◌, arith, append_assoc, append-nil, length-append, CONSOLE_ROOM, Here, Map, byte_in, bytes_from, bytes_of, memory, number_at, spans_at, length-take}
 use Rattle.std.proofs.Math.Seq.{take-nil}
 use Rattle.sys_calls.proofs.Spans.{spans_all, spans_more, spans_none, take-joined}
 use Rattle.sys_calls.proofs.writing.Records.append_some.Goals as goal
