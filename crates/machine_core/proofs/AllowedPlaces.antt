@@ -5,7 +5,7 @@ use Rattle.rv_inst.specs.declared.effects.Effect.TheVariants as effect
 use Rattle.block_model.specs.Events.Exec.{next_effect, next_fault}
 use Rattle.process.specs.declared.next.Next.{Next}
 use Rattle.machine_core.proofs.Readings.{over_read}
-use Rattle.machine_core.proofs.Steps.{IsLogPlace, IsStep, place_of, stepped}
+use Rattle.machine_core.proofs.MachineSteps.{IsLogPlace, IsStep, place_of, stepped}
 
 pub record IsAllowedPlace (m : Inside) (h : ℕ) (c : Choice) : Type 0 where
   pub place : IsLogPlace (seen m) m.parts h

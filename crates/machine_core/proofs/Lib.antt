@@ -6,9 +6,9 @@ mod Common
 mod FreeSteps
 pub mod Laws
 mod MachineCredits
+mod MachineSteps
 mod Readings
 mod Sights
-mod Steps
 mod StretchAppends
 mod StretchLending
 mod StretchSteps

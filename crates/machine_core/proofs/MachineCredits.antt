@@ -3,7 +3,7 @@ use Rattle.machine_core.proofs.Common.{vec_capacity, ◌≡◌, ℕ, ◌<◌, Li
 use Rattle.std.proofs.lemmas.List.{length-set}
 use Rattle.machine_core.proofs.ChoiceCredits.{IsFollowing, chosen_after, credit_after, generator_after}
 use Rattle.machine_core.proofs.Readings.{over_read}
-use Rattle.machine_core.proofs.Steps.{IsStep}
+use Rattle.machine_core.proofs.MachineSteps.{IsStep}
 
 -- a run that goes on, with room for one more entry, hasn't ended
 pub not_ended : (s : Setting) (before : History) → over_at s before ≡ None → length before < s.limits.steps → has_ended s before ≡ false

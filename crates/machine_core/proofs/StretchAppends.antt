@@ -6,7 +6,7 @@ use Rattle.machine_core.proofs.StretchSteps.{AreAllOn, IsOnWay, all_on, own_is, 
 use Rattle.machine_core.proofs.ChoiceCredits.{credit_read}
 use Rattle.machine_core.proofs.Readings.{hart_read, here_read, over_read}
 use Rattle.machine_core.proofs.MachineCredits.{IsSettled, machine_settled}
-use Rattle.machine_core.proofs.Steps.{IsLogPlace, place_of}
+use Rattle.machine_core.proofs.MachineSteps.{IsLogPlace, place_of}
 
 -- the hart of a stretch is one of the machine's
 pub of_machine : (m : Inside) (h : Hart) (l : Stretch) → IsStretchOf (setting_of m) m.seed h.0 m.log.items l → h.0 < m.limits.harts

@@ -14,7 +14,7 @@ use Rattle.process.specs.EventOutcomes.{entry_from}
 use Rattle.machine_core.proofs.ChoiceCredits.{choice_where, pick_read}
 use Rattle.machine_core.proofs.MachineCredits.{IsSettled, mapped_itself, not_ended, settled_next, tied_with}
 use Rattle.machine_core.proofs.Sights.{next_local}
-use Rattle.machine_core.proofs.Steps.{IsLogPlace, stepped as stepped_by, log_place}
+use Rattle.machine_core.proofs.MachineSteps.{IsLogPlace, stepped as stepped_by, log_place}
 
 -- an instruction that sets a register and the pc, and does nothing else
 pub record IsLocal (pages : List ImagePage) (f : Saved) : Type 0 where

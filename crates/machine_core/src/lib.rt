@@ -3,7 +3,7 @@
 //! Every log is a block run: each entry is the one that the definitions of `block_model` allow at its place.
 #![tactic(auto)]
 
-mod following;
+mod credits;
 mod machine;
 mod stretches;
 mod theorems;

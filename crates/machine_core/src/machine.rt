@@ -16,9 +16,9 @@ ghost use Rattle.block_model.specs.Run.{IsBlockRun};
 ghost use Rattle.mach_types.specs.declared.events.Entry.{Entry};
 ghost use Rattle.rv_inst.specs.declared.effects.Effect.{Effect};
 
-mod choosing;
-mod lending;
+mod local_stretches;
 mod readers;
+mod run_choices;
 
 use block_model::Refused;
 use chooser::Chooser;

@@ -71,7 +71,7 @@ pub use Rattle.process.specs.ExecGates.{AreOfSegment, IsNextAt, lies_in, lies_ou
 pub use Rattle.process.specs.Foresight.{foreseen_writes, interrupts}
 pub use Rattle.process.specs.Harts.{counted, credit_of, file_of, file_on, hart_at, hart_in, id_on}
 pub use Rattle.process.specs.Pages.{AreDecoded, code_of, is_executable, word_in, word_of_page}
-pub use Rattle.process.specs.Passing.{passed_by, taken_aside}
+pub use Rattle.process.specs.OtherProcess.{passed_by, taken_aside}
 pub use Rattle.process.specs.PlainSteps.{IsPlainStep, stepped}
 pub use Rattle.process.specs.Planned.{HasPlan, IsExecuted, IsInside, IsOwnStep, IsPlanned}
 pub use Rattle.process.specs.Refinement.{HasCode, IsAfter, IsAlone, IsCounted, IsPlace, IsReadable, IsTied, IsUncounted, MayDrain, answered}

@@ -22,8 +22,8 @@ mod Lookups
 mod Membarriers
 mod Memory
 mod NextInstruction
+mod OtherProcess
 pub mod PairLaws
-mod PassingEvents
 mod Places
 mod PlainInstructions
 mod PlainSteps

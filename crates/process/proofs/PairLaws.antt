@@ -7,6 +7,6 @@ pub use Rattle.process.proofs.ExecEvent.{done_call, done_fault, done_inside, don
 pub use Rattle.process.proofs.HartEvents.{drain_own}
 pub use Rattle.process.proofs.Membarriers.{eighth, running_tied}
 pub use Rattle.process.proofs.Places.{fit_at, goes_on, hart_is, ran_fits, was_not_stuck}
-pub use Rattle.process.proofs.PassingEvents.{get_mapped}
+pub use Rattle.process.proofs.OtherProcess.{get_mapped}
 pub use Rattle.process.proofs.PlainInstructions.{IsPerforming, performing_over}
 pub use Rattle.process.proofs.ReservationLosses.{lost_app}

@@ -6,8 +6,8 @@ pub mod EventOutcomes
 pub mod ExecGates
 pub mod Foresight
 pub mod Harts
+pub mod OtherProcess
 pub mod Pages
-pub mod Passing
 pub mod PlainSteps
 pub mod Planned
 pub mod Refinement

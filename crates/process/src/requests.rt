@@ -8,7 +8,7 @@ ghost use Rattle.block_model.specs.Requests as requests;
 ghost use Rattle.block_model.specs.Sights.{is_all_taken};
 ghost use Rattle.sys_calls.specs.Made.{barrier_of};
 ghost use Rattle.process.specs.Barriers.{asked_by, is_busy, noticed, noticed_unless, taken_with};
-ghost use Rattle.process.specs.Passing.{taken_aside};
+ghost use Rattle.process.specs.OtherProcess.{taken_aside};
 
 use crate::interrupt::pc_after;
 use hart_state::HartState;

@@ -1,7 +1,7 @@
 -- What would be answered to a choice.
 use Rattle.machine_core.proofs.Common.{sym, stand_of, seen}
 use Rattle.machine_core.proofs.StretchAppends.{code_open, is_alone, place_open}
-use Rattle.machine_core.proofs.Steps.{allowed, refused}
+use Rattle.machine_core.proofs.MachineSteps.{allowed, refused}
 use Rattle.machine_core.proofs.machine.Machine.answer.Goals as goal
 
 pub answer-requires : goal.answer-requires

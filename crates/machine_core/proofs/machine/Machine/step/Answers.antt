@@ -2,7 +2,7 @@ use Rattle.machine_core.proofs.Common.{◌≡◌, ◌<◌, Option, None, false, 
 use Rattle.machine_core.proofs.AdvanceAnswers.{chosen_of}
 use Rattle.machine_core.proofs.StretchAppends.{code_open, goes_on, has_room, is_alone, place_open}
 use Rattle.machine_core.proofs.MachineCredits.{settled, IsSettled, machine_so, mapped_itself}
-use Rattle.machine_core.proofs.Steps.{refused, stepped, stepped_so}
+use Rattle.machine_core.proofs.MachineSteps.{refused, stepped, stepped_so}
 use Rattle.machine_core.proofs.machine.Machine.step.Goals as goal
 
 pub step_chosen-requires-clause-chosen : goal.step_chosen-requires-clause-chosen

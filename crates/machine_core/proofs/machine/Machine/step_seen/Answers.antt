@@ -2,7 +2,7 @@ use Rattle.machine_core.proofs.Common.{◌≡◌, ◌<◌, Some, true, ap, lengt
 use Rattle.machine_core.proofs.AdvanceAnswers.{all_of}
 use Rattle.machine_core.proofs.StretchAppends.{code_open, goes_on, has_room, is_alone, place_open}
 use Rattle.machine_core.proofs.MachineCredits.{settled, IsSettled, machine_so}
-use Rattle.machine_core.proofs.Steps.{refused, stepped, stepped_so}
+use Rattle.machine_core.proofs.MachineSteps.{refused, stepped, stepped_so}
 use Rattle.machine_core.proofs.machine.Machine.step_seen.Goals as goal
 
 pub make-requires : goal.make-requires

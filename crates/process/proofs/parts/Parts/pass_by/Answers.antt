@@ -1,5 +1,5 @@
 use Rattle.process.proofs.Common.{◌∙◌, true, false, barrier_of}
-use Rattle.process.proofs.PassingEvents.{passed_taken, passed_untaken, tied_passed}
+use Rattle.process.proofs.OtherProcess.{passed_taken, passed_untaken, tied_passed}
 use Rattle.process.proofs.parts.Parts.pass_by.Goals as goal
 
 pub returns-then-took : goal.returns-then-took

@@ -12,7 +12,7 @@ ghost use Rattle.mach_types.specs.declared.events.Entry.{Entry};
 ghost use Rattle.rv_inst.specs.declared.effects.Effect.{Effect};
 ghost use Rattle.machine_core.specs.Advancing.{made_in};
 
-use crate::following::follow;
+use crate::credits::follow;
 use crate::machine::{Machine, append};
 use block_model::Refused;
 use mach_types::{Advance, Choice, Entry, Hart, Sight};

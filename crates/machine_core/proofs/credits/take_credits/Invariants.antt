@@ -1,5 +1,5 @@
 use Rattle.machine_core.proofs.Common.{◌≡◌, ◌++◌, map, take, uncredited, drop}
-use Rattle.machine_core.proofs.following.take_credits.Given as goal
+use Rattle.machine_core.proofs.credits.take_credits.Given as goal
 
 -- the harts so far have no credit, and the others are as they were
 abbrev pub invariant-loop-hart : goal.invariant-loop-hart

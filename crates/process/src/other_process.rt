@@ -7,7 +7,7 @@ ghost use Rattle.block_model.specs.Plain.{Plain};
 ghost use Rattle.block_model.specs.Setting.{Setting};
 ghost use Rattle.block_model.specs.Stands.{aside};
 ghost use Rattle.sys_calls.specs.Made.{barrier_of};
-ghost use Rattle.process.specs.Passing.{taken_aside};
+ghost use Rattle.process.specs.OtherProcess.{taken_aside};
 ghost use Rattle.process.specs.Refinement.{IsTied};
 ghost use Rattle.process.specs.Reservations.{lost_by_all};
 

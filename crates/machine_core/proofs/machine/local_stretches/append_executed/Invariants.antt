@@ -1,5 +1,5 @@
 use Rattle.machine_core.proofs.Common.{◌≡◌, ◌≤◌, ◌++◌, map, take, executed, vec_capacity}
-use Rattle.machine_core.proofs.machine.lending.append_executed.Given as goal
+use Rattle.machine_core.proofs.machine.local_stretches.append_executed.Given as goal
 
 -- those of the addresses before are appended
 abbrev pub invariant-loop-pc : goal.invariant-loop-pc
