@@ -1,5 +1,5 @@
 -- What a scheduler sees of a hart, told by the hart's state.
-use Rattle.machine_core.proofs.Common.{◌≡◌, ℕ, ◌&&◌, List, sym, ap, ◌∙◌, refl, not, Bool, true, false, is_none, is_some, Option, Some, None, option_and_then, option_map, option_map_or, HartState, Here, ImagePage, Saved, runs, sets_register, Tid, is_storable, reached, fault_by, fetched, next_effect, effect_here, effect_on, fault_here, fault_on, is_deliverable_on, is_local_on, thread, file_of, file_on, hart_in, instruction_of, next_fault, next_instruction}
+use Rattle.machine_core.proofs.Common.{◌≡◌, ℕ, ◌&&◌, List, sym, ap, ◌∙◌, refl, not, Bool, true, false, is_none, is_some, Option, Some, None, option_and_then, option_map, option_map_or, HartState, Here, ImagePage, Saved, runs, sets_register, Tid, is_storable, reached, fault_by, fetched, next_effect, effect_here, effect_on, fault_here, fault_on, is_deliverable_on, is_local_on, thread, file_of, file_on, hart_in, instruction_of, next_fault, next_instruction, arith}
 use Rattle.mach_types.specs.Kernel.Signals.{next_for}
 use Rattle.rv_inst.proofs.Laws.{local-rows}
 use Rattle.rv_inst.specs.Local.{is_register_only}

@@ -1,5 +1,5 @@
 -- A process with a thread that is ready or runs isn't stuck.
-use Rattle.process.proofs.Common.{◌≡◌, ℕ, List, [], ◌∷◌, map, find, refl, Bool, true, false, not, Option, Some, None, is_some, ◌&&◌, nat_le, length, option_map, option_map_or, list_any, ThreadState, Thread, Threads, is_live, is_ready, is_ready_state, is_stuck, is_thread, state_if, with_state, or_right, goes_on, is_waiting_state}
+use Rattle.process.proofs.Common.{◌≡◌, ℕ, List, [], ◌∷◌, map, find, refl, Bool, true, false, not, Option, Some, None, is_some, ◌&&◌, nat_le, length, option_map, option_map_or, list_any, ThreadState, Thread, Threads, is_live, is_ready, is_ready_state, is_stuck, is_thread, state_if, with_state, or_right, goes_on, is_waiting_state, arith}
 
 and_false : (b c : Bool) → c ≡ true → (b && not c) ≡ false
 and_false b c is = grind arith

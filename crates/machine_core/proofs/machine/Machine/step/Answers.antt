@@ -1,4 +1,4 @@
-use Rattle.machine_core.proofs.Common.{◌≡◌, ◌<◌, Option, None, false, refl, rules, sym, ◌∙◌, arith, slice_get, IsAfter, Parts, Sight, done_of, here_of, past_of, seen, seen_if, setting_of, IfOk-at_ok, has_ended, stand_of, Bool}
+use Rattle.machine_core.proofs.Common.{◌≡◌, ◌<◌, Option, None, false, refl, rules, sym, ◌∙◌, arith, slice_get, IsAfter, Parts, Sight, done_of, here_of, past_of, seen, seen_if, setting_of, IfOk-at_ok, has_ended, stand_of, Bool, subst, ◌++◌, ◌∷◌, []}
 use Rattle.machine_core.proofs.AdvanceAnswers.{chosen_of}
 use Rattle.machine_core.proofs.StretchAppends.{code_open, goes_on, has_room, is_alone, place_open}
 use Rattle.machine_core.proofs.MachineCredits.{settled, IsSettled, machine_so, mapped_itself}

@@ -1,5 +1,5 @@
 -- A call, and what the kernel wrote in it.
-use Rattle.machine_core.proofs.Common.{◌≡◌, Option, None, false, ap, refl, rules, sym, ◌∙◌, arith, slice_get, Here, Parts, Sight, done_of, past_of, seen, seen_if, setting_of, stand_of, same_here, Bool}
+use Rattle.machine_core.proofs.Common.{◌≡◌, Option, None, false, ap, refl, rules, sym, ◌∙◌, arith, slice_get, Here, Parts, Sight, done_of, past_of, seen, seen_if, setting_of, stand_of, same_here, Bool, subst, ◌++◌, ◌∷◌, []}
 use Rattle.mach_types.specs.declared.events.Choice.TheVariants as asked
 use Rattle.machine_core.proofs.AdvanceAnswers.{chosen_of}
 use Rattle.machine_core.proofs.AllowedPlaces.{allowed_place, call_step, planned_call}

@@ -1,5 +1,5 @@
 -- A call of a machine that makes the choices of `run`, and what the kernel wrote in it.
-use Rattle.machine_core.proofs.Common.{◌≡◌, Some, true, ap, refl, rules, sym, ◌∙◌, arith, Here, Parts, done_of, past_of, seen, seen_if, setting_of, stand_of, same_here, Bool, List, Generator}
+use Rattle.machine_core.proofs.Common.{◌≡◌, Some, true, ap, refl, rules, sym, ◌∙◌, arith, Here, Parts, done_of, past_of, seen, seen_if, setting_of, stand_of, same_here, Bool, List, Generator, subst, ◌++◌, ◌∷◌, []}
 use Rattle.mach_types.specs.declared.events.Choice.TheVariants as asked
 use Rattle.machine_core.proofs.AdvanceAnswers.{all_of}
 use Rattle.machine_core.proofs.AllowedPlaces.{allowed_place, call_step, planned_call}

@@ -1,4 +1,4 @@
-use Rattle.machine_core.proofs.Common.{◌≡◌, ◌<◌, Some, true, ap, length, refl, rules, sym, ◌∙◌, arith, IfOk-at_ok, IsAfter, Parts, done_of, here_of, past_of, seen, seen_if, setting_of, stand_of, Bool, List, Generator}
+use Rattle.machine_core.proofs.Common.{◌≡◌, ◌<◌, Some, true, ap, length, refl, rules, sym, ◌∙◌, arith, IfOk-at_ok, IsAfter, Parts, done_of, here_of, past_of, seen, seen_if, setting_of, stand_of, Bool, List, Generator, subst, ◌++◌, ◌∷◌, []}
 use Rattle.machine_core.proofs.AdvanceAnswers.{all_of}
 use Rattle.machine_core.proofs.StretchAppends.{code_open, goes_on, has_room, is_alone, place_open}
 use Rattle.machine_core.proofs.MachineCredits.{settled, IsSettled, machine_so}
