@@ -1,6 +1,6 @@
 pub mod ActionWords
 mod AreaRegistration
-mod AreaWords
+pub mod AreaWords
 pub mod Barriers
 pub mod CallAnswers
 pub mod CallLaws
