@@ -7,7 +7,7 @@ use Rattle.percpu_lib.specs.Pushes.{word_seen}
 use Rattle.percpu_lib.specs.Uses.{cells_of}
 use Rattle.percpu_lib.proofs.PoolExample as example
 use Rattle.percpu_lib.proofs.UseTests.{just_is}
-use Rattle.percpu_lib.proofs.pool_theorems.pool_blocks_are_used.Goals as goal
+use Rattle.percpu_lib.proofs.theorems.pool_blocks_are_used.Goals as goal
 
 pub returns : goal.returns
 returns c = record {

@@ -1,6 +1,6 @@
 use Rattle.percpu_lib.proofs.PushLaw.{push_course}
 use Rattle.percpu_lib.proofs.RunLaws.{partial_in, whole_in}
-use Rattle.percpu_lib.proofs.push_theorems.pushes_once_or_not_at_all.Goals as goal
+use Rattle.percpu_lib.proofs.theorems.pushes_once_or_not_at_all.Goals as goal
 
 pub returns : goal.returns
 returns c = record {

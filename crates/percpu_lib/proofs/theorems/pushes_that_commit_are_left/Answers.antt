@@ -1,6 +1,6 @@
 use Rattle.percpu_lib.proofs.PushLaw.{push_course}
 use Rattle.percpu_lib.proofs.RunLaws.{left_last, left_next}
-use Rattle.percpu_lib.proofs.push_theorems.pushes_that_commit_are_left.Goals as goal
+use Rattle.percpu_lib.proofs.theorems.pushes_that_commit_are_left.Goals as goal
 
 pub returns : goal.returns
 returns c = record {

@@ -6,7 +6,7 @@ use Rattle.percpu_lib.specs.Adds.{cell_seen}
 use Rattle.percpu_lib.specs.Uses.{cells_of}
 use Rattle.percpu_lib.proofs.ListExample as example
 use Rattle.percpu_lib.proofs.UseTests.{just_is}
-use Rattle.percpu_lib.proofs.pop_theorems.list_blocks_are_used.Goals as goal
+use Rattle.percpu_lib.proofs.theorems.list_blocks_are_used.Goals as goal
 
 pub returns : goal.returns
 returns c = record {

@@ -1,6 +1,6 @@
 use Rattle.percpu_lib.proofs.AllocLaw.{alloc_course}
 use Rattle.percpu_lib.proofs.RunLaws.{partial_in, whole_in}
-use Rattle.percpu_lib.proofs.pool_theorems.allocs_once_or_not_at_all.Goals as goal
+use Rattle.percpu_lib.proofs.theorems.allocs_once_or_not_at_all.Goals as goal
 
 pub returns : goal.returns
 returns c = record {

@@ -1,6 +1,6 @@
 use Rattle.percpu_lib.specs.Kinds.{pushes}
 use Rattle.percpu_lib.proofs.KindLaws.{comes_to_end, comes_where_shared}
-use Rattle.percpu_lib.proofs.push_theorems.pushes_are_done.Goals as goal
+use Rattle.percpu_lib.proofs.theorems.pushes_are_done.Goals as goal
 
 pub returns : goal.returns
 returns c = record {

@@ -2,7 +2,7 @@ use Rattle.block_model.specs.Deciding.{history}
 use Rattle.percpu_lib.specs.Pushes.{push_form}
 use Rattle.percpu_lib.proofs.PushLaw.{push_course}
 use Rattle.percpu_lib.proofs.ShareLaw.{outside_before}
-use Rattle.percpu_lib.proofs.push_theorems.pushes_begin_outside.Goals as goal
+use Rattle.percpu_lib.proofs.theorems.pushes_begin_outside.Goals as goal
 
 pub returns : goal.returns
 returns c s log p at area t others run held can shares =
