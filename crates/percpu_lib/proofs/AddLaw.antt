@@ -1,9 +1,8 @@
 -- A sequence of an add block is one run of its thread alone, and so adds once or not at all.
 use Rattle.std.proofs.Common.{◌≡◌, ℕ, ◌+◌, ◌*◌, ◌<◌, ◌≤◌, ◌%◌, ◌^◌, List, [], ◌∷◌, ◌++◌, refl, ap, ◌∙◌}
-use Rattle.std.proofs.Common.{arith, Bool, true, ◌||◌, Option, Some, inr, append-nil, pos}
+use Rattle.std.proofs.Common.{arith, Bool, true, Some, inr, pos}
 use Rattle.mach_types.specs.Bytes.{each_byte, word_at}
 use Rattle.mach_types.specs.Kernel.Areas.{is_inside}
-use Rattle.mach_types.specs.Registers.{register}
 use Rattle.mach_types.specs.declared.sequences.Area.{Area}
 use Rattle.mach_types.specs.declared.user_memory.Store.{Store}
 use Rattle.rv_inst.specs.Execution.{seen_byte}
@@ -13,43 +12,30 @@ use Rattle.alone.proofs.Laws.{loaded_word, word_unchanged}
 use Rattle.alone.proofs.Means.{means_add, means_ld, means_sd}
 use Rattle.alone.proofs.Paths.{leaves, then_load, then_next, then_store}
 use Rattle.alone_laws.specs.Blocks.{among}
-use Rattle.alone_laws.specs.Spans.{alone_from, code_of, seen_at, sees}
-use Rattle.alone_laws.proofs.Sequences.{each_among}
-use Rattle.alone_laws.proofs.Steps.{each_implies}
+use Rattle.alone_laws.specs.Spans.{alone_from, code_of, sees}
 use Rattle.alone_laws.proofs.StoredWords.{beside_word, some_word, stored_word}
-use Rattle.block_model.specs.History.{History, file, stores}
+use Rattle.block_model.specs.History.{History, stores}
 use Rattle.block_model.specs.Setting.{Setting}
-use Rattle.percpu_lib.specs.Adds.{add_block, add_bytes, add_range, cell_at, cell_seen, cell_store}
+use Rattle.percpu_lib.specs.Adds.{add_block, add_bytes, add_range, cell_seen, cell_store}
 use Rattle.percpu_lib.specs.Forms.{IsBlockPlace}
-use Rattle.percpu_lib.specs.Uses.{add_form, cells_of}
+use Rattle.percpu_lib.specs.Kinds as kind
+use Rattle.percpu_lib.specs.Uses.{add_form}
 use Rattle.percpu_lib.specs.Words.{AreHeld, AreSlots}
 use Rattle.percpu_lib.specs.declared.slots.Slots.{Slots}
-use Rattle.percpu_lib.proofs.AddCode.{add_formed}
 use Rattle.percpu_lib.proofs.BlockCode.{behind_range}
-use Rattle.percpu_lib.proofs.BlockWords.{beside_pointer, or_true}
-use Rattle.percpu_lib.proofs.CellPath.{BeginsSo, begins_of, inside_at, to_cell}
-use Rattle.percpu_lib.proofs.CourseLaw.{HasPath, course_of, way}
+use Rattle.percpu_lib.proofs.Beginnings.{beginning}
+use Rattle.percpu_lib.proofs.BlockWords.{beside_pointer}
+use Rattle.percpu_lib.proofs.CellPath.{inside_at, to_cell}
+use Rattle.percpu_lib.proofs.CourseLaw.{HasPath, SomePath, has_course, same_stores, same_word}
+use Rattle.percpu_lib.proofs.CourseLaw.{unstored, way}
 use Rattle.percpu_lib.proofs.Courses.{HasCourse}
-
-begins_so : (p : Slots) → AreSlots p → BeginsSo (add_form p) 6 64
-begins_so p slots =
-    begins_of (add_form p) 6 64 refl refl refl refl (omega arith) refl refl slots.area slots.cells
-    (λ cpu few. omega arith)
+use Rattle.percpu_lib.proofs.FormedBlocks.{block_begins, block_formed}
+use Rattle.percpu_lib.proofs.UsedWords.{area_used, word_used}
 
 module _ (s : Setting) (p : Slots) (at : ℕ) (area : Area) (h t : ℕ) (begun : History)
     (held : AreHeld (code_of s.program.pages) at (add_block p)) (slots : AreSlots p)
     (place : IsBlockPlace s (add_form p) at area h t begun) where
-  abbrev seen : ℕ → Option ℕ
-  seen = seen_at s h begun
-
-  abbrev cells : ℕ
-  cells = cells_of s p t begun
-
-  abbrev cell : ℕ
-  cell = cell_at cells h
-
-  abbrev value : ℕ
-  value = register (file s t begun).file p.value
+  open (beginning s p h t begun) use {seen, cells, cell, value}
 
   old_word : (w : ℕ) × (cell_seen s h cells begun ≡ Some w)
   old_word = some_word (sees s h begun) cell 8
@@ -71,21 +57,16 @@ module _ (s : Setting) (p : Slots) (at : ℕ) (area : Area) (h t : ℕ) (begun :
   bytes = add_bytes area.at cells h
 
   in_cell : each_byte bytes cell 8 ≡ true
-  in_cell =
-      each_implies (among cell 8) bytes (λ a is. ap (λ b. among area.at 32 a || b) is
-      ∙ or_true (among area.at 32 a))
-      cell 8 (each_among cell 8 cell 8 (omega arith) (omega arith))
-
-  area_bytes : (a : ℕ) → among area.at 32 a ≡ true → bytes a ≡ true
-  area_bytes a is = ap (λ b. b || among cell 8 a) is
+  in_cell = word_used area.at cell
 
   keeps : KeepsOn w (alone_from s h t begun 0)
   keeps =
       let low = place.low in
       let low_cells = place.apart.low_cells in
-      to_cell s (add_form p) at area h t begun Inside Done (add_formed p) held place 6 64 (begins_so p slots)
+      to_cell s (add_form p) at area h t begun Inside Done (block_formed kind.adds p) held place 6 64
+      (block_begins kind.adds p slots)
       refl
-      area_bytes cells refl (omega arith)
+      (area_used area.at (among cell 8)) cells refl (omega arith)
       (λ y now.
       then_load w (at + 32) _ [] y now (here 8 (omega arith) (omega arith)) refl
       (inst.Ld 6 5 (pos 0)) (held.holds 8 (inst.Ld 6 5 (pos 0)) refl)
@@ -113,23 +94,22 @@ module _ (s : Setting) (p : Slots) (at : ℕ) (area : Area) (h t : ℕ) (begun :
     where
       here : (k : ℕ) → 4 ≤ k → k < 11 → is_inside (add_range at) (at + 4 * k) ≡ true
       here k from lt =
-          inside_at s (add_form p) at area h t begun Inside Done (add_formed p) held place k from lt
+          inside_at s (add_form p) at area h t begun Inside Done
+          (block_formed kind.adds p) held place k from lt
 
   path : HasPath s (add_form p) at area h t begun Inside Done
   path = record {
     keeps = keeps;
     nothing = refl;
-    area_bytes = area_bytes;
-    points = λ es none. ap (λ (x : List Store). word_at (seen_byte x seen) (area.at + 8) 8) none
-        ∙ word_unchanged seen (area.at + 8) 8;
+    area_bytes = area_used area.at (among cell 8);
+    points = λ es none. unstored seen es none (area.at + 8);
     points_done = λ temps es stored. ap (λ (x : List Store). word_at (seen_byte x seen) (area.at + 8) 8)
         stored
         ∙ beside_word seen (cell_store cells h sum) (area.at + 8) 8
         (beside_pointer cell area.at place.apart.beside);
     partial = λ temps es last after none. record {
-      same = after.sees cell in_cell ∙ ap (λ (x : List Store). word_at (seen_byte x seen) cell 8) none
-          ∙ word_unchanged seen cell 8;
-      stored = after.stored ∙ ap (λ (x : List Store). stores h begun ++ x) none ∙ append-nil (stores h begun);
+      same = same_word s (add_form p) at area h t begun Inside Done temps es last after none cell in_cell;
+      stored = same_stores s (add_form p) at area h t begun Inside Done temps es last after none;
       kept = after.kept;
     };
     whole = λ temps es last after stored. record {
@@ -142,12 +122,9 @@ module _ (s : Setting) (p : Slots) (at : ℕ) (area : Area) (h t : ℕ) (begun :
     };
   }
 
+  some_path : SomePath s (add_form p) at area h t begun
+  some_path = record { Inside = Inside; Done = Done; path = path }
+
 -- the course of an add block
 pub add_course : (p : Slots) → HasCourse (add_form p)
-add_course p = record {
-  formed = add_formed p;
-  course = λ s at area h t begun held slots place.
-      course_of s (add_form p) at area h t begun (Inside s p at area h t begun held slots place)
-      (Done s p at area h t begun held slots place) (add_formed p) place
-      (path s p at area h t begun held slots place);
-}
+add_course p = has_course (add_form p) (block_formed kind.adds p) (λ s. some_path s p)

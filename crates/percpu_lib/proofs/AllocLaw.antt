@@ -1,12 +1,11 @@
 -- A sequence of an alloc block is one run of its thread alone, and so takes one item or none.
 use Rattle.std.proofs.Common.{◌≡◌, ◌≢◌, ℕ, ◌+◌, ◌-◌, ◌*◌, ◌<◌, ◌≤◌, ◌%◌, ◌^◌, List, [], ◌∷◌, ◌++◌, refl, ap}
 use Rattle.std.proofs.Common.{◌∙◌, subst, arith, Bool, true, false, not, ◌&&◌, ◌||◌, eqb, Option, Some, inl}
-use Rattle.std.proofs.Common.{inr, ◌⊎◌, append-nil, pos, negsuc, unwrap_or, rules}
+use Rattle.std.proofs.Common.{inr, ◌⊎◌, pos, negsuc, unwrap_or}
 use Rattle.std.proofs.lemmas.Bool.{eqb-false, eqb-true}
 use Rattle.mach_types.specs.Bytes.{each_byte, word_at}
 use Rattle.mach_types.specs.Kernel.Areas.{is_inside}
 use Rattle.mach_types.specs.Registers.{register}
-use Rattle.mach_types.specs.declared.registers.Regs.{Regs}
 use Rattle.mach_types.specs.declared.sequences.Area.{Area}
 use Rattle.mach_types.specs.declared.user_memory.Store.{Store}
 use Rattle.rv_inst.specs.Execution.{seen_byte}
@@ -14,60 +13,40 @@ use Rattle.rv_inst.specs.Memory.{loaded}
 use Rattle.rv_inst.specs.declared.instruction.Inst.TheVariants as inst
 use Rattle.alone.specs.Alone.{Stand}
 use Rattle.alone.specs.Paths.{KeepsOn, Path}
-use Rattle.alone.specs.Temps.{IsAt, is_scratch, put}
+use Rattle.alone.specs.Temps.{IsAt, put}
 use Rattle.alone.proofs.Laws.{loaded_word, word_unchanged}
 use Rattle.alone.proofs.Means.{means_add, means_addi, means_ld, means_sd, means_slli}
 use Rattle.alone.proofs.Paths.{leaves, then_branch, then_load, then_next, then_store}
 use Rattle.alone_laws.specs.Blocks.{among}
-use Rattle.alone_laws.specs.Spans.{alone_from, code_of, seen_at, sees}
-use Rattle.alone_laws.proofs.Sequences.{each_among}
-use Rattle.alone_laws.proofs.Steps.{each_implies}
+use Rattle.alone_laws.specs.Spans.{alone_from, code_of, sees}
 use Rattle.alone_laws.proofs.StoredWords.{beside_word, some_word, stored_word}
-use Rattle.block_model.specs.History.{History, file, stores}
+use Rattle.block_model.specs.History.{History, stores}
 use Rattle.block_model.specs.Setting.{Setting}
 use Rattle.percpu_lib.specs.Allocs.{Allocs, alloc_block, alloc_bytes, alloc_form, alloc_range}
 use Rattle.percpu_lib.specs.Allocs.{allocs_last, allocs_none}
 use Rattle.percpu_lib.specs.Forms.{IsBlockPlace}
-use Rattle.percpu_lib.specs.Pools.{count_of, count_seen, count_store, pool_at, slot_at}
+use Rattle.percpu_lib.specs.Kinds as kind
+use Rattle.percpu_lib.specs.Pools.{count_of, count_seen, count_store, slot_at}
 use Rattle.percpu_lib.specs.Pushes.{word_seen}
-use Rattle.percpu_lib.specs.Uses.{cells_of}
 use Rattle.percpu_lib.specs.Words.{AreHeld, AreSlots, is_changed}
 use Rattle.percpu_lib.specs.declared.slots.Slots.{Slots}
-use Rattle.percpu_lib.proofs.BlockCode.{IsFormed, behind_range}
-use Rattle.percpu_lib.proofs.BlockWords.{beside_pointer, or_true}
-use Rattle.percpu_lib.proofs.CellPath.{BeginsSo, begins_of, inside_at, to_cell}
-use Rattle.percpu_lib.proofs.Changes.{area_not_changed, cells_not_changed, means_beq_not, means_beq_taken}
-use Rattle.percpu_lib.proofs.Changes.{put_other, put_same, scratch_not, some_value, value_changed}
-use Rattle.percpu_lib.proofs.CourseLaw.{HasPath, IsAfter, course_of, way}
+use Rattle.percpu_lib.proofs.BlockCode.{behind_range}
+use Rattle.percpu_lib.proofs.Beginnings.{beginning}
+use Rattle.percpu_lib.proofs.BlockWords.{beside_pointer}
+use Rattle.percpu_lib.proofs.CellPath.{inside_at, to_cell}
+use Rattle.percpu_lib.proofs.Changes.{beside_value, means_beq_not}
+use Rattle.percpu_lib.proofs.Changes.{means_beq_taken, put_same, some_value}
+use Rattle.percpu_lib.proofs.Changes.{value_changed}
+use Rattle.percpu_lib.proofs.CourseLaw.{HasPath, IsAfter, SomePath, has_course, same_stores, same_word}
+use Rattle.percpu_lib.proofs.CourseLaw.{unstored, way}
 use Rattle.percpu_lib.proofs.Courses.{HasCourse}
-use Rattle.percpu_lib.proofs.FormedWords.{formed_of, words_fit}
-
-pub alloc_formed : (p : Slots) → IsFormed (alloc_form p)
-alloc_formed p =
-    formed_of (alloc_form p) (omega arith) (omega arith) (omega arith) (omega arith) refl refl refl
-    (inst.Lw 5 p.area (pos 0)) refl
-    (words_fit (alloc_form p) (omega arith) (omega arith) 0 (alloc_block p) (omega arith)
-    (search (rules, value_changed p)))
-
-begins_so : (p : Slots) → AreSlots p → BeginsSo (alloc_form p) 13 8192
-begins_so p slots =
-    begins_of (alloc_form p) 13 8192 refl refl refl refl (omega arith) refl refl (area_not_changed p slots)
-    (cells_not_changed p slots) (λ cpu few. omega arith)
+use Rattle.percpu_lib.proofs.FormedBlocks.{block_begins, block_formed}
+use Rattle.percpu_lib.proofs.UsedWords.{area_used, first_used, second_used_where}
 
 module _ (s : Setting) (p : Slots) (at : ℕ) (area : Area) (h t : ℕ) (begun : History)
     (held : AreHeld (code_of s.program.pages) at (alloc_block p)) (slots : AreSlots p)
     (place : IsBlockPlace s (alloc_form p) at area h t begun) where
-  abbrev old : Regs
-  old = (file s t begun).file
-
-  abbrev seen : ℕ → Option ℕ
-  seen = seen_at s h begun
-
-  abbrev pools : ℕ
-  pools = cells_of s p t begun
-
-  abbrev pool : ℕ
-  pool = pool_at pools h
+  open (beginning s p h t begun) use {old, seen, cells as pools, pool}
 
   abbrev count : ℕ
   count = count_of s h pools begun
@@ -110,34 +89,23 @@ module _ (s : Setting) (p : Slots) (at : ℕ) (area : Area) (h t : ℕ) (begun :
   of_item a = not (eqb count 0) && among slot 8 a
 
   area_bytes : (a : ℕ) → among area.at 32 a ≡ true → bytes a ≡ true
-  area_bytes a is = ap (λ b. b || (among pool 8 a || of_item a)) is
+  area_bytes = area_used area.at (λ a. among pool 8 a || of_item a)
 
   in_count : each_byte bytes pool 8 ≡ true
-  in_count =
-      each_implies (among pool 8) bytes
-      (λ a is. ap (λ b. among area.at 32 a || (b || of_item a)) is ∙ or_true (among area.at 32 a))
-      pool 8 (each_among pool 8 pool 8 (omega arith) (omega arith))
+  in_count = first_used area.at pool of_item
 
   in_slot : eqb count 0 ≡ false → each_byte bytes slot 8 ≡ true
-  in_slot some =
-      each_implies (among slot 8) bytes
-      (λ a is. ap (λ c. among area.at 32 a || (among pool 8 a || (not c && among slot 8 a))) some
-      ∙ ap (λ b. among area.at 32 a || (among pool 8 a || b)) is
-      ∙ ap (λ b. among area.at 32 a || b) (or_true (among pool 8 a)) ∙ or_true (among area.at 32 a))
-      slot 8 (each_among slot 8 slot 8 (omega arith) (omega arith))
+  in_slot = second_used_where area.at pool slot (eqb count 0)
 
   here : (k : ℕ) → 4 ≤ k → k < 16 → is_inside (alloc_range at) (at + 4 * k) ≡ true
   here k from lt =
-      inside_at s (alloc_form p) at area h t begun Inside Done (alloc_formed p) held place k from lt
+      inside_at s (alloc_form p) at area h t begun Inside Done
+      (block_formed kind.allocs p) held place k from lt
 
   out : is_inside (alloc_range at) (at + 64) ≡ false
   out = let low = place.low in behind_range (alloc_form p) at 16 low (omega arith) (omega arith)
 
   -- THE PATH
-
-  -- a write to the value leaves the other registers that the block changes
-  beside_value : (r x : ℕ) (temps : ℕ → ℕ) → is_scratch r ≡ true → put p.value x temps r ≡ temps r
-  beside_value r x temps is = put_other p.value x temps r (scratch_not r p.value is slots.value)
 
   abbrev temps_0 : ℕ → ℕ
   temps_0 = put 5 (pools + 8192 * h) (put 5 (8192 * h) (put 6 h (register old)))
@@ -156,7 +124,8 @@ module _ (s : Setting) (p : Slots) (at : ℕ) (area : Area) (h t : ℕ) (begun :
       then_branch w (at + 40) _ [] y was (here 10 (omega arith) (omega arith)) refl
       (inst.Beq 6 0 (pos 24)) (held.holds 10 (inst.Beq 6 0 (pos 24)) refl) 0 (at + 64)
       (λ f like. means_beq_taken f (at + 40) 6 0 (pos 24) count 0 (at + 64)
-      (like.temp 6 refl ∙ beside_value 6 0 (put 6 count temps_0) refl) refl none (omega arith) (omega arith))
+      (like.temp 6 refl ∙ beside_value p slots 6 0 (put 6 count temps_0) refl) refl none (omega arith)
+      (omega arith))
       (inr out)
       (λ v last. leaves w (at + 64) _ _ v last out
       (inr (refl, inl (none, put_same p.value 0 (put 6 count temps_0), refl))))
@@ -172,13 +141,13 @@ module _ (s : Setting) (p : Slots) (at : ℕ) (area : Area) (h t : ℕ) (begun :
       then_branch w (at + 40) _ [] y was (here 10 (omega arith) (omega arith)) refl
       (inst.Beq 6 0 (pos 24)) (held.holds 10 (inst.Beq 6 0 (pos 24)) refl) 0 (at + 44)
       (λ f like. means_beq_not f (at + 40) (at + 44) (omega arith) 6 0 (pos 24) count 0
-      (like.temp 6 refl ∙ beside_value 6 0 (put 6 count temps_0) refl) refl some)
+      (like.temp 6 refl ∙ beside_value p slots 6 0 (put 6 count temps_0) refl) refl some)
       (inl ((omega arith), (omega arith)))
       (λ z now.
       then_next w (at + 44) _ [] z now (here 11 (omega arith) (omega arith)) refl
       (inst.Addi 6 6 (negsuc 0)) (held.holds 11 (inst.Addi 6 6 (negsuc 0)) refl) 6 (count - 1) (at + 48)
       (λ f like. means_addi f (at + 44) (at + 48) (omega arith) 6 6 (negsuc 0) count (count - 1)
-      (like.temp 6 refl ∙ beside_value 6 0 (put 6 count temps_0) refl) (omega arith))
+      (like.temp 6 refl ∙ beside_value p slots 6 0 (put 6 count temps_0) refl) (omega arith))
       refl refl (omega arith) (omega arith) (omega arith)
       (λ u then.
       then_next w (at + 48) _ [] u then (here 12 (omega arith) (omega arith)) refl
@@ -191,7 +160,8 @@ module _ (s : Setting) (p : Slots) (at : ℕ) (area : Area) (h t : ℕ) (begun :
       (inst.Add 7 7 5) (held.holds 13 (inst.Add 7 7 5) refl) 7 (pool + 8 * (count - 1)) (at + 56)
       (λ f like. means_add f (at + 52) (at + 56) (omega arith) 7 7 5 (8 * (count - 1)) pool
       (pool + 8 * (count - 1))
-      (like.temp 7 refl) (like.temp 5 refl ∙ beside_value 5 0 (put 6 count temps_0) refl) (omega arith))
+      (like.temp 7 refl) (like.temp 5 refl
+      ∙ beside_value p slots 5 0 (put 6 count temps_0) refl) (omega arith))
       refl refl (omega arith) (omega arith) (omega arith) rest)))
 
   -- and takes it out
@@ -213,9 +183,9 @@ module _ (s : Setting) (p : Slots) (at : ℕ) (area : Area) (h t : ℕ) (begun :
       (inst.Sd 5 6 (pos 0)) (held.holds 15 (inst.Sd 5 6 (pos 0)) refl)
       pool 8 (count - 1) (at + 64)
       (λ f like. means_sd f (at + 60) 5 6 (pos 0) pool pool (count - 1) (count - 1)
-      (like.temp 5 refl ∙ beside_value 5 (loaded item_word.0 8 true) temps_5 refl
-      ∙ beside_value 5 0 (put 6 count temps_0) refl) (omega arith)
-      (like.temp 6 refl ∙ beside_value 6 (loaded item_word.0 8 true) temps_5 refl) (omega arith))
+      (like.temp 5 refl ∙ beside_value p slots 5 (loaded item_word.0 8 true) temps_5 refl
+      ∙ beside_value p slots 5 0 (put 6 count temps_0) refl) (omega arith)
+      (like.temp 6 refl ∙ beside_value p slots 6 (loaded item_word.0 8 true) temps_5 refl) (omega arith))
       in_count (omega arith) (omega arith) (omega arith)
       (λ v last. leaves w (at + 64) _ _ v last out
       (inr (
@@ -237,8 +207,8 @@ module _ (s : Setting) (p : Slots) (at : ℕ) (area : Area) (h t : ℕ) (begun :
   keeps =
       let low = place.low in
       let low_pool = place.apart.low_pool in
-      to_cell s (alloc_form p) at area h t begun Inside Done (alloc_formed p) held place 13 8192
-      (begins_so p slots) refl
+      to_cell s (alloc_form p) at area h t begun Inside Done (block_formed kind.allocs p) held place 13 8192
+      (block_begins kind.allocs p slots) refl
       area_bytes pools refl (omega arith)
       (λ y now.
       then_load w (at + 32) _ [] y now (here 8 (omega arith) (omega arith)) refl
@@ -261,22 +231,12 @@ module _ (s : Setting) (p : Slots) (at : ℕ) (area : Area) (h t : ℕ) (begun :
   abbrev After : (ℕ → ℕ) → List Store → History → Type 0
   After temps es last = IsAfter s (alloc_form p) at area h t begun Inside Done temps es last
 
-  same_count : (temps : ℕ → ℕ) (es : List Store) (last : History) → After temps es last → es ≡ []
-      → count_seen s h pools last ≡ count_seen s h pools begun
-  same_count temps es last after none =
-      after.sees pool in_count ∙ ap (λ (x : List Store). word_at (seen_byte x seen) pool 8) none
-      ∙ word_unchanged seen pool 8
-
-  same_stores : (temps : ℕ → ℕ) (es : List Store) (last : History) → After temps es last → es ≡ []
-      → stores h last ≡ stores h begun
-  same_stores temps es last after none =
-      after.stored ∙ ap (λ (x : List Store). stores h begun ++ x) none ∙ append-nil (stores h begun)
-
   allocs : (temps : ℕ → ℕ) (es : List Store) (last : History) → After temps es last → Done temps es
       → Allocs s p pools h t count begun last
   allocs temps es last after (inl none) =
       allocs_none (eqb-true count 0 none.0) (after.temp p.value (value_changed p) ∙ none.1)
-      (same_count temps es last after none.2) (same_stores temps es last after none.2)
+      (same_word s (alloc_form p) at area h t begun Inside Done temps es last after none.2 pool in_count)
+      (same_stores s (alloc_form p) at area h t begun Inside Done temps es last after none.2)
   allocs temps es last after (inr some) =
       let most : count ≤ 512 = place.apart.at_most in
       allocs_last (eqb-false count 0 some.0) item_word.0 item_word.1
@@ -285,14 +245,9 @@ module _ (s : Setting) (p : Slots) (at : ℕ) (area : Area) (h t : ℕ) (begun :
       ∙ stored_word (sees s h begun) (count_store pool (count - 1)) (omega arith))
       (after.stored ∙ ap (λ (x : List Store). stores h begun ++ x) some.2)
 
-  points : (es : List Store) → es ≡ [] → word_at (seen_byte es seen) (area.at + 8) 8
-      ≡ word_at seen (area.at + 8) 8
-  points es none = ap (λ (x : List Store). word_at (seen_byte x seen) (area.at + 8) 8) none
-      ∙ word_unchanged seen (area.at + 8) 8
-
   points_done : (temps : ℕ → ℕ) (es : List Store) → Done temps es
       → word_at (seen_byte es seen) (area.at + 8) 8 ≡ word_at seen (area.at + 8) 8
-  points_done temps es (inl none) = points es none.2
+  points_done temps es (inl none) = unstored seen es none.2 (area.at + 8)
   points_done temps es (inr some) =
       ap (λ (x : List Store). word_at (seen_byte x seen) (area.at + 8) 8) some.2
       ∙ beside_word seen (count_store pool (count - 1)) (area.at + 8) 8
@@ -303,22 +258,19 @@ module _ (s : Setting) (p : Slots) (at : ℕ) (area : Area) (h t : ℕ) (begun :
     keeps = keeps;
     nothing = refl;
     area_bytes = area_bytes;
-    points = points;
+    points = λ es none. unstored seen es none (area.at + 8);
     points_done = points_done;
     partial = λ temps es last after none. record {
-      same = same_count temps es last after none;
-      stored = same_stores temps es last after none;
+      same = same_word s (alloc_form p) at area h t begun Inside Done temps es last after none pool in_count;
+      stored = same_stores s (alloc_form p) at area h t begun Inside Done temps es last after none;
       kept = after.kept;
     };
     whole = λ temps es last after done. record { allocs = allocs temps es last after done; kept = after.kept };
   }
 
+  some_path : SomePath s (alloc_form p) at area h t begun
+  some_path = record { Inside = Inside; Done = Done; path = path }
+
 -- the course of an alloc block
 pub alloc_course : (p : Slots) → HasCourse (alloc_form p)
-alloc_course p = record {
-  formed = alloc_formed p;
-  course = λ s at area h t begun held slots place.
-      course_of s (alloc_form p) at area h t begun (Inside s p at area h t begun held slots place)
-      (Done s p at area h t begun held slots place) (alloc_formed p) place
-      (path s p at area h t begun held slots place);
-}
+alloc_course p = has_course (alloc_form p) (block_formed kind.allocs p) (λ s. some_path s p)

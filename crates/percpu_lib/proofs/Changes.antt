@@ -45,6 +45,15 @@ module _ (p : Slots) where
     pub cells_not_changed : is_changed p p.cells ≡ false
     cells_not_changed = not_changed p.cells slots.cells slots.cells_value
 
+    -- a write to another register that the block changes leaves the value, and a write to the value leaves
+    -- that
+    pub value_beside : (r x : ℕ) (temps : ℕ → ℕ) → is_scratch r ≡ true → put r x temps p.value ≡ temps p.value
+    value_beside r x temps is =
+        put_other r x temps p.value (λ same. scratch_not r p.value is slots.value (sym same))
+
+    pub beside_value : (r x : ℕ) (temps : ℕ → ℕ) → is_scratch r ≡ true → put p.value x temps r ≡ temps r
+    beside_value r x temps is = put_other p.value x temps r (scratch_not r p.value is slots.value)
+
     pub zero_not_changed : is_changed p 0 ≡ false
     zero_not_changed = not_changed 0 refl (λ is. slots.some_value (sym is))
 
@@ -59,7 +68,8 @@ means_beq_not f at to on rs1 rs2 imm a b first second differs =
     ∙ ap (λ n. branch (eqb a n) (sum_64 at (word imm)) at) second
     ∙ ap (λ c. branch c (sum_64 at (word imm)) at) differs ∙ ap (effect.Next 0 0) on
 
-pub means_beq_taken : (f : Regs) (at rs1 rs2 : ℕ) (imm : ℤ) (a b to : ℕ) → register f rs1 ≡ a → register f rs2 ≡ b
+pub means_beq_taken : (f : Regs) (at rs1 rs2 : ℕ) (imm : ℤ) (a b to : ℕ) → register f rs1 ≡ a
+    → register f rs2 ≡ b
     → eqb a b ≡ true → sum_64 at (word imm) ≡ to → to % 4 ≡ 0
     → meaning (inst.Beq rs1 rs2 imm) f at ≡ effect.Next 0 0 to
 unfolding meaning

@@ -1,6 +1,8 @@
--- The course of a block whose thread keeps on a path: what all blocks have of it, from what each says of its own path.
+-- The course of a block whose thread keeps on a path: what all blocks have of it, from what each says of its
+-- own path.
 use Rattle.std.proofs.Common.{◌≡◌, ◌≢◌, ℕ, ◌+◌, ◌*◌, ◌<◌, ◌≤◌, ◌^◌, List, [], ◌++◌, refl, sym, ap, ◌∙◌}
 use Rattle.std.proofs.Common.{arith, subst, Bool, true, false, ◌&&◌, eqb, ltb, Option, Some, inl, inr, ◌⊎◌}
+use Rattle.std.proofs.Common.{append-nil}
 use Rattle.std.proofs.lemmas.Bool.{false≢true, le-leb, lt-ltb}
 use Rattle.mach_types.specs.Bytes.{each_byte, overlay, word_at}
 use Rattle.mach_types.specs.Kernel.Areas.{is_inside}
@@ -10,6 +12,7 @@ use Rattle.mach_types.specs.declared.threads.Saved.{Saved}
 use Rattle.mach_types.specs.declared.user_memory.Store.{Store}
 use Rattle.rv_inst.specs.Execution.{seen_byte}
 use Rattle.alone.specs.Paths.{IsOn, KeepsOn, Path}
+use Rattle.alone.proofs.Laws.{word_unchanged}
 use Rattle.alone.proofs.Paths.{few_inside}
 use Rattle.alone_laws.specs.Blocks.{Block, IsFairSince, IsSole, StaysInside, among, pointer_bytes}
 use Rattle.alone_laws.specs.Spans.{IsStanding, alone_from, code_of, seen_at, sees}
@@ -22,11 +25,19 @@ use Rattle.block_model.specs.History.{History, file, stores}
 use Rattle.block_model.specs.Run.{IsRunHistory}
 use Rattle.block_model.specs.Setting.{Setting}
 use Rattle.percpu_lib.specs.Forms.{Form, IsBlockPlace, block_of, committed, range_of}
+use Rattle.percpu_lib.specs.Words.{AreHeld, AreSlots}
 use Rattle.percpu_lib.proofs.BlockCode.{IsFormed, behind_range}
-use Rattle.percpu_lib.proofs.Courses.{IsCourse}
+use Rattle.percpu_lib.proofs.Courses.{HasCourse, IsCourse}
 
--- a block of a form at a place where a thread is about to begin it; what holds of the stores that were executed as
--- long as the thread is inside, and of registers and stores where it is at the post-commit address
+-- a word where nothing was stored
+pub unstored : (seen : ℕ → Option ℕ) (es : List Store) → es ≡ [] → (from : ℕ)
+    → word_at (seen_byte es seen) from 8 ≡ word_at seen from 8
+unstored seen es none from =
+    ap (λ (x : List Store). word_at (seen_byte x seen) from 8) none ∙ word_unchanged seen from 8
+
+-- a block of a form at a place where a thread is about to begin it; what holds of the stores that were
+-- executed as long as the thread is inside, and of registers and stores where it is at the post-commit
+-- address
 module _ (s : Setting) (form : Form) (at : ℕ) (area : Area) (h t : ℕ) (begun : History)
     (Inside : List Store → Type 0) (Done : (ℕ → ℕ) → List Store → Type 0) where
   abbrev pub block : Block
@@ -35,8 +46,8 @@ module _ (s : Setting) (form : Form) (at : ℕ) (area : Area) (h t : ℕ) (begun
   abbrev pub seen : ℕ → Option ℕ
   seen = seen_at s h begun
 
-  -- it is left for the retry label by a thread that isn't on the chosen processor, before any store, or for the
-  -- post-commit address
+  -- it is left for the retry label by a thread that isn't on the chosen processor, before any store, or for
+  -- the post-commit address
   abbrev pub Left : ℕ → (ℕ → ℕ) → List Store → Type 0
   Left to temps es =
       ((to ≡ at) × (es ≡ []) × (eqb h (register (file s t begun).file 5) ≡ false))
@@ -54,8 +65,19 @@ module _ (s : Setting) (form : Form) (at : ℕ) (area : Area) (h t : ℕ) (begun
     pub sees : (from : ℕ) → each_byte block.words from 8 ≡ true
         → word_at (seen_at s h last) from 8 ≡ word_at (seen_byte es seen) from 8
 
-  -- what each block says: its thread keeps on the path; its bytes are also those of the area, and no store is to the
-  -- area's pointer; and what was done inside, and at the end
+  -- where nothing was stored, the stores and each word of the block are as they were
+  module _ (temps : ℕ → ℕ) (es : List Store) (last : History) (after : IsAfter temps es last) (none : es ≡ [])
+    where
+      pub same_stores : stores h last ≡ stores h begun
+      same_stores =
+          after.stored ∙ ap (λ (x : List Store). stores h begun ++ x) none ∙ append-nil (stores h begun)
+
+      pub same_word : (from : ℕ) → each_byte block.words from 8 ≡ true
+          → word_at (seen_at s h last) from 8 ≡ word_at seen from 8
+      same_word from within = after.sees from within ∙ unstored seen es none from
+
+  -- what each block says: its thread keeps on the path; its bytes are also those of the area, and no store is
+  -- to the area's pointer; and what was done inside, and at the end
   pub record HasPath : Type 0 where
     pub keeps : KeepsOn way (alone_from s h t begun 0)
     pub nothing : Inside []
@@ -93,9 +115,11 @@ module _ (s : Setting) (form : Form) (at : ℕ) (area : Area) (h t : ℕ) (begun
         let low = within.0 in
         let high = within.1 in
         path.area_bytes a
-        (ap (λ b. b && ltb a (area.at + 32)) (le-leb area.at a (omega arith)) ∙ lt-ltb a (area.at + 32) (omega arith))
+        (ap (λ b. b && ltb a (area.at + 32)) (le-leb area.at a (omega arith))
+        ∙ lt-ltb a (area.at + 32) (omega arith))
 
-    points_in : (es : List Store) → Inside es → word_at (seen_byte es seen) (area.at + 8) 8 ≡ Some form.slots.table
+    points_in : (es : List Store) → Inside es
+        → word_at (seen_byte es seen) (area.at + 8) 8 ≡ Some form.slots.table
     points_in es is = path.points es is ∙ place.points
 
     points_out : (to : ℕ) (temps : ℕ → ℕ) (es : List Store) → Left to temps es
@@ -105,7 +129,8 @@ module _ (s : Setting) (form : Form) (at : ℕ) (area : Area) (h t : ℕ) (begun
     points_out to temps es (inr done) = path.points_done temps es done.1 ∙ place.points
 
     -- after so many of its instructions
-    module _ (last : History) (n : ℕ) (was : IsStanding s block.words h t begun last (alone_from s h t begun n))
+    module _ (last : History) (n : ℕ) (was : IsStanding s block.words h t begun last
+        (alone_from s h t begun n))
         (on : IsOn way (alone_from s h t begun n)) where
       same_pc : (file s t last).pc ≡ on.at
       same_pc = ap (λ (g : Saved). g.pc) was.file ∙ on.stands.pc
@@ -135,9 +160,11 @@ module _ (s : Setting) (form : Form) (at : ℕ) (area : Area) (h t : ℕ) (begun
 
       whole_there : (file s t last).pc ≡ at + 4 * committed form → form.Whole s h t begun last
       whole_there is =
-          by_left (sym same_pc ∙ is) (on.left (ap (is_inside (range_of form at)) (sym same_pc ∙ is) ∙ end_outside))
+          by_left (sym same_pc ∙ is) (on.left (ap (is_inside (range_of form at)) (sym same_pc ∙ is)
+          ∙ end_outside))
 
-      by_place : (c : Bool) → is_inside (range_of form at) on.at ≡ c → (file s t last).pc ≢ at + 4 * committed form
+      by_place : (c : Bool) → is_inside (range_of form at) on.at ≡ c
+          → (file s t last).pc ≢ at + 4 * committed form
           → form.Partial s h t begun last
       by_place true here other = path.partial on.temps on.stores last after (on.inside here).0
       by_place false out other = gone (on.left out)
@@ -170,14 +197,16 @@ module _ (s : Setting) (form : Form) (at : ℕ) (area : Area) (h t : ℕ) (begun
         let x = path_law s block h t begun form.may Inside Left path.keeps in_bytes points_in points_out place.runs
         before q run fair is from in
         let same = same_pc q.reached x.0 x.1 x.2 in
-        by_way x.2.at x.2.temps x.2.stores same (x.2.left (ap (is_inside (range_of form at)) (sym same) ∙ out))
+        by_way x.2.at x.2.temps x.2.stores same (x.2.left (ap (is_inside (range_of form at)) (sym same)
+        ∙ out))
       where
         by_way : (to : ℕ) (temps : ℕ → ℕ) (es : List Store) → (file s t q.reached).pc ≡ to → Left to temps es
             → ((file s t q.reached).pc ≡ at + 4 * committed form) ⊎ ((file s t q.reached).pc ≡ at)
         by_way to temps es same (inl back) = inr (same ∙ back.0)
         by_way to temps es same (inr done) = inl (same ∙ done.0)
 
-    -- a thread that was on the chosen processor is inside after so many instructions, or at the post-commit address
+    -- a thread that was on the chosen processor is inside after so many instructions, or at the post-commit
+    -- address
     gone_on : eqb h (register (file s t begun).file 5) ≡ true → (n : ℕ)
         → StaysInside (code_of s.program.pages) seen (alone_from s h t begun 0) (range_of form at) n
         → ((is_inside (range_of form at) (alone_from s h t begun n).file.pc ≡ true) × (n < form.inside))
@@ -199,9 +228,28 @@ module _ (s : Setting) (form : Form) (at : ℕ) (area : Area) (h t : ℕ) (begun
             let low = place.low in
             let near = short in
             let inside = ap (is_inside (range_of form at)) on.stands.pc ∙ here in
-            let few = few_inside way (alone_from s h t begun 0) path.keeps place.pc (omega arith) n begin inside in
+            let few = few_inside way (alone_from s h t begun 0) path.keeps place.pc
+            (omega arith) n begin inside in
             inl (inside, omega arith)
         by_range false out = inr (by_way on.at on.temps on.stores on.stands.pc (on.left out))
 
     pub course_of : IsCourse s form at area h t begun
     course_of = record { sole = alone_in_it; once = once; out = out_at; gone_on = gone_on }
+
+-- a block that has such a path wherever it stands has such a course
+pub record SomePath (s : Setting) (form : Form) (at : ℕ) (area : Area) (h t : ℕ) (begun : History) : Type 1
+  where
+    pub Inside : List Store → Type 0
+    pub Done : (ℕ → ℕ) → List Store → Type 0
+    pub path : HasPath s form at area h t begun Inside Done
+
+pub has_course : (form : Form) → IsFormed form
+    → ((s : Setting) (at : ℕ) (area : Area) (h t : ℕ) (begun : History)
+    → AreHeld (code_of s.program.pages) at form.words → AreSlots form.slots
+    → IsBlockPlace s form at area h t begun → SomePath s form at area h t begun) → HasCourse form
+has_course form formed paths = record {
+  formed = formed;
+  course = λ s at area h t begun held slots place.
+      let its = paths s at area h t begun held slots place in
+      course_of s form at area h t begun its.Inside its.Done formed place its.path;
+}

@@ -9,6 +9,7 @@ use Rattle.std.proofs.lemmas.Bool.{and_parts, eqb-false, eqb-true, false≢true,
 use Rattle.std.proofs.lemmas.Bool.{not-true}
 use Rattle.mach_types.specs.Kernel.Areas.{is_inside}
 use Rattle.mach_types.specs.declared.events.Choice.{Choice}
+use Rattle.mach_types.specs.declared.events.Choice.TheVariants as asked
 use Rattle.mach_types.specs.declared.events.Entry.{Entry}
 use Rattle.mach_types.specs.declared.events.Kind.{Kind}
 use Rattle.mach_types.specs.declared.events.Kind.TheVariants as kinds
@@ -41,10 +42,25 @@ line choice = record { hart = record { 0 = 0 }; choice = choice; check = None }
 abbrev pub entry : Kind → ℕ → ℕ → Entry
 entry k t pc = record { hart = record { 0 = 0 }; kind = k; tid = record { 0 = t }; pc = pc }
 
--- so many instructions of thread 1, one word behind the other, from an address on
+-- so many lines that ask for an instruction
+abbrev pub execs : ℕ → List Ask
+execs n = replicate n (line asked.Exec)
+
+-- so many instructions of a thread, one word behind the other, from an address on; and of thread 1
+abbrev pub walk_of : ℕ → ℕ → ℕ → List Entry
+walk_of t pc zero = []
+walk_of t pc (suc n) = entry kinds.Exec t pc ∷ walk_of t (pc + 4) n
+
 abbrev pub walk : ℕ → ℕ → List Entry
-walk pc zero = []
-walk pc (suc n) = entry kinds.Exec 1 pc ∷ walk (pc + 4) n
+walk = walk_of 1
+
+-- the area that the programs register, and the registers of a block of theirs, by that of the value and the
+-- address of its descriptor
+abbrev pub own_area : Area
+own_area = record { at = 0x20000; sig = 0xF1401073 }
+
+abbrev pub slots_with : ℕ → ℕ → Slots
+slots_with value table = record { area = 8; cells = 9; value = value; table = table }
 
 -- a page of data
 abbrev pub data_at : ℕ → List ℕ → ImagePage
@@ -69,7 +85,7 @@ abbrev pub AreThere : (ℕ → Option Inst) → ℕ → List (Option Inst) → T
 AreThere reads from [] = Unit {0}
 AreThere reads from (o ∷ rest) = (reads from ≡ o) × AreThere reads (from + 4) rest
 
-word_is : (reads : ℕ → Option Inst) (block : List (Option Inst)) (from : ℕ) → AreThere reads from block
+pub word_is : (reads : ℕ → Option Inst) (block : List (Option Inst)) (from : ℕ) → AreThere reads from block
     → (k : ℕ) (i : Inst) → slice_get block k ≡ Some (Some i) → reads (from + 4 * k) ≡ Some i
 word_is reads [] from there k i is = absurd cc
 word_is reads (o ∷ rest) from there zero i is =

@@ -232,12 +232,8 @@ ring_put_tested count p = record {
 
 abbrev pub ring_get_tested : (count : ℕ) (p : Slots) → IsTested (ring_get_form count p)
 ring_get_tested count p = record {
-  spans = λ s t begun. ring_spans (ring_at (cells_of s p t begun) 0) (value_of s p t begun) count;
-  covers = λ s area t begun a has.
-      last_three (among area.at 32 a) (among (ring_at (cells_of s p t begun) 0) 16 a)
-      (among (ring_at (cells_of s p t begun) 0 + 64) 4096 a) (among (value_of s p t begun) (8 * count) a) has;
-  is_apart = λ s area t begun.
-      is_ring_apart s area.at (ring_at (cells_of s p t begun) 0) (value_of s p t begun) count begun;
-  apart = λ s area t begun is.
-      ring_apart s area.at (ring_at (cells_of s p t begun) 0) (value_of s p t begun) count begun is;
+  spans = (ring_put_tested count p).spans;
+  covers = (ring_put_tested count p).covers;
+  is_apart = (ring_put_tested count p).is_apart;
+  apart = (ring_put_tested count p).apart;
 }

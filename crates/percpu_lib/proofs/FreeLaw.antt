@@ -1,13 +1,12 @@
 -- A sequence of a free block is one run of its thread alone, and so puts its value into the pool once or not
 -- at all.
-use Rattle.std.proofs.Common.{◌≡◌, ◌≢◌, ℕ, ◌+◌, ◌*◌, ◌<◌, ◌≤◌, ◌%◌, ◌^◌, List, [], ◌∷◌, ◌++◌, refl, sym, ap}
+use Rattle.std.proofs.Common.{◌≡◌, ◌≢◌, ℕ, ◌+◌, ◌*◌, ◌<◌, ◌≤◌, ◌%◌, ◌^◌, List, [], ◌∷◌, ◌++◌, refl, ap}
 use Rattle.std.proofs.Common.{◌∙◌, subst, arith, Bool, true, false, not, ◌&&◌, ◌||◌, eqb, Option, Some, inl}
-use Rattle.std.proofs.Common.{inr, ◌⊎◌, append-nil, pos, unwrap_or, rules}
+use Rattle.std.proofs.Common.{inr, ◌⊎◌, pos, unwrap_or}
 use Rattle.std.proofs.lemmas.Bool.{eqb-false, eqb-true}
 use Rattle.mach_types.specs.Bytes.{byte_over, each_byte, word_at}
 use Rattle.mach_types.specs.Kernel.Areas.{is_inside}
 use Rattle.mach_types.specs.Registers.{register}
-use Rattle.mach_types.specs.declared.registers.Regs.{Regs}
 use Rattle.mach_types.specs.declared.sequences.Area.{Area}
 use Rattle.mach_types.specs.declared.user_memory.Store.{Store}
 use Rattle.rv_inst.specs.Execution.{seen_byte}
@@ -15,68 +14,45 @@ use Rattle.rv_inst.specs.Memory.{loaded}
 use Rattle.rv_inst.specs.declared.instruction.Inst.TheVariants as inst
 use Rattle.alone.specs.Alone.{Stand}
 use Rattle.alone.specs.Paths.{KeepsOn, Path}
-use Rattle.alone.specs.Temps.{IsAt, is_scratch, put}
+use Rattle.alone.specs.Temps.{IsAt, put}
 use Rattle.alone.proofs.Laws.{loaded_word, word_unchanged}
 use Rattle.alone.proofs.Means.{means_add, means_addi, means_ld, means_sd, means_slli}
 use Rattle.alone.proofs.Paths.{leaves, then_branch, then_load, then_next, then_store}
 use Rattle.alone_laws.specs.Blocks.{among}
-use Rattle.alone_laws.specs.Spans.{alone_from, code_of, seen_at, sees}
-use Rattle.alone_laws.proofs.Sequences.{each_among}
-use Rattle.alone_laws.proofs.Steps.{each_implies}
+use Rattle.alone_laws.specs.Spans.{alone_from, code_of, sees}
 use Rattle.alone_laws.proofs.StoredWords.{beside_word, some_word, stored_word}
-use Rattle.block_model.specs.History.{History, file, stores}
+use Rattle.block_model.specs.History.{History, stores}
 use Rattle.block_model.specs.Setting.{Setting}
 use Rattle.percpu_lib.specs.Forms.{IsBlockPlace}
 use Rattle.percpu_lib.specs.Frees.{Frees, FreesNoMore, fills_none, fills_slot, free_block, free_bytes}
-use Rattle.percpu_lib.specs.Frees.{free_form, free_range, frees_none, frees_slot, value_of}
-use Rattle.percpu_lib.specs.Pools.{count_of, count_seen, count_store, pool_at, slot_at, slot_store}
-use Rattle.percpu_lib.specs.Uses.{cells_of}
+use Rattle.percpu_lib.specs.Frees.{free_form, free_range, frees_none, frees_slot}
+use Rattle.percpu_lib.specs.Kinds as kind
+use Rattle.percpu_lib.specs.Pools.{count_of, count_seen, count_store, slot_at, slot_store}
 use Rattle.percpu_lib.specs.Words.{AreHeld, AreSlots, is_changed}
 use Rattle.percpu_lib.specs.declared.slots.Slots.{Slots}
-use Rattle.percpu_lib.proofs.BlockCode.{IsFormed, behind_range}
-use Rattle.percpu_lib.proofs.BlockWords.{beside_pointer, or_true}
-use Rattle.percpu_lib.proofs.CellPath.{BeginsSo, begins_of, inside_at, to_cell}
-use Rattle.percpu_lib.proofs.Changes.{area_not_changed, cells_not_changed, means_beq_not, means_beq_taken}
-use Rattle.percpu_lib.proofs.Changes.{put_other, put_same, scratch_not, some_value, value_changed}
-use Rattle.percpu_lib.proofs.CourseLaw.{HasPath, IsAfter, course_of, way}
+use Rattle.percpu_lib.proofs.BlockCode.{behind_range}
+use Rattle.percpu_lib.proofs.Beginnings.{beginning}
+use Rattle.percpu_lib.proofs.BlockWords.{beside_pointer}
+use Rattle.percpu_lib.proofs.CellPath.{inside_at, to_cell}
+use Rattle.percpu_lib.proofs.Changes.{beside_value, means_beq_not}
+use Rattle.percpu_lib.proofs.Changes.{means_beq_taken, put_same, some_value}
+use Rattle.percpu_lib.proofs.Changes.{value_beside, value_changed}
+use Rattle.percpu_lib.proofs.CourseLaw.{HasPath, IsAfter, SomePath, has_course, same_stores, same_word}
+use Rattle.percpu_lib.proofs.CourseLaw.{unstored, way}
 use Rattle.percpu_lib.proofs.Courses.{HasCourse}
-use Rattle.percpu_lib.proofs.FormedWords.{formed_of, words_fit}
-
-pub free_formed : (p : Slots) → IsFormed (free_form p)
-free_formed p =
-    formed_of (free_form p) (omega arith) (omega arith) (omega arith) (omega arith) refl refl refl
-    (inst.Addi 28 p.value (pos 0)) refl
-    (words_fit (free_form p) (omega arith) (omega arith) 0 (free_block p) (omega arith)
-    (search (rules, value_changed p)))
-
-begins_so : (p : Slots) → AreSlots p → BeginsSo (free_form p) 13 8192
-begins_so p slots =
-    begins_of (free_form p) 13 8192 refl refl refl refl (omega arith) refl refl (area_not_changed p slots)
-    (cells_not_changed p slots) (λ cpu few. omega arith)
+use Rattle.percpu_lib.proofs.FormedBlocks.{block_begins, block_formed}
+use Rattle.percpu_lib.proofs.UsedWords.{area_used, first_used, second_used_where}
 
 module _ (s : Setting) (p : Slots) (at : ℕ) (area : Area) (h t : ℕ) (begun : History)
     (held : AreHeld (code_of s.program.pages) at (free_block p)) (slots : AreSlots p)
     (place : IsBlockPlace s (free_form p) at area h t begun) where
-  abbrev old : Regs
-  old = (file s t begun).file
-
-  abbrev seen : ℕ → Option ℕ
-  seen = seen_at s h begun
-
-  abbrev pools : ℕ
-  pools = cells_of s p t begun
-
-  abbrev pool : ℕ
-  pool = pool_at pools h
+  open (beginning s p h t begun) use {old, seen, cells as pools, pool, value}
 
   abbrev count : ℕ
   count = count_of s h pools begun
 
   abbrev slot : ℕ
   slot = slot_at pool count
-
-  abbrev value : ℕ
-  value = value_of s p t begun
 
   -- the word of the count
   count_word : (w : ℕ) × (count_seen s h pools begun ≡ Some w)
@@ -113,38 +89,22 @@ module _ (s : Setting) (p : Slots) (at : ℕ) (area : Area) (h t : ℕ) (begun :
   of_slot a = not (eqb count 512) && among slot 8 a
 
   area_bytes : (a : ℕ) → among area.at 32 a ≡ true → bytes a ≡ true
-  area_bytes a is = ap (λ b. b || (among pool 8 a || of_slot a)) is
+  area_bytes = area_used area.at (λ a. among pool 8 a || of_slot a)
 
   in_count : each_byte bytes pool 8 ≡ true
-  in_count =
-      each_implies (among pool 8) bytes
-      (λ a is. ap (λ b. among area.at 32 a || (b || of_slot a)) is ∙ or_true (among area.at 32 a))
-      pool 8 (each_among pool 8 pool 8 (omega arith) (omega arith))
+  in_count = first_used area.at pool of_slot
 
   in_slot : eqb count 512 ≡ false → each_byte bytes slot 8 ≡ true
-  in_slot free =
-      each_implies (among slot 8) bytes
-      (λ a is. ap (λ c. among area.at 32 a || (among pool 8 a || (not c && among slot 8 a))) free
-      ∙ ap (λ b. among area.at 32 a || (among pool 8 a || b)) is
-      ∙ ap (λ b. among area.at 32 a || b) (or_true (among pool 8 a)) ∙ or_true (among area.at 32 a))
-      slot 8 (each_among slot 8 slot 8 (omega arith) (omega arith))
+  in_slot = second_used_where area.at pool slot (eqb count 512)
 
   here : (k : ℕ) → 5 ≤ k → k < 18 → is_inside (free_range at) (at + 4 * k) ≡ true
   here k from lt =
-      inside_at s (free_form p) at area h t begun Inside Done (free_formed p) held place k from lt
+      inside_at s (free_form p) at area h t begun Inside Done (block_formed kind.frees p) held place k from lt
 
   out : is_inside (free_range at) (at + 72) ≡ false
   out = let low = place.low in behind_range (free_form p) at 18 low (omega arith) (omega arith)
 
   -- THE PATH
-
-  -- a write to another register that the block changes leaves the value, and a write to the value leaves that
-  value_beside : (r x : ℕ) (temps : ℕ → ℕ) → is_scratch r ≡ true → put r x temps p.value ≡ temps p.value
-  value_beside r x temps is =
-      put_other r x temps p.value (λ same. scratch_not r p.value is slots.value (sym same))
-
-  beside_value : (r x : ℕ) (temps : ℕ → ℕ) → is_scratch r ≡ true → put p.value x temps r ≡ temps r
-  beside_value r x temps is = put_other p.value x temps r (scratch_not r p.value is slots.value)
 
   abbrev temps_0 : ℕ → ℕ
   temps_0 = put 5 (pools + 8192 * h) (put 5 (8192 * h) (put 6 h (register old)))
@@ -157,13 +117,14 @@ module _ (s : Setting) (p : Slots) (at : ℕ) (area : Area) (h t : ℕ) (begun :
 
   value_2 : temps_2 p.value ≡ value
   value_2 =
-      value_beside 7 512 (put 6 count temps_0) refl ∙ value_beside 6 count temps_0 refl
-      ∙ value_beside 5 (pools + 8192 * h) (put 5 (8192 * h) (put 6 h (register old))) refl
-      ∙ value_beside 5 (8192 * h) (put 6 h (register old)) refl ∙ value_beside 6 h (register old) refl
+      value_beside p slots 7 512 (put 6 count temps_0) refl ∙ value_beside p slots 6 count temps_0 refl
+      ∙ value_beside p slots 5 (pools + 8192 * h) (put 5 (8192 * h) (put 6 h (register old))) refl
+      ∙ value_beside p slots 5 (8192 * h) (put 6 h (register old)) refl
+      ∙ value_beside p slots 6 h (register old) refl
 
   value_4 : temps_4 p.value ≡ value
-  value_4 = value_beside 7 (pool + 8 * count) (put 7 (8 * count) temps_2) refl
-      ∙ value_beside 7 (8 * count) temps_2 refl ∙ value_2
+  value_4 = value_beside p slots 7 (pool + 8 * count) (put 7 (8 * count) temps_2) refl
+      ∙ value_beside p slots 7 (8 * count) temps_2 refl ∙ value_2
 
   -- the pool is full
   ends : (y : Stand) → IsAt (is_changed p) old (at + 44) temps_2 [] y → eqb count 512 ≡ true → KeepsOn w y
@@ -233,8 +194,8 @@ module _ (s : Setting) (p : Slots) (at : ℕ) (area : Area) (h t : ℕ) (begun :
       (inst.Sd 5 6 (pos 0)) (held.holds 17 (inst.Sd 5 6 (pos 0)) refl)
       pool 8 (count + 1) (at + 72)
       (λ f like. means_sd f (at + 68) 5 6 (pos 0) pool pool (count + 1) (count + 1)
-      (like.temp 5 refl ∙ beside_value 5 0 (put 6 (count + 1) temps_4) refl) (omega arith)
-      (like.temp 6 refl ∙ beside_value 6 0 (put 6 (count + 1) temps_4) refl) (omega arith))
+      (like.temp 5 refl ∙ beside_value p slots 5 0 (put 6 (count + 1) temps_4) refl) (omega arith)
+      (like.temp 6 refl ∙ beside_value p slots 6 0 (put 6 (count + 1) temps_4) refl) (omega arith))
       in_count (omega arith) (omega arith) (omega arith)
       (λ v last. leaves w (at + 72) _ _ v last out
       (inr (refl, inr (free, put_same p.value 0 (put 6 (count + 1) temps_4), refl)))))))
@@ -248,8 +209,8 @@ module _ (s : Setting) (p : Slots) (at : ℕ) (area : Area) (h t : ℕ) (begun :
   keeps =
       let low = place.low in
       let low_pool = place.apart.is_pool.low_pool in
-      to_cell s (free_form p) at area h t begun Inside Done (free_formed p) held place 13 8192
-      (begins_so p slots)
+      to_cell s (free_form p) at area h t begun Inside Done (block_formed kind.frees p) held place 13 8192
+      (block_begins kind.frees p slots)
       (inl refl) area_bytes pools refl (omega arith)
       (λ y now.
       then_load w (at + 36) _ [] y now (here 9 (omega arith) (omega arith)) (inl refl)
@@ -279,21 +240,12 @@ module _ (s : Setting) (p : Slots) (at : ℕ) (area : Area) (h t : ℕ) (begun :
   filled_count : pool_word (filled ∷ []) ≡ count_seen s h pools begun
   filled_count = beside_word seen filled pool 8 (inr (omega arith))
 
-  same_count : (temps : ℕ → ℕ) (es : List Store) (last : History) → After temps es last → es ≡ []
-      → count_seen s h pools last ≡ count_seen s h pools begun
-  same_count temps es last after none =
-      after.sees pool in_count ∙ ap pool_word none ∙ word_unchanged seen pool 8
-
-  same_stores : (temps : ℕ → ℕ) (es : List Store) (last : History) → After temps es last → es ≡ []
-      → stores h last ≡ stores h begun
-  same_stores temps es last after none =
-      after.stored ∙ ap (λ (x : List Store). stores h begun ++ x) none ∙ append-nil (stores h begun)
-
   frees : (temps : ℕ → ℕ) (es : List Store) (last : History) → After temps es last → Done temps es
       → Frees s p pools h t count begun last
   frees temps es last after (inl full) =
       frees_none (eqb-true count 512 full.0) (after.temp p.value (value_changed p) ∙ full.1)
-      (same_count temps es last after full.2) (same_stores temps es last after full.2)
+      (same_word s (free_form p) at area h t begun Inside Done temps es last after full.2 pool in_count)
+      (same_stores s (free_form p) at area h t begun Inside Done temps es last after full.2)
   frees temps es last after (inr free) =
       let few = most in
       frees_slot (eqb-false count 512 free.0) (after.temp p.value (value_changed p) ∙ free.1)
@@ -307,8 +259,10 @@ module _ (s : Setting) (p : Slots) (at : ℕ) (area : Area) (h t : ℕ) (begun :
 
   not_yet : (temps : ℕ → ℕ) (es : List Store) (last : History) → After temps es last → Inside es
       → (count_seen s h pools last ≡ count_seen s h pools begun) × FreesNoMore s p pools h t count begun last
-  not_yet temps es last after (inl none) =
-      (same_count temps es last after none, fills_none (same_stores temps es last after none))
+  not_yet temps es last after (inl none) = (
+    same_word s (free_form p) at area h t begun Inside Done temps es last after none pool in_count,
+    fills_none (same_stores s (free_form p) at area h t begun Inside Done temps es last after none),
+  )
   not_yet temps es last after (inr one) = (
     after.sees pool in_count ∙ ap pool_word one.1 ∙ filled_count,
     fills_slot (eqb-false count 512 one.0) (after.stored
@@ -325,7 +279,7 @@ module _ (s : Setting) (p : Slots) (at : ℕ) (area : Area) (h t : ℕ) (begun :
       (beside_pointer slot area.at (place.apart.slot (eqb-false count 512 free)))
 
   points : (es : List Store) → Inside es → pointer es ≡ word_at seen (area.at + 8) 8
-  points es (inl none) = ap pointer none ∙ word_unchanged seen (area.at + 8) 8
+  points es (inl none) = unstored seen es none (area.at + 8)
   points es (inr one) = ap pointer one.1 ∙ filled_pointer one.0
 
   points_done : (temps : ℕ → ℕ) (es : List Store) → Done temps es → pointer es ≡ word_at seen (area.at + 8) 8
@@ -350,12 +304,9 @@ module _ (s : Setting) (p : Slots) (at : ℕ) (area : Area) (h t : ℕ) (begun :
     whole = λ temps es last after done. record { frees = frees temps es last after done; kept = after.kept };
   }
 
+  some_path : SomePath s (free_form p) at area h t begun
+  some_path = record { Inside = Inside; Done = Done; path = path }
+
 -- the course of a free block
 pub free_course : (p : Slots) → HasCourse (free_form p)
-free_course p = record {
-  formed = free_formed p;
-  course = λ s at area h t begun held slots place.
-      course_of s (free_form p) at area h t begun (Inside s p at area h t begun held slots place)
-      (Done s p at area h t begun held slots place) (free_formed p) place
-      (path s p at area h t begun held slots place);
-}
+free_course p = has_course (free_form p) (block_formed kind.frees p) (λ s. some_path s p)

@@ -33,12 +33,14 @@ use Rattle.alone_laws.proofs.Arrivals.{IsCode, KnowsAt}
 use Rattle.alone_laws.proofs.Retrying.{AsksNothing, IsKept, asks_nothing, first_place, known_throughout}
 use Rattle.percpu_lib.specs.Forms.{Form, HoldsBlock, placed_of, range_of}
 use Rattle.percpu_lib.specs.Frees.{free_block, free_form}
+use Rattle.percpu_lib.specs.Kinds.{frees}
 use Rattle.percpu_lib.specs.Words.{AreSlots, is_changed}
 use Rattle.percpu_lib.specs.declared.slots.Slots.{Slots}
 use Rattle.percpu_lib.proofs.BlockCode.{IsInstruction, KnowsTable, before_range, it, leads_at, outcome_is}
 use Rattle.percpu_lib.proofs.Changes.{scratch_not, some_value, value_changed}
 use Rattle.percpu_lib.proofs.FormedWords.{AreFitBut, tame_at}
-use Rattle.percpu_lib.proofs.FreeLaw.{free_course, free_formed}
+use Rattle.percpu_lib.proofs.FormedBlocks.{block_formed}
+use Rattle.percpu_lib.proofs.FreeLaw.{free_course}
 use Rattle.percpu_lib.proofs.UsesLaw.{is_code}
 use Rattle.percpu_lib.proofs.WordLaws.{Leads, begins_anew, goes_on, leads_out, leaves_block, straight_of}
 
@@ -106,12 +108,12 @@ module _ (s : Setting) (past : History) (p : Slots) (at : ℕ) (area : Area) (t 
     o = outcome seen f.file f.pc r e
 
     found : IsInstruction form (free_block p) 0 k
-    found = it s form at area (free_formed p) held.stands held.low_table held.low held.low_area f e seen r is
+    found = it s form at area (block_formed frees p) held.stands held.low_table held.low held.low_area f e seen r is
         k pc below
         know.table
 
     does : o ≡ outcome seen f.file f.pc r (meaning found.i f.file f.pc)
-    does = outcome_is s form at area (free_formed p) held.stands held.low_table held.low held.low_area f e
+    does = outcome_is s form at area (block_formed frees p) held.stands held.low_table held.low held.low_area f e
         seen r is k
         found.i pc found.there
 
@@ -119,7 +121,7 @@ module _ (s : Setting) (past : History) (p : Slots) (at : ℕ) (area : Area) (t 
     does_word : (n : ℕ) (i : Inst) → k ≡ n → slice_get (free_block p) n ≡ Some (Some i)
         → o ≡ outcome seen f.file f.pc r (meaning i f.file f.pc)
     does_word n i same there =
-        outcome_is s form at area (free_formed p) held.stands held.low_table held.low held.low_area f e seen r
+        outcome_is s form at area (block_formed frees p) held.stands held.low_table held.low held.low_area f e seen r
         is k i pc
         (ap (λ m. slice_get (free_block p) m) same ∙ there)
 
@@ -181,7 +183,7 @@ module _ (s : Setting) (past : History) (p : Slots) (at : ℕ) (area : Area) (t 
       led = by_way go.0 go.1 (omega (arith, go.2, goes))
         where
           go : (n : ℕ) × Leads form k n × (o.pc ≡ at + 4 * n)
-          go = leads_at s form at area (free_formed p) held.stands held.low_table held.low held.low_area f e
+          go = leads_at s form at area (block_formed frees p) held.stands held.low_table held.low held.low_area f e
               seen r is k
               pc below know.table
 

@@ -44,11 +44,8 @@ course_of_kind frees p = free_course p
 
 -- so many words copy before the area is asked for the processor
 abbrev pub lead_of : Kind → ℕ
-lead_of adds = 0
-lead_of pushes = 0
-lead_of pops = 0
-lead_of allocs = 0
 lead_of frees = 1
+lead_of other = 0
 
 free_copies : (p : Slots) (k : ℕ) → k < 1 → IsCopy (free_form p) k
 free_copies p zero lt = record {

@@ -1,7 +1,7 @@
-pub mod AddCode
 pub mod AddExample
 pub mod AddLaw
 pub mod AllocLaw
+pub mod Beginnings
 pub mod BesideLaw
 pub mod BoundLabels
 pub mod BlockCode
@@ -11,13 +11,16 @@ pub mod BlockRetries
 pub mod BlockWords
 pub mod CellPath
 pub mod Changes
+pub mod Computing
 pub mod CourseLaw
 pub mod Courses
 pub mod Emittable
 pub mod Emitting
 pub mod ExampleParts
+pub mod ExamplePrograms
 pub mod FileCode
 pub mod FormTests
+pub mod FormedBlocks
 pub mod FormedWords
 pub mod FreeLaw
 pub mod FreeRetries
@@ -31,7 +34,6 @@ pub mod ListExample
 pub mod OfLibrary
 pub mod PoolExample
 pub mod PopLaw
-pub mod PushCode
 pub mod PushLaw
 pub mod RingData
 pub mod RingExample
@@ -53,5 +55,6 @@ pub mod ShareLaw
 pub mod ShareTests
 pub mod SignalExample
 pub mod UseTests
+pub mod UsedWords
 pub mod UsesLaw
 pub mod WordLaws

@@ -3,18 +3,12 @@
 -- once. Then it pops the node off by a pop block, and finds the list empty by another sequence of that.
 use Rattle.std.proofs.Common.{◌≡◌, ℕ, List, [], ◌∷◌, ◌++◌, replicate, take, drop, refl}
 use Rattle.std.proofs.Common.{Bool, true, eqb, Ok}
-use Rattle.mach_types.specs.Kernel.Areas.{are_readable, number_at}
 use Rattle.mach_types.specs.Registers.{register}
 use Rattle.mach_types.specs.declared.events.Choice.TheVariants as asked
 use Rattle.mach_types.specs.declared.events.Entry.{Entry}
 use Rattle.mach_types.specs.declared.events.Kind.TheVariants as kind
-use Rattle.mach_types.specs.declared.sequences.Area.{Area}
-use Rattle.rv_inst.specs.Meaning.{meaning}
-use Rattle.rv_inst.specs.Table.{row_of, rows, lui_rows, auipc_rows, jal_rows, jalr_rows, branch_rows}
-use Rattle.rv_inst.specs.Table.{load_rows, store_rows, op_imm_rows, op_imm_32_rows, op_rows, op_32_rows}
-use Rattle.rv_inst.specs.Table.{misc_mem_rows, amo_rows, system_rows}
 use Rattle.block_model.specs.Acts.{Sequence}
-use Rattle.block_model.specs.Deciding.{decide, done, history}
+use Rattle.block_model.specs.Deciding.{history}
 use Rattle.block_model.specs.History.{file}
 use Rattle.block_model.specs.Replay.{Ask, played}
 use Rattle.block_model.specs.Run.{IsBlockRun}
@@ -28,44 +22,23 @@ use Rattle.percpu_lib.specs.Pops.{pop_block, pop_form}
 use Rattle.percpu_lib.specs.Pushes.{push_block, push_form}
 use Rattle.percpu_lib.specs.Uses.{cells_of}
 use Rattle.percpu_lib.specs.declared.slots.Slots.{Slots}
+use Rattle.percpu_lib.proofs.Computing.{by_rules, by_table}
 use Rattle.percpu_lib.proofs.ExampleParts.{AreThere, IsGood, entry, found_good, is_good, line}
 use Rattle.percpu_lib.proofs.ExampleParts.{data_at, setting_of, walk}
+use Rattle.percpu_lib.proofs.ExampleParts.{execs, slots_with}
+pub use Rattle.percpu_lib.proofs.ExampleParts.{own_area as area}
+use Rattle.percpu_lib.proofs.ExamplePrograms.{list_code}
 use Rattle.percpu_lib.proofs.FormTests.{pop_tested, push_tested}
 use Rattle.percpu_lib.proofs.UseTests.{is_just}
 
--- `lui x8, 0x20`, `addi x10, x8, 0`, `addi x11, x0, 32`, `lui x13, 0xF1401`, `addi x13, x13, 0x73`, `addi
--- x17, x0, 293`, `ecall`, `addi x9, x8, 64`, `addi x18, x8, 256`; from 0x100D4 on the push block, from
--- 0x1010C on the pop block, and `jal x0, -60`; at 0x10160 and 0x10180 their descriptors
-abbrev code : List ℕ
-code =
-    0x37 ∷ 0x04 ∷ 0x02 ∷ 0x00 ∷ 0x13 ∷ 0x05 ∷ 0x04 ∷ 0x00 ∷ 0x93 ∷ 0x05 ∷ 0x00 ∷ 0x02 ∷ 0xB7 ∷ 0x16 ∷ 0x40
-    ∷ 0xF1 ∷ 0x93 ∷ 0x86 ∷ 0x36 ∷ 0x07 ∷ 0x93 ∷ 0x08 ∷ 0x50 ∷ 0x12 ∷ 0x73 ∷ 0x00 ∷ 0x00 ∷ 0x00 ∷ 0x93 ∷ 0x04
-    ∷ 0x04 ∷ 0x04 ∷ 0x13 ∷ 0x09 ∷ 0x04 ∷ 0x10 ∷ 0x83 ∷ 0x22 ∷ 0x04 ∷ 0x00 ∷ 0x37 ∷ 0x03 ∷ 0x01 ∷ 0x00 ∷ 0x13
-    ∷ 0x03 ∷ 0x03 ∷ 0x16 ∷ 0x23 ∷ 0x34 ∷ 0x64 ∷ 0x00 ∷ 0x03 ∷ 0x23 ∷ 0x44 ∷ 0x00 ∷ 0xE3 ∷ 0x16 ∷ 0x53 ∷ 0xFE
-    ∷ 0x93 ∷ 0x92 ∷ 0x62 ∷ 0x00 ∷ 0xB3 ∷ 0x82 ∷ 0x92 ∷ 0x00 ∷ 0x03 ∷ 0xB3 ∷ 0x02 ∷ 0x00 ∷ 0x23 ∷ 0x30 ∷ 0x69
-    ∷ 0x00 ∷ 0x23 ∷ 0xB0 ∷ 0x22 ∷ 0x01 ∷ 0x6F ∷ 0x00 ∷ 0xC0 ∷ 0x00 ∷ 0x73 ∷ 0x10 ∷ 0x40 ∷ 0xF1 ∷ 0x6F ∷ 0xF0
-    ∷ 0xDF ∷ 0xFC ∷ 0x83 ∷ 0x22 ∷ 0x04 ∷ 0x00 ∷ 0x37 ∷ 0x03 ∷ 0x01 ∷ 0x00 ∷ 0x13 ∷ 0x03 ∷ 0x03 ∷ 0x18 ∷ 0x23
-    ∷ 0x34 ∷ 0x64 ∷ 0x00 ∷ 0x03 ∷ 0x23 ∷ 0x44 ∷ 0x00 ∷ 0xE3 ∷ 0x16 ∷ 0x53 ∷ 0xFE ∷ 0x93 ∷ 0x92 ∷ 0x62 ∷ 0x00
-    ∷ 0xB3 ∷ 0x82 ∷ 0x92 ∷ 0x00 ∷ 0x83 ∷ 0xB9 ∷ 0x02 ∷ 0x00 ∷ 0x63 ∷ 0x86 ∷ 0x09 ∷ 0x00 ∷ 0x03 ∷ 0xB3 ∷ 0x09
-    ∷ 0x00 ∷ 0x23 ∷ 0xB0 ∷ 0x62 ∷ 0x00 ∷ 0x6F ∷ 0x00 ∷ 0xC0 ∷ 0x00 ∷ 0x73 ∷ 0x10 ∷ 0x40 ∷ 0xF1 ∷ 0x6F ∷ 0xF0
-    ∷ 0x9F ∷ 0xFC ∷ 0x6F ∷ 0xF0 ∷ 0x5F ∷ 0xFC ∷ 0x00 ∷ 0x00 ∷ 0x00 ∷ 0x00 ∷ 0x00 ∷ 0x00 ∷ 0x00 ∷ 0x00 ∷ 0x00
-    ∷ 0x00 ∷ 0x00 ∷ 0x00 ∷ 0x00 ∷ 0x00 ∷ 0x00 ∷ 0x00 ∷ 0x00 ∷ 0x00 ∷ 0x00 ∷ 0x00 ∷ 0x00 ∷ 0x00 ∷ 0x00 ∷ 0x00
-    ∷ 0x00 ∷ 0x00 ∷ 0x00 ∷ 0x00 ∷ 0xE4 ∷ 0x00 ∷ 0x01 ∷ 0x00 ∷ 0x00 ∷ 0x00 ∷ 0x00 ∷ 0x00 ∷ 0x1C ∷ 0x00 ∷ 0x00
-    ∷ 0x00 ∷ 0x00 ∷ 0x00 ∷ 0x00 ∷ 0x00 ∷ 0x08 ∷ 0x01 ∷ 0x01 ∷ 0x00 ∷ 0x00 ∷ 0x00 ∷ 0x00 ∷ 0x00 ∷ 0x00 ∷ 0x00
-    ∷ 0x00 ∷ 0x00 ∷ 0x00 ∷ 0x00 ∷ 0x00 ∷ 0x00 ∷ 0x1C ∷ 0x01 ∷ 0x01 ∷ 0x00 ∷ 0x00 ∷ 0x00 ∷ 0x00 ∷ 0x00 ∷ 0x20
-    ∷ 0x00 ∷ 0x00 ∷ 0x00 ∷ 0x00 ∷ 0x00 ∷ 0x00 ∷ 0x00 ∷ 0x44 ∷ 0x01 ∷ 0x01 ∷ 0x00 ∷ 0x00 ∷ 0x00 ∷ 0x00 ∷ 0x00 ∷ []
-
 abbrev pub setting : Setting
-setting = setting_of 0xB0 code (data_at 0x20 [] ∷ []) 0x21000
-
-abbrev pub area : Area
-area = record { at = 0x20000; sig = 0xF1401073 }
+setting = setting_of 0xB0 list_code (data_at 0x20 [] ∷ []) 0x21000
 
 abbrev pub push_slots : Slots
-push_slots = record { area = 8; cells = 9; value = 18; table = 0x10160 }
+push_slots = slots_with 18 0x10160
 
 abbrev pub pop_slots : Slots
-pop_slots = record { area = 8; cells = 9; value = 19; table = 0x10180 }
+pop_slots = slots_with 19 0x10180
 
 abbrev pub push_at : ℕ
 push_at = 0x100D4
@@ -86,12 +59,11 @@ the_pop = placed_of (pop_form pop_slots) pop_at area
 abbrev lines : List Ask
 lines =
     line (asked.Run (record { 0 = 1 }))
-    ∷ (replicate 19 (line asked.Exec)
+    ∷ (execs 19
     ++ (replicate 2 (line asked.Drain)
     ++ line asked.Preempt
     ∷ line (asked.Run (record { 0 = 1 }))
-    ∷ (replicate 37 (line asked.Exec)
-    ++ [])))
+    ∷ execs 37))
 
 abbrev pub log : List Entry
 log =
@@ -100,18 +72,18 @@ log =
     ∷ walk 0x100D4 12 ++ walk 0x1010C 13 ++ entry kind.Exec 1 0x10148 ∷ walk 0x1010C 10
 
 is_played : played setting lines ≡ Ok log
-unfolding played decide history done meaning row_of rows lui_rows auipc_rows jal_rows jalr_rows branch_rows load_rows store_rows op_imm_rows op_imm_32_rows op_rows op_32_rows misc_mem_rows amo_rows system_rows are_readable number_at
+unfolding played by_rules
 is_played = refl
 
 is_run : IsBlockRun setting log
 is_run = (played_is_run setting lines log is_played).0
 
 push_there : AreThere (code_of setting.program.pages) push_at (push_block push_slots)
-unfolding row_of rows lui_rows auipc_rows jal_rows jalr_rows branch_rows load_rows store_rows op_imm_rows op_imm_32_rows op_rows op_32_rows misc_mem_rows amo_rows system_rows
+unfolding by_table
 push_there = (refl, (refl, (refl, (refl, (refl, (refl, (refl, (refl, (refl, (refl, (refl, (refl, (refl, (refl, tt))))))))))))))
 
 pop_there : AreThere (code_of setting.program.pages) pop_at (pop_block pop_slots)
-unfolding row_of rows lui_rows auipc_rows jal_rows jalr_rows branch_rows load_rows store_rows op_imm_rows op_imm_32_rows op_rows op_32_rows misc_mem_rows amo_rows system_rows
+unfolding by_table
 pop_there = (refl, (refl, (refl, (refl, (refl, (refl, (refl, (refl, (refl, (refl, (refl, (refl, (refl, (refl, (refl, tt)))))))))))))))
 
 -- the push: the node is the head
@@ -124,7 +96,7 @@ push_fits q = is_just (cell_seen setting 0 (cells_of setting push_slots q.thread
 push_good : is_good setting (push_form push_slots) (push_tested push_slots) push_at area 1 (the_pop ∷ [])
     push_fits
     (history setting push_log) ≡ true
-unfolding decide history done meaning row_of rows lui_rows auipc_rows jal_rows jalr_rows branch_rows load_rows store_rows op_imm_rows op_imm_32_rows op_rows op_32_rows misc_mem_rows amo_rows system_rows are_readable number_at
+unfolding by_rules
 push_good = refl
 
 pub push_used : IsGood setting push_log (push_form push_slots) push_at area (the_pop ∷ []) push_fits
@@ -141,7 +113,7 @@ pop_fits q = eqb (register (file setting q.thread q.reached).file 19) 0x20100
 
 pop_good : is_good setting (pop_form pop_slots) (pop_tested pop_slots) pop_at area 1 (the_push ∷ []) pop_fits
     (history setting pop_log) ≡ true
-unfolding decide history done meaning row_of rows lui_rows auipc_rows jal_rows jalr_rows branch_rows load_rows store_rows op_imm_rows op_imm_32_rows op_rows op_32_rows misc_mem_rows amo_rows system_rows are_readable number_at
+unfolding by_rules
 pop_good = refl
 
 pub pop_used : IsGood setting pop_log (pop_form pop_slots) pop_at area (the_push ∷ []) pop_fits
@@ -159,7 +131,7 @@ empty_fits q = eqb (register (file setting q.thread q.reached).file 19) 0
 empty_good : is_good setting (pop_form pop_slots) (pop_tested pop_slots) pop_at area 1 (the_push ∷ [])
     empty_fits
     (history setting empty_log) ≡ true
-unfolding decide history done meaning row_of rows lui_rows auipc_rows jal_rows jalr_rows branch_rows load_rows store_rows op_imm_rows op_imm_32_rows op_rows op_32_rows misc_mem_rows amo_rows system_rows are_readable number_at
+unfolding by_rules
 empty_good = refl
 
 pub empty_used : IsGood setting empty_log (pop_form pop_slots) pop_at area (the_push ∷ []) empty_fits

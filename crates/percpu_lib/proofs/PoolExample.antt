@@ -5,18 +5,12 @@
 use Rattle.std.proofs.Common.{◌≡◌, ℕ, ◌<◌, ◌^◌, List, [], ◌∷◌, ◌++◌, replicate, take, drop, refl, ltb}
 use Rattle.std.proofs.lemmas.Bool.{ltb-true}
 use Rattle.std.proofs.Common.{Bool, true, ◌&&◌, eqb, Ok}
-use Rattle.mach_types.specs.Kernel.Areas.{are_readable, number_at}
 use Rattle.mach_types.specs.Registers.{register}
 use Rattle.mach_types.specs.declared.events.Choice.TheVariants as asked
 use Rattle.mach_types.specs.declared.events.Entry.{Entry}
 use Rattle.mach_types.specs.declared.events.Kind.TheVariants as kind
-use Rattle.mach_types.specs.declared.sequences.Area.{Area}
-use Rattle.rv_inst.specs.Meaning.{meaning}
-use Rattle.rv_inst.specs.Table.{row_of, rows, lui_rows, auipc_rows, jal_rows, jalr_rows, branch_rows}
-use Rattle.rv_inst.specs.Table.{load_rows, store_rows, op_imm_rows, op_imm_32_rows, op_rows, op_32_rows}
-use Rattle.rv_inst.specs.Table.{misc_mem_rows, amo_rows, system_rows}
 use Rattle.block_model.specs.Acts.{Sequence}
-use Rattle.block_model.specs.Deciding.{decide, done, history}
+use Rattle.block_model.specs.Deciding.{history}
 use Rattle.block_model.specs.History.{file}
 use Rattle.block_model.specs.Replay.{Ask, played}
 use Rattle.block_model.specs.Run.{IsBlockRun}
@@ -32,52 +26,28 @@ use Rattle.percpu_lib.specs.Pools.{count_seen, pool_at, slot_at}
 use Rattle.percpu_lib.specs.Pushes.{word_seen}
 use Rattle.percpu_lib.specs.Uses.{cells_of}
 use Rattle.percpu_lib.specs.declared.slots.Slots.{Slots}
+use Rattle.percpu_lib.proofs.Computing.{by_rules, by_table}
 use Rattle.percpu_lib.proofs.ExampleParts.{AreThere, IsGood, IsUsedSo, entry, found_good, is_good, line}
 use Rattle.percpu_lib.proofs.ExampleParts.{used_so, data_at, setting_of, walk}
+use Rattle.percpu_lib.proofs.ExampleParts.{execs, slots_with}
+pub use Rattle.percpu_lib.proofs.ExampleParts.{own_area as area}
+use Rattle.percpu_lib.proofs.ExamplePrograms.{pool_code}
 use Rattle.percpu_lib.proofs.FormTests.{alloc_tested, free_tested}
 use Rattle.percpu_lib.proofs.RetryParts.{is_retried, retried_so}
 use Rattle.percpu_lib.proofs.UseTests.{is_just}
 
--- `lui x8, 0x20`, `addi x10, x8, 0`, `addi x11, x0, 32`, `lui x13, 0xF1401`, `addi x13, x13, 0x73`, `addi
--- x17, x0, 293`, `ecall`, `addi x9, x8, 64`, `addi x18, x0, 42`; from 0x100D4 on the free block, from 0x1012C
--- on the alloc block, and `jal x0, -76`; at 0x10180 and 0x101A0 their descriptors
-abbrev code : List ℕ
-code =
-    0x37 ∷ 0x04 ∷ 0x02 ∷ 0x00 ∷ 0x13 ∷ 0x05 ∷ 0x04 ∷ 0x00 ∷ 0x93 ∷ 0x05 ∷ 0x00 ∷ 0x02 ∷ 0xB7 ∷ 0x16 ∷ 0x40
-    ∷ 0xF1 ∷ 0x93 ∷ 0x86 ∷ 0x36 ∷ 0x07 ∷ 0x93 ∷ 0x08 ∷ 0x50 ∷ 0x12 ∷ 0x73 ∷ 0x00 ∷ 0x00 ∷ 0x00 ∷ 0x93 ∷ 0x04
-    ∷ 0x04 ∷ 0x04 ∷ 0x13 ∷ 0x09 ∷ 0xA0 ∷ 0x02 ∷ 0x13 ∷ 0x0E ∷ 0x09 ∷ 0x00 ∷ 0x83 ∷ 0x22 ∷ 0x04 ∷ 0x00 ∷ 0x37
-    ∷ 0x03 ∷ 0x01 ∷ 0x00 ∷ 0x13 ∷ 0x03 ∷ 0x03 ∷ 0x18 ∷ 0x23 ∷ 0x34 ∷ 0x64 ∷ 0x00 ∷ 0x03 ∷ 0x23 ∷ 0x44 ∷ 0x00
-    ∷ 0xE3 ∷ 0x14 ∷ 0x53 ∷ 0xFE ∷ 0x93 ∷ 0x92 ∷ 0xD2 ∷ 0x00 ∷ 0xB3 ∷ 0x82 ∷ 0x92 ∷ 0x00 ∷ 0x03 ∷ 0xB3 ∷ 0x02
-    ∷ 0x00 ∷ 0x93 ∷ 0x03 ∷ 0x00 ∷ 0x20 ∷ 0x63 ∷ 0x0E ∷ 0x73 ∷ 0x00 ∷ 0x93 ∷ 0x13 ∷ 0x33 ∷ 0x00 ∷ 0xB3 ∷ 0x83
-    ∷ 0x53 ∷ 0x00 ∷ 0x23 ∷ 0xB0 ∷ 0x23 ∷ 0x05 ∷ 0x13 ∷ 0x03 ∷ 0x13 ∷ 0x00 ∷ 0x13 ∷ 0x09 ∷ 0x00 ∷ 0x00 ∷ 0x23
-    ∷ 0xB0 ∷ 0x62 ∷ 0x00 ∷ 0x6F ∷ 0x00 ∷ 0x00 ∷ 0x01 ∷ 0x73 ∷ 0x10 ∷ 0x40 ∷ 0xF1 ∷ 0x13 ∷ 0x09 ∷ 0x0E ∷ 0x00
-    ∷ 0x6F ∷ 0xF0 ∷ 0xDF ∷ 0xFA ∷ 0x83 ∷ 0x22 ∷ 0x04 ∷ 0x00 ∷ 0x37 ∷ 0x03 ∷ 0x01 ∷ 0x00 ∷ 0x13 ∷ 0x03 ∷ 0x03
-    ∷ 0x1A ∷ 0x23 ∷ 0x34 ∷ 0x64 ∷ 0x00 ∷ 0x03 ∷ 0x23 ∷ 0x44 ∷ 0x00 ∷ 0xE3 ∷ 0x16 ∷ 0x53 ∷ 0xFE ∷ 0x93 ∷ 0x92
-    ∷ 0xD2 ∷ 0x00 ∷ 0xB3 ∷ 0x82 ∷ 0x92 ∷ 0x00 ∷ 0x03 ∷ 0xB3 ∷ 0x02 ∷ 0x00 ∷ 0x93 ∷ 0x09 ∷ 0x00 ∷ 0x00 ∷ 0x63
-    ∷ 0x0C ∷ 0x03 ∷ 0x00 ∷ 0x13 ∷ 0x03 ∷ 0xF3 ∷ 0xFF ∷ 0x93 ∷ 0x13 ∷ 0x33 ∷ 0x00 ∷ 0xB3 ∷ 0x83 ∷ 0x53 ∷ 0x00
-    ∷ 0x83 ∷ 0xB9 ∷ 0x03 ∷ 0x04 ∷ 0x23 ∷ 0xB0 ∷ 0x62 ∷ 0x00 ∷ 0x6F ∷ 0x00 ∷ 0xC0 ∷ 0x00 ∷ 0x73 ∷ 0x10 ∷ 0x40
-    ∷ 0xF1 ∷ 0x6F ∷ 0xF0 ∷ 0x9F ∷ 0xFB ∷ 0x6F ∷ 0xF0 ∷ 0x5F ∷ 0xFB ∷ 0x00 ∷ 0x00 ∷ 0x00 ∷ 0x00 ∷ 0x00 ∷ 0x00
-    ∷ 0x00 ∷ 0x00 ∷ 0x00 ∷ 0x00 ∷ 0x00 ∷ 0x00 ∷ 0xE8 ∷ 0x00 ∷ 0x01 ∷ 0x00 ∷ 0x00 ∷ 0x00 ∷ 0x00 ∷ 0x00 ∷ 0x34
-    ∷ 0x00 ∷ 0x00 ∷ 0x00 ∷ 0x00 ∷ 0x00 ∷ 0x00 ∷ 0x00 ∷ 0x24 ∷ 0x01 ∷ 0x01 ∷ 0x00 ∷ 0x00 ∷ 0x00 ∷ 0x00 ∷ 0x00
-    ∷ 0x00 ∷ 0x00 ∷ 0x00 ∷ 0x00 ∷ 0x00 ∷ 0x00 ∷ 0x00 ∷ 0x00 ∷ 0x3C ∷ 0x01 ∷ 0x01 ∷ 0x00 ∷ 0x00 ∷ 0x00 ∷ 0x00
-    ∷ 0x00 ∷ 0x30 ∷ 0x00 ∷ 0x00 ∷ 0x00 ∷ 0x00 ∷ 0x00 ∷ 0x00 ∷ 0x00 ∷ 0x74 ∷ 0x01 ∷ 0x01 ∷ 0x00 ∷ 0x00 ∷ 0x00
-    ∷ 0x00 ∷ 0x00 ∷ []
-
 -- such a program, with these bytes of data
 abbrev pub setting_with : List ℕ → Setting
-setting_with bytes = setting_of 0xB0 code (data_at 0x20 bytes ∷ []) 0x21000
+setting_with bytes = setting_of 0xB0 pool_code (data_at 0x20 bytes ∷ []) 0x21000
 
 abbrev pub setting : Setting
 setting = setting_with []
 
-abbrev pub area : Area
-area = record { at = 0x20000; sig = 0xF1401073 }
-
 abbrev pub free_slots : Slots
-free_slots = record { area = 8; cells = 9; value = 18; table = 0x10180 }
+free_slots = slots_with 18 0x10180
 
 abbrev pub alloc_slots : Slots
-alloc_slots = record { area = 8; cells = 9; value = 19; table = 0x101A0 }
+alloc_slots = slots_with 19 0x101A0
 
 abbrev pub free_at : ℕ
 free_at = 0x100D4
@@ -98,12 +68,11 @@ the_alloc = placed_of (alloc_form alloc_slots) alloc_at area
 abbrev lines : List Ask
 lines =
     line (asked.Run (record { 0 = 1 }))
-    ∷ (replicate 26 (line asked.Exec)
+    ∷ (execs 26
     ++ (replicate 2 (line asked.Drain)
     ++ line asked.Preempt
     ∷ line (asked.Run (record { 0 = 1 }))
-    ∷ (replicate 50 (line asked.Exec)
-    ++ [])))
+    ∷ execs 50))
 
 abbrev pub log : List Entry
 log =
@@ -112,18 +81,18 @@ log =
     ++ walk 0x1012C 17 ++ entry kind.Exec 1 0x10178 ∷ walk 0x1012C 11
 
 is_played : played setting lines ≡ Ok log
-unfolding played decide history done meaning row_of rows lui_rows auipc_rows jal_rows jalr_rows branch_rows load_rows store_rows op_imm_rows op_imm_32_rows op_rows op_32_rows misc_mem_rows amo_rows system_rows are_readable number_at
+unfolding played by_rules
 is_played = refl
 
 is_run : IsBlockRun setting log
 is_run = (played_is_run setting lines log is_played).0
 
 free_there : AreThere (code_of setting.program.pages) free_at (free_block free_slots)
-unfolding row_of rows lui_rows auipc_rows jal_rows jalr_rows branch_rows load_rows store_rows op_imm_rows op_imm_32_rows op_rows op_32_rows misc_mem_rows amo_rows system_rows
+unfolding by_table
 free_there = (refl, (refl, (refl, (refl, (refl, (refl, (refl, (refl, (refl, (refl, (refl, (refl, (refl, (refl, (refl, (refl, (refl, (refl, (refl, (refl, (refl, (refl, tt))))))))))))))))))))))
 
 alloc_there : AreThere (code_of setting.program.pages) alloc_at (alloc_block alloc_slots)
-unfolding row_of rows lui_rows auipc_rows jal_rows jalr_rows branch_rows load_rows store_rows op_imm_rows op_imm_32_rows op_rows op_32_rows misc_mem_rows amo_rows system_rows
+unfolding by_table
 alloc_there = (refl, (refl, (refl, (refl, (refl, (refl, (refl, (refl, (refl, (refl, (refl, (refl, (refl, (refl, (refl, (refl, (refl, (refl, (refl, tt)))))))))))))))))))
 
 -- the free: the first slot is 42
@@ -137,7 +106,7 @@ free_fits q = is_just (word_seen setting 0 (slot_at (pool_at (cells_of setting f
 free_good : is_good setting (free_form free_slots) (free_tested free_slots) free_at area 1 (the_alloc ∷ [])
     free_fits
     (history setting free_log) ≡ true
-unfolding decide history done meaning row_of rows lui_rows auipc_rows jal_rows jalr_rows branch_rows load_rows store_rows op_imm_rows op_imm_32_rows op_rows op_32_rows misc_mem_rows amo_rows system_rows are_readable number_at
+unfolding by_rules
 free_good = refl
 
 pub free_used : IsGood setting free_log (free_form free_slots) free_at area (the_alloc ∷ []) free_fits
@@ -156,7 +125,7 @@ alloc_fits q = eqb (register (file setting q.thread q.reached).file 19) 42
 alloc_good : is_good setting (alloc_form alloc_slots) (alloc_tested alloc_slots) alloc_at area 1
     (the_free ∷ []) alloc_fits
     (history setting alloc_log) ≡ true
-unfolding decide history done meaning row_of rows lui_rows auipc_rows jal_rows jalr_rows branch_rows load_rows store_rows op_imm_rows op_imm_32_rows op_rows op_32_rows misc_mem_rows amo_rows system_rows are_readable number_at
+unfolding by_rules
 alloc_good = refl
 
 pub alloc_used : IsGood setting alloc_log (alloc_form alloc_slots) alloc_at area (the_free ∷ []) alloc_fits
@@ -175,7 +144,7 @@ none_fits q = eqb (register (file setting q.thread q.reached).file 19) 0
 none_good : is_good setting (alloc_form alloc_slots) (alloc_tested alloc_slots) alloc_at area 1
     (the_free ∷ []) none_fits
     (history setting none_log) ≡ true
-unfolding decide history done meaning row_of rows lui_rows auipc_rows jal_rows jalr_rows branch_rows load_rows store_rows op_imm_rows op_imm_32_rows op_rows op_32_rows misc_mem_rows amo_rows system_rows are_readable number_at
+unfolding by_rules
 none_good = refl
 
 pub none_used : IsGood setting none_log (alloc_form alloc_slots) alloc_at area (the_free ∷ []) none_fits
@@ -200,7 +169,7 @@ rest = take 18 (drop 33 log)
 
 comes_back : is_retried setting the_free 1 first_time (take 19 (drop 10 log)) (take 2 (drop 29 log))
     (take 2 (drop 31 log)) ≡ true
-unfolding decide history done meaning row_of rows lui_rows auipc_rows jal_rows jalr_rows branch_rows load_rows store_rows op_imm_rows op_imm_32_rows op_rows op_32_rows misc_mem_rows amo_rows system_rows are_readable number_at
+unfolding by_rules
 comes_back = refl
 
 pub retried : Retries setting the_free 1 first_time anew
@@ -216,14 +185,14 @@ used_again =
     (run_before setting (take 51 log) (drop 51 log) is_run) free_good refl free_there refl
 
 small_there : ltb (register (file setting 1 (history setting first_time)).file 18) (2 ^ 64) ≡ true
-unfolding decide history done meaning row_of rows lui_rows auipc_rows jal_rows jalr_rows branch_rows load_rows store_rows op_imm_rows op_imm_32_rows op_rows op_32_rows misc_mem_rows amo_rows system_rows are_readable number_at
+unfolding by_rules
 small_there = refl
 
 pub small_value : register (file setting 1 (history setting first_time)).file 18 < 2 ^ 64
 small_value = ltb-true (register (file setting 1 (history setting first_time)).file 18) (2 ^ 64) small_there
 
 pub at_label : (file setting 1 (history setting anew)).pc ≡ free_at
-unfolding decide history done meaning row_of rows lui_rows auipc_rows jal_rows jalr_rows branch_rows load_rows store_rows op_imm_rows op_imm_32_rows op_rows op_32_rows misc_mem_rows amo_rows system_rows are_readable number_at
+unfolding by_rules
 at_label = refl
 
 -- A FULL POOL
@@ -233,18 +202,18 @@ abbrev pub full_setting : Setting
 full_setting = setting_with (replicate 0x40 0 ++ 0x00 ∷ 0x02 ∷ [])
 
 abbrev full_lines : List Ask
-full_lines = line (asked.Run (record { 0 = 1 })) ∷ replicate 21 (line asked.Exec)
+full_lines = line (asked.Run (record { 0 = 1 })) ∷ execs 21
 
 abbrev pub full_log : List Entry
 full_log =
     entry kind.Run 1 0x100B0 ∷ walk 0x100B0 21
 
 full_played : played full_setting full_lines ≡ Ok full_log
-unfolding played decide history done meaning row_of rows lui_rows auipc_rows jal_rows jalr_rows branch_rows load_rows store_rows op_imm_rows op_imm_32_rows op_rows op_32_rows misc_mem_rows amo_rows system_rows are_readable number_at
+unfolding played by_rules
 full_played = refl
 
 full_there : AreThere (code_of full_setting.program.pages) free_at (free_block free_slots)
-unfolding row_of rows lui_rows auipc_rows jal_rows jalr_rows branch_rows load_rows store_rows op_imm_rows op_imm_32_rows op_rows op_32_rows misc_mem_rows amo_rows system_rows
+unfolding by_table
 full_there = (refl, (refl, (refl, (refl, (refl, (refl, (refl, (refl, (refl, (refl, (refl, (refl, (refl, (refl, (refl, (refl, (refl, (refl, (refl, (refl, (refl, (refl, tt))))))))))))))))))))))
 
 abbrev pub full_fits : Sequence → Bool
@@ -255,7 +224,7 @@ full_fits q =
 full_good : is_good full_setting (free_form free_slots) (free_tested free_slots) free_at area 1
     (the_alloc ∷ []) full_fits
     (history full_setting full_log) ≡ true
-unfolding decide history done meaning row_of rows lui_rows auipc_rows jal_rows jalr_rows branch_rows load_rows store_rows op_imm_rows op_imm_32_rows op_rows op_32_rows misc_mem_rows amo_rows system_rows are_readable number_at
+unfolding by_rules
 full_good = refl
 
 pub full_used : IsGood full_setting full_log (free_form free_slots) free_at area (the_alloc ∷ []) full_fits

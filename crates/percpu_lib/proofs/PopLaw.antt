@@ -1,12 +1,11 @@
 -- A sequence of a pop block is one run of its thread alone, and so pops once or not at all.
 use Rattle.std.proofs.Common.{◌≡◌, ◌≢◌, ℕ, ◌+◌, ◌*◌, ◌<◌, ◌≤◌, ◌%◌, ◌^◌, List, [], ◌∷◌, ◌++◌, refl, sym, ap}
 use Rattle.std.proofs.Common.{◌∙◌, subst, arith, Bool, true, false, not, ◌&&◌, ◌||◌, eqb, Option, Some, inl}
-use Rattle.std.proofs.Common.{inr, ◌⊎◌, append-nil, pos, unwrap_or, rules}
+use Rattle.std.proofs.Common.{inr, ◌⊎◌, pos, unwrap_or}
 use Rattle.std.proofs.lemmas.Bool.{eqb-false, eqb-true}
 use Rattle.mach_types.specs.Bytes.{each_byte, word_at}
 use Rattle.mach_types.specs.Kernel.Areas.{is_inside}
 use Rattle.mach_types.specs.Registers.{register}
-use Rattle.mach_types.specs.declared.registers.Regs.{Regs}
 use Rattle.mach_types.specs.declared.sequences.Area.{Area}
 use Rattle.mach_types.specs.declared.user_memory.Store.{Store}
 use Rattle.rv_inst.specs.Execution.{seen_byte}
@@ -19,55 +18,34 @@ use Rattle.alone.proofs.Laws.{loaded_word, word_unchanged}
 use Rattle.alone.proofs.Means.{means_ld, means_sd}
 use Rattle.alone.proofs.Paths.{leaves, then_branch, then_load, then_store}
 use Rattle.alone_laws.specs.Blocks.{among}
-use Rattle.alone_laws.specs.Spans.{alone_from, code_of, seen_at, sees}
-use Rattle.alone_laws.proofs.Sequences.{each_among}
-use Rattle.alone_laws.proofs.Steps.{each_implies}
+use Rattle.alone_laws.specs.Spans.{alone_from, code_of, sees}
 use Rattle.alone_laws.proofs.StoredWords.{beside_word, some_word, stored_word}
-use Rattle.block_model.specs.History.{History, file, stores}
+use Rattle.block_model.specs.History.{History, stores}
 use Rattle.block_model.specs.Setting.{Setting}
-use Rattle.percpu_lib.specs.Adds.{cell_at, cell_seen, cell_store}
+use Rattle.percpu_lib.specs.Adds.{cell_seen, cell_store}
 use Rattle.percpu_lib.specs.Forms.{IsBlockPlace}
+use Rattle.percpu_lib.specs.Kinds as kind
 use Rattle.percpu_lib.specs.Pops.{Pops, head_of, pop_block, pop_bytes, pop_form, pop_range}
 use Rattle.percpu_lib.specs.Pops.{pops_first, pops_none}
 use Rattle.percpu_lib.specs.Pushes.{word_seen}
-use Rattle.percpu_lib.specs.Uses.{cells_of}
 use Rattle.percpu_lib.specs.Words.{AreHeld, AreSlots, is_changed}
 use Rattle.percpu_lib.specs.declared.slots.Slots.{Slots}
-use Rattle.percpu_lib.proofs.BlockCode.{IsFormed, behind_range}
-use Rattle.percpu_lib.proofs.BlockWords.{beside_pointer, or_true}
-use Rattle.percpu_lib.proofs.CellPath.{BeginsSo, begins_of, inside_at, to_cell}
-use Rattle.percpu_lib.proofs.Changes.{area_not_changed, cells_not_changed, means_beq_not, means_beq_taken}
+use Rattle.percpu_lib.proofs.BlockCode.{behind_range}
+use Rattle.percpu_lib.proofs.Beginnings.{beginning}
+use Rattle.percpu_lib.proofs.BlockWords.{beside_pointer}
+use Rattle.percpu_lib.proofs.CellPath.{inside_at, to_cell}
+use Rattle.percpu_lib.proofs.Changes.{means_beq_not, means_beq_taken}
 use Rattle.percpu_lib.proofs.Changes.{put_other, put_same, scratch_not, some_value, value_changed}
-use Rattle.percpu_lib.proofs.CourseLaw.{HasPath, IsAfter, course_of, way}
+use Rattle.percpu_lib.proofs.CourseLaw.{HasPath, IsAfter, SomePath, has_course, same_stores, same_word}
+use Rattle.percpu_lib.proofs.CourseLaw.{unstored, way}
 use Rattle.percpu_lib.proofs.Courses.{HasCourse}
-use Rattle.percpu_lib.proofs.FormedWords.{formed_of, words_fit}
-
-pub pop_formed : (p : Slots) → IsFormed (pop_form p)
-pop_formed p =
-    formed_of (pop_form p) (omega arith) (omega arith) (omega arith) (omega arith) refl refl refl
-    (inst.Lw 5 p.area (pos 0)) refl
-    (words_fit (pop_form p) (omega arith) (omega arith) 0 (pop_block p) (omega arith)
-    (search (rules, value_changed p)))
-
-begins_so : (p : Slots) → AreSlots p → BeginsSo (pop_form p) 6 64
-begins_so p slots =
-    begins_of (pop_form p) 6 64 refl refl refl refl (omega arith) refl refl (area_not_changed p slots)
-    (cells_not_changed p slots) (λ cpu few. omega arith)
+use Rattle.percpu_lib.proofs.FormedBlocks.{block_begins, block_formed}
+use Rattle.percpu_lib.proofs.UsedWords.{area_used, first_used, second_used_where}
 
 module _ (s : Setting) (p : Slots) (at : ℕ) (area : Area) (h t : ℕ) (begun : History)
     (held : AreHeld (code_of s.program.pages) at (pop_block p)) (slots : AreSlots p)
     (place : IsBlockPlace s (pop_form p) at area h t begun) where
-  abbrev old : Regs
-  old = (file s t begun).file
-
-  abbrev seen : ℕ → Option ℕ
-  seen = seen_at s h begun
-
-  abbrev cells : ℕ
-  cells = cells_of s p t begun
-
-  abbrev cell : ℕ
-  cell = cell_at cells h
+  open (beginning s p h t begun) use {old, seen, cells, cell}
 
   abbrev head : ℕ
   head = head_of s h cells begun
@@ -105,24 +83,17 @@ module _ (s : Setting) (p : Slots) (at : ℕ) (area : Area) (h t : ℕ) (begun :
   of_node a = not (eqb head 0) && among head 8 a
 
   area_bytes : (a : ℕ) → among area.at 32 a ≡ true → bytes a ≡ true
-  area_bytes a is = ap (λ b. b || (among cell 8 a || of_node a)) is
+  area_bytes = area_used area.at (λ a. among cell 8 a || of_node a)
 
   in_cell : each_byte bytes cell 8 ≡ true
-  in_cell =
-      each_implies (among cell 8) bytes
-      (λ a is. ap (λ b. among area.at 32 a || (b || of_node a)) is ∙ or_true (among area.at 32 a))
-      cell 8 (each_among cell 8 cell 8 (omega arith) (omega arith))
+  in_cell = first_used area.at cell of_node
 
   in_node : eqb head 0 ≡ false → each_byte bytes head 8 ≡ true
-  in_node some =
-      each_implies (among head 8) bytes
-      (λ a is. ap (λ c. among area.at 32 a || (among cell 8 a || (not c && among head 8 a))) some
-      ∙ ap (λ b. among area.at 32 a || (among cell 8 a || b)) is
-      ∙ ap (λ b. among area.at 32 a || b) (or_true (among cell 8 a)) ∙ or_true (among area.at 32 a))
-      head 8 (each_among head 8 head 8 (omega arith) (omega arith))
+  in_node = second_used_where area.at cell head (eqb head 0)
 
   here : (k : ℕ) → 4 ≤ k → k < 12 → is_inside (pop_range at) (at + 4 * k) ≡ true
-  here k from lt = inside_at s (pop_form p) at area h t begun Inside Done (pop_formed p) held place k from lt
+  here k from lt = inside_at s (pop_form p) at area h t begun Inside Done
+      (block_formed kind.pops p) held place k from lt
 
   out : is_inside (pop_range at) (at + 48) ≡ false
   out = let low = place.low in behind_range (pop_form p) at 12 low (omega arith) (omega arith)
@@ -149,7 +120,8 @@ module _ (s : Setting) (p : Slots) (at : ℕ) (area : Area) (h t : ℕ) (begun :
       (like.temp p.value (value_changed p) ∙ put_same p.value head temps_0) refl none (omega arith)
       (omega arith))
       (inr out)
-      (λ v last. leaves w (at + 48) _ _ v last out (inr (refl, (put_same p.value head temps_0, inl (none, refl)))))
+      (λ v last. leaves w (at + 48) _ _ v last out
+      (inr (refl, (put_same p.value head temps_0, inl (none, refl)))))
 
   -- it has one
   unlinks : (y : Stand) → IsAt (is_changed p) old (at + 36) temps_1 [] y → eqb head 0 ≡ false → KeepsOn w y
@@ -192,7 +164,8 @@ module _ (s : Setting) (p : Slots) (at : ℕ) (area : Area) (h t : ℕ) (begun :
   keeps =
       let low = place.low in
       let low_cells = place.apart.low_cells in
-      to_cell s (pop_form p) at area h t begun Inside Done (pop_formed p) held place 6 64 (begins_so p slots)
+      to_cell s (pop_form p) at area h t begun Inside Done (block_formed kind.pops p) held place 6 64
+      (block_begins kind.pops p slots)
       refl
       area_bytes cells refl (omega arith)
       (λ y now.
@@ -208,39 +181,22 @@ module _ (s : Setting) (p : Slots) (at : ℕ) (area : Area) (h t : ℕ) (begun :
 
   -- WHAT WAS DONE
 
-  same_cell : (temps : ℕ → ℕ) (es : List Store) (last : History)
-      → IsAfter s (pop_form p) at area h t begun Inside Done temps es last → es ≡ []
-      → cell_seen s h cells last ≡ cell_seen s h cells begun
-  same_cell temps es last after none =
-      after.sees cell in_cell ∙ ap (λ (x : List Store). word_at (seen_byte x seen) cell 8) none
-      ∙ word_unchanged seen cell 8
-
-  same_stores : (temps : ℕ → ℕ) (es : List Store) (last : History)
-      → IsAfter s (pop_form p) at area h t begun Inside Done temps es last → es ≡ []
-      → stores h last ≡ stores h begun
-  same_stores temps es last after none =
-      after.stored ∙ ap (λ (x : List Store). stores h begun ++ x) none ∙ append-nil (stores h begun)
-
   pops : (temps : ℕ → ℕ) (es : List Store) (last : History)
       → IsAfter s (pop_form p) at area h t begun Inside Done temps es last → Ended es
       → Pops s cells h head begun last
   pops temps es last after (inl none) =
-      pops_none (eqb-true head 0 none.0) (same_cell temps es last after none.1)
-      (same_stores temps es last after none.1)
+      pops_none (eqb-true head 0 none.0)
+      (same_word s (pop_form p) at area h t begun Inside Done temps es last after none.1 cell in_cell)
+      (same_stores s (pop_form p) at area h t begun Inside Done temps es last after none.1)
   pops temps es last after (inr some) =
       pops_first (eqb-false head 0 some.0) next_word.0 next_word.1
       (after.sees cell in_cell ∙ ap (λ (x : List Store). word_at (seen_byte x seen) cell 8) some.1
       ∙ stored_word (sees s h begun) (cell_store cells h next) (omega arith))
       (after.stored ∙ ap (λ (x : List Store). stores h begun ++ x) some.1)
 
-  points : (es : List Store) → es ≡ [] → word_at (seen_byte es seen) (area.at + 8) 8
-      ≡ word_at seen (area.at + 8) 8
-  points es none = ap (λ (x : List Store). word_at (seen_byte x seen) (area.at + 8) 8) none
-      ∙ word_unchanged seen (area.at + 8) 8
-
   points_done : (es : List Store) → Ended es
       → word_at (seen_byte es seen) (area.at + 8) 8 ≡ word_at seen (area.at + 8) 8
-  points_done es (inl none) = points es none.1
+  points_done es (inl none) = unstored seen es none.1 (area.at + 8)
   points_done es (inr some) =
       ap (λ (x : List Store). word_at (seen_byte x seen) (area.at + 8) 8) some.1
       ∙ beside_word seen (cell_store cells h next) (area.at + 8) 8
@@ -251,11 +207,11 @@ module _ (s : Setting) (p : Slots) (at : ℕ) (area : Area) (h t : ℕ) (begun :
     keeps = keeps;
     nothing = refl;
     area_bytes = area_bytes;
-    points = points;
+    points = λ es none. unstored seen es none (area.at + 8);
     points_done = λ temps es done. points_done es done.1;
     partial = λ temps es last after none. record {
-      same = same_cell temps es last after none;
-      stored = same_stores temps es last after none;
+      same = same_word s (pop_form p) at area h t begun Inside Done temps es last after none cell in_cell;
+      stored = same_stores s (pop_form p) at area h t begun Inside Done temps es last after none;
       kept = after.kept;
     };
     whole = λ temps es last after done. record {
@@ -265,12 +221,9 @@ module _ (s : Setting) (p : Slots) (at : ℕ) (area : Area) (h t : ℕ) (begun :
     };
   }
 
+  some_path : SomePath s (pop_form p) at area h t begun
+  some_path = record { Inside = Inside; Done = Done; path = path }
+
 -- the course of a pop block
 pub pop_course : (p : Slots) → HasCourse (pop_form p)
-pop_course p = record {
-  formed = pop_formed p;
-  course = λ s at area h t begun held slots place.
-      course_of s (pop_form p) at area h t begun (Inside s p at area h t begun held slots place)
-      (Done s p at area h t begun held slots place) (pop_formed p) place
-      (path s p at area h t begun held slots place);
-}
+pop_course p = has_course (pop_form p) (block_formed kind.pops p) (λ s. some_path s p)

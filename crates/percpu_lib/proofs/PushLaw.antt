@@ -1,6 +1,6 @@
 -- A sequence of a push block is one run of its thread alone, and so pushes once or not at all.
 use Rattle.std.proofs.Common.{◌≡◌, ℕ, ◌+◌, ◌*◌, ◌<◌, ◌≤◌, ◌%◌, ◌^◌, List, [], ◌∷◌, ◌++◌, refl, ap, ◌∙◌}
-use Rattle.std.proofs.Common.{arith, Bool, true, ◌||◌, Option, Some, inl, inr, ◌⊎◌, append-nil, pos}
+use Rattle.std.proofs.Common.{arith, Bool, true, ◌||◌, Some, inl, inr, ◌⊎◌, pos}
 use Rattle.mach_types.specs.Bytes.{byte_over, each_byte, word_at}
 use Rattle.mach_types.specs.Kernel.Areas.{is_inside}
 use Rattle.mach_types.specs.declared.sequences.Area.{Area}
@@ -12,45 +12,31 @@ use Rattle.alone.proofs.Laws.{loaded_word, word_unchanged}
 use Rattle.alone.proofs.Means.{means_ld, means_sd}
 use Rattle.alone.proofs.Paths.{leaves, then_load, then_store}
 use Rattle.alone_laws.specs.Blocks.{among}
-use Rattle.alone_laws.specs.Spans.{alone_from, code_of, seen_at, sees}
-use Rattle.alone_laws.proofs.Sequences.{each_among}
-use Rattle.alone_laws.proofs.Steps.{each_implies}
+use Rattle.alone_laws.specs.Spans.{alone_from, code_of, sees}
 use Rattle.alone_laws.proofs.StoredWords.{beside_word, some_word, stored_word}
 use Rattle.block_model.specs.History.{History, stores}
 use Rattle.block_model.specs.Setting.{Setting}
-use Rattle.percpu_lib.specs.Adds.{add_range, cell_at, cell_seen, cell_store}
+use Rattle.percpu_lib.specs.Adds.{add_range, cell_seen, cell_store}
 use Rattle.percpu_lib.specs.Forms.{IsBlockPlace}
-use Rattle.percpu_lib.specs.Pushes.{IsNoPush, IsWholePush, LieBeside, node_of, node_store, push_block}
+use Rattle.percpu_lib.specs.Kinds as kind
+use Rattle.percpu_lib.specs.Pushes.{IsNoPush, IsWholePush, LieBeside, node_store, push_block}
 use Rattle.percpu_lib.specs.Pushes.{push_bytes, push_form, stores_node, stores_none}
-use Rattle.percpu_lib.specs.Uses.{cells_of}
 use Rattle.percpu_lib.specs.Words.{AreHeld, AreSlots}
 use Rattle.percpu_lib.specs.declared.slots.Slots.{Slots}
 use Rattle.percpu_lib.proofs.BlockCode.{behind_range}
-use Rattle.percpu_lib.proofs.BlockWords.{beside_pointer, or_true}
-use Rattle.percpu_lib.proofs.CellPath.{BeginsSo, begins_of, inside_at, to_cell}
-use Rattle.percpu_lib.proofs.CourseLaw.{HasPath, IsAfter, course_of, way}
+use Rattle.percpu_lib.proofs.Beginnings.{beginning}
+use Rattle.percpu_lib.proofs.BlockWords.{beside_pointer}
+use Rattle.percpu_lib.proofs.CellPath.{inside_at, to_cell}
+use Rattle.percpu_lib.proofs.CourseLaw.{HasPath, IsAfter, SomePath, has_course, same_stores, same_word}
+use Rattle.percpu_lib.proofs.CourseLaw.{unstored, way}
 use Rattle.percpu_lib.proofs.Courses.{HasCourse}
-use Rattle.percpu_lib.proofs.PushCode.{push_formed}
-
-begins_so : (p : Slots) → AreSlots p → BeginsSo (push_form p) 6 64
-begins_so p slots =
-    begins_of (push_form p) 6 64 refl refl refl refl (omega arith) refl refl slots.area slots.cells
-    (λ cpu few. omega arith)
+use Rattle.percpu_lib.proofs.FormedBlocks.{block_begins, block_formed}
+use Rattle.percpu_lib.proofs.UsedWords.{area_used, first_used, second_used}
 
 module _ (s : Setting) (p : Slots) (at : ℕ) (area : Area) (h t : ℕ) (begun : History)
     (held : AreHeld (code_of s.program.pages) at (push_block p)) (slots : AreSlots p)
     (place : IsBlockPlace s (push_form p) at area h t begun) where
-  abbrev seen : ℕ → Option ℕ
-  seen = seen_at s h begun
-
-  abbrev cells : ℕ
-  cells = cells_of s p t begun
-
-  abbrev cell : ℕ
-  cell = cell_at cells h
-
-  abbrev node : ℕ
-  node = node_of s p t begun
+  open (beginning s p h t begun) use {seen, cells, cell, value as node}
 
   old_word : (w : ℕ) × (cell_seen s h cells begun ≡ Some w)
   old_word = some_word (sees s h begun) cell 8
@@ -75,28 +61,21 @@ module _ (s : Setting) (p : Slots) (at : ℕ) (area : Area) (h t : ℕ) (begun :
   bytes = push_bytes area.at cells h node
 
   area_bytes : (a : ℕ) → among area.at 32 a ≡ true → bytes a ≡ true
-  area_bytes a is = ap (λ b. b || (among cell 8 a || among node 8 a)) is
+  area_bytes = area_used area.at (λ a. among cell 8 a || among node 8 a)
 
   in_cell : each_byte bytes cell 8 ≡ true
-  in_cell =
-      each_implies (among cell 8) bytes
-      (λ a is. ap (λ b. among area.at 32 a || (b || among node 8 a)) is ∙ or_true (among area.at 32 a))
-      cell 8 (each_among cell 8 cell 8 (omega arith) (omega arith))
+  in_cell = first_used area.at cell (among node 8)
 
   in_node : each_byte bytes node 8 ≡ true
-  in_node =
-      each_implies (among node 8) bytes
-      (λ a is. ap (λ b. among area.at 32 a || (among cell 8 a || b)) is
-      ∙ ap (λ b. among area.at 32 a || b) (or_true (among cell 8 a)) ∙ or_true (among area.at 32 a))
-      node 8 (each_among node 8 node 8 (omega arith) (omega arith))
+  in_node = second_used area.at cell node
 
   keeps : KeepsOn w (alone_from s h t begun 0)
   keeps =
       let low = place.low in
       let low_cells = place.apart.cell.low_cells in
       let low_node = place.apart.low_node in
-      to_cell s (push_form p) at area h t begun Inside Done (push_formed p) held place 6 64
-      (begins_so p slots)
+      to_cell s (push_form p) at area h t begun Inside Done (block_formed kind.pushes p) held place 6 64
+      (block_begins kind.pushes p slots)
       (inl refl) area_bytes cells refl (omega arith)
       (λ y now.
       then_load w (at + 32) _ [] y now (here 8 (omega arith) (omega arith)) (inl refl)
@@ -126,7 +105,8 @@ module _ (s : Setting) (p : Slots) (at : ℕ) (area : Area) (h t : ℕ) (begun :
     where
       here : (k : ℕ) → 4 ≤ k → k < 11 → is_inside (add_range at) (at + 4 * k) ≡ true
       here k from lt =
-          inside_at s (push_form p) at area h t begun Inside Done (push_formed p) held place k from lt
+          inside_at s (push_form p) at area h t begun Inside Done
+          (block_formed kind.pushes p) held place k from lt
 
   -- the pointer of the area stays
   node_points : word_at (seen_byte (linked ∷ []) seen) (area.at + 8) 8 ≡ word_at seen (area.at + 8) 8
@@ -134,8 +114,7 @@ module _ (s : Setting) (p : Slots) (at : ℕ) (area : Area) (h t : ℕ) (begun :
 
   points : (es : List Store) → Inside es
       → word_at (seen_byte es seen) (area.at + 8) 8 ≡ word_at seen (area.at + 8) 8
-  points es (inl none) = ap (λ (x : List Store). word_at (seen_byte x seen) (area.at + 8) 8) none
-      ∙ word_unchanged seen (area.at + 8) 8
+  points es (inl none) = unstored seen es none (area.at + 8)
   points es (inr one) = ap (λ (x : List Store). word_at (seen_byte x seen) (area.at + 8) 8) one ∙ node_points
 
   -- what was done
@@ -143,10 +122,8 @@ module _ (s : Setting) (p : Slots) (at : ℕ) (area : Area) (h t : ℕ) (begun :
       → IsAfter s (push_form p) at area h t begun Inside Done temps es last → Inside es
       → IsNoPush s cells node h t begun last
   not_yet temps es last after (inl none) = record {
-    same = after.sees cell in_cell ∙ ap (λ (x : List Store). word_at (seen_byte x seen) cell 8) none
-        ∙ word_unchanged seen cell 8;
-    stored = stores_none
-        (after.stored ∙ ap (λ (x : List Store). stores h begun ++ x) none ∙ append-nil (stores h begun));
+    same = same_word s (push_form p) at area h t begun Inside Done temps es last after none cell in_cell;
+    stored = stores_none (same_stores s (push_form p) at area h t begun Inside Done temps es last after none);
     kept = after.kept;
   }
   not_yet temps es last after (inr one) = record {
@@ -197,12 +174,9 @@ module _ (s : Setting) (p : Slots) (at : ℕ) (area : Area) (h t : ℕ) (begun :
     whole = whole;
   }
 
+  some_path : SomePath s (push_form p) at area h t begun
+  some_path = record { Inside = Inside; Done = Done; path = path }
+
 -- the course of a push block
 pub push_course : (p : Slots) → HasCourse (push_form p)
-push_course p = record {
-  formed = push_formed p;
-  course = λ s at area h t begun held slots place.
-      course_of s (push_form p) at area h t begun (Inside s p at area h t begun held slots place)
-      (Done s p at area h t begun held slots place) (push_formed p) place
-      (path s p at area h t begun held slots place);
-}
+push_course p = has_course (push_form p) (block_formed kind.pushes p) (λ s. some_path s p)

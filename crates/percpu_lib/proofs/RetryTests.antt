@@ -23,11 +23,7 @@ use Rattle.alone_laws.specs.Uses.{Placed, in_block}
 abbrev is_step : Kind → Bool → Bool
 is_step kind.Exec passes = passes
 is_step kind.Drain passes = true
-is_step kind.Take passes = false
-is_step kind.Done passes = false
-is_step kind.Preempt passes = false
-is_step kind.Run passes = false
-is_step kind.Signal passes = false
+is_step other passes = false
 
 none_is : (o : Option ℕ) → is_none o ≡ true → o ≡ None
 none_is None is = refl

@@ -15,8 +15,9 @@ use Rattle.alone_laws.proofs.StoredWords.{some_word}
 use Rattle.block_model.specs.History.{History}
 use Rattle.block_model.specs.Setting.{Setting}
 use Rattle.percpu_lib.specs.Pushes.{LieBeside, word_seen}
-use Rattle.percpu_lib.specs.RingForms.{IsRingApart, IsRingKept, content, head_seen, held, ring_bytes, slot_of}
-use Rattle.percpu_lib.specs.RingForms.{tail_seen, word_of}
+use Rattle.percpu_lib.specs.RingForms.{IsRingApart, IsRingKept, content, head_seen, ring_bytes, slot_of}
+use Rattle.percpu_lib.specs.RingForms.{word_of}
+use Rattle.percpu_lib.proofs.Beginnings.{ring_seen}
 use Rattle.percpu_lib.proofs.BlockWords.{or_true}
 use Rattle.percpu_lib.proofs.RingPlaces.{AreOfRing, behind_tail, beside_back, beside_parts, head_in, near_slots}
 use Rattle.percpu_lib.proofs.RingPlaces.{other_slot, slot_in, tail_in}
@@ -29,19 +30,13 @@ module _ (s : Setting) (h : ℕ) (begun : History) (area ring value count : ℕ)
   abbrev bytes : ℕ → Bool
   bytes = ring_bytes area ring value count
 
-  abbrev head : ℕ
-  head = head_seen s h ring begun
-
-  abbrev tail : ℕ
-  tail = tail_seen s h ring begun
-
-  abbrev holds : ℕ
-  holds = held s h ring begun
+  open (ring_seen s h ring begun) use {head, tail, holds}
 
   -- THE BYTES THAT A SEQUENCE USES
 
   pub area_bytes : (a : ℕ) → among area 32 a ≡ true → bytes a ≡ true
-  area_bytes a is = ap (λ b. b || (among ring 16 a || (among (ring + 64) 4096 a || among value (8 * count) a))) is
+  area_bytes a is = ap (λ b. b || (among ring 16 a || (among (ring + 64) 4096 a || among value
+      (8 * count) a))) is
 
   pub in_ring : (from : ℕ) → AreOfRing ring from 8 → each_byte bytes from 8 ≡ true
   in_ring from (inl ends) =
@@ -86,10 +81,12 @@ module _ (s : Setting) (h : ℕ) (begun : History) (area ring value count : ℕ)
   -- the words at the value and the ring
   pub word_ring : (k at n : ℕ) → k < count → AreOfRing ring at n → LieBeside (value + 8 * k) 8 at n
   word_ring k at n lt (inl ends) =
-      beside_parts value (8 * count) ring 16 (value + 8 * k) 8 at n apart.words_ring.ends (omega arith) (omega arith)
+      beside_parts value (8 * count) ring 16 (value + 8 * k) 8 at n apart.words_ring.ends (omega arith)
+      (omega arith)
       ends.0 ends.1
   word_ring k at n lt (inr slots) =
-      beside_parts value (8 * count) (ring + 64) 4096 (value + 8 * k) 8 at n apart.words_ring.slots (omega arith)
+      beside_parts value (8 * count) (ring + 64) 4096 (value + 8 * k) 8 at n apart.words_ring.slots
+      (omega arith)
       (omega arith) slots.0 (omega arith)
 
   pub ring_word : (k at n : ℕ) → k < count → AreOfRing ring at n → LieBeside at n (value + 8 * k) 8
@@ -99,15 +96,18 @@ module _ (s : Setting) (h : ℕ) (begun : History) (area ring value count : ℕ)
   pub ring_pointer : (at : ℕ) → AreOfRing ring at 8 → LieBeside at 8 (area + 8) 8
   ring_pointer at (inl ends) =
       beside_back (area + 8) 8 at 8
-      (beside_parts area 32 ring 16 (area + 8) 8 at 8 apart.area_ring.ends (omega arith) (omega arith) ends.0 ends.1)
+      (beside_parts area 32 ring 16 (area + 8) 8 at 8 apart.area_ring.ends (omega arith)
+      (omega arith) ends.0 ends.1)
   ring_pointer at (inr slots) =
       beside_back (area + 8) 8 at 8
-      (beside_parts area 32 (ring + 64) 4096 (area + 8) 8 at 8 apart.area_ring.slots (omega arith) (omega arith) slots.0
+      (beside_parts area 32 (ring + 64) 4096 (area + 8) 8 at 8 apart.area_ring.slots (omega arith)
+      (omega arith) slots.0
       (omega arith))
 
   pub word_pointer : (k : ℕ) → k < count → LieBeside (value + 8 * k) 8 (area + 8) 8
   word_pointer k lt =
-      beside_parts value (8 * count) area 32 (value + 8 * k) 8 (area + 8) 8 apart.words_area (omega arith) (omega arith)
+      beside_parts value (8 * count) area 32 (value + 8 * k) 8 (area + 8) 8 apart.words_area (omega arith)
+      (omega arith)
       (omega arith) (omega arith)
 
   -- the slots behind the tail are no contents

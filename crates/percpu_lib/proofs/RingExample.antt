@@ -6,17 +6,12 @@
 use Rattle.std.proofs.Common.{◌≡◌, ℕ, ◌+◌, ◌-◌, ◌^◌, ◌≤◌, List, [], ◌∷◌, ◌++◌, replicate, take, drop}
 use Rattle.std.proofs.Common.{length, refl, Bool, true, ◌&&◌, Some, eqb, Ok}
 use Rattle.std.proofs.lemmas.Bool.{leb-true}
-use Rattle.mach_types.specs.Kernel.Areas.{are_readable, is_inside, number_at}
+use Rattle.mach_types.specs.Kernel.Areas.{is_inside}
 use Rattle.mach_types.specs.declared.events.Choice.TheVariants as asked
 use Rattle.mach_types.specs.declared.events.Entry.{Entry}
 use Rattle.mach_types.specs.declared.events.Kind.TheVariants as kind
-use Rattle.mach_types.specs.declared.sequences.Area.{Area}
-use Rattle.rv_inst.specs.Meaning.{meaning}
-use Rattle.rv_inst.specs.Table.{row_of, rows, lui_rows, auipc_rows, jal_rows, jalr_rows, branch_rows}
-use Rattle.rv_inst.specs.Table.{load_rows, store_rows, op_imm_rows, op_imm_32_rows, op_rows, op_32_rows}
-use Rattle.rv_inst.specs.Table.{misc_mem_rows, amo_rows, system_rows}
 use Rattle.block_model.specs.Acts.{Sequence}
-use Rattle.block_model.specs.Deciding.{decide, done, history}
+use Rattle.block_model.specs.Deciding.{history}
 use Rattle.block_model.specs.History.{file, running, stores}
 use Rattle.block_model.specs.Replay.{Ask, played}
 use Rattle.block_model.specs.Run.{IsBlockRun}
@@ -32,9 +27,13 @@ use Rattle.percpu_lib.specs.Pushes.{word_seen}
 use Rattle.percpu_lib.specs.RingForms.{get_block, put_block, ring_at, ring_get_form, ring_put_form, slot_of}
 use Rattle.percpu_lib.specs.Uses.{cells_of}
 use Rattle.percpu_lib.specs.declared.slots.Slots.{Slots}
+use Rattle.percpu_lib.proofs.Computing.{by_rules, by_table}
 use Rattle.percpu_lib.proofs.ExampleParts.{AreThere, IsFound, IsGood, IsUsedSo, entry, found_good, is_found}
 use Rattle.percpu_lib.proofs.ExampleParts.{data_at, setting_of, walk}
 use Rattle.percpu_lib.proofs.ExampleParts.{is_good, line, is_found, sequence_found, used_so}
+use Rattle.percpu_lib.proofs.ExampleParts.{execs, slots_with}
+pub use Rattle.percpu_lib.proofs.ExampleParts.{own_area as area}
+use Rattle.percpu_lib.proofs.ExamplePrograms.{full_ring_code, ring_code}
 use Rattle.percpu_lib.proofs.FormTests.{ring_get_tested, ring_put_tested}
 use Rattle.percpu_lib.proofs.RetryParts.{calm_so, is_retried, retried_so}
 use Rattle.percpu_lib.proofs.UseTests.{IsTested, is_just}
@@ -56,53 +55,16 @@ setting_over code ring =
     ∷ (replicate 7 0 ++ 9 ∷ [])) ∷ [])
     0x22000
 
-abbrev pub area : Area
-area = record { at = 0x20000; sig = 0xF1401073 }
-
 -- TWO WORDS
 
--- `lui x8, 0x20`, `addi x10, x8, 0`, `addi x11, x0, 32`, `lui x13, 0xF1401`, `addi x13, x13, 0x73`, `addi
--- x17, x0, 293`, `ecall`, `addi x9, x8, 64`, `lui x18, 0x21`, `addi x10, x18, 0x100`; from 0x100D8 on a block
--- that puts two words, `addi x10, x18, 0x120`, from 0x10164 on one that gets two, and a jump back to that; at
--- 0x10200 and 0x10220 their descriptors
-abbrev code : List ℕ
-code =
-    0x37 ∷ 0x04 ∷ 0x02 ∷ 0x00 ∷ 0x13 ∷ 0x05 ∷ 0x04 ∷ 0x00 ∷ 0x93 ∷ 0x05 ∷ 0x00 ∷ 0x02 ∷ 0xB7 ∷ 0x16 ∷ 0x40
-    ∷ 0xF1 ∷ 0x93 ∷ 0x86 ∷ 0x36 ∷ 0x07 ∷ 0x93 ∷ 0x08 ∷ 0x50 ∷ 0x12 ∷ 0x73 ∷ 0x00 ∷ 0x00 ∷ 0x00 ∷ 0x93 ∷ 0x04
-    ∷ 0x04 ∷ 0x04 ∷ 0x37 ∷ 0x19 ∷ 0x02 ∷ 0x00 ∷ 0x13 ∷ 0x05 ∷ 0x09 ∷ 0x10 ∷ 0x13 ∷ 0x0E ∷ 0x05 ∷ 0x00 ∷ 0x83
-    ∷ 0x22 ∷ 0x04 ∷ 0x00 ∷ 0x37 ∷ 0x03 ∷ 0x01 ∷ 0x00 ∷ 0x13 ∷ 0x03 ∷ 0x03 ∷ 0x20 ∷ 0x23 ∷ 0x34 ∷ 0x64 ∷ 0x00
-    ∷ 0x03 ∷ 0x23 ∷ 0x44 ∷ 0x00 ∷ 0xE3 ∷ 0x14 ∷ 0x53 ∷ 0xFE ∷ 0x93 ∷ 0x92 ∷ 0xD2 ∷ 0x00 ∷ 0xB3 ∷ 0x82 ∷ 0x92
-    ∷ 0x00 ∷ 0x13 ∷ 0x0E ∷ 0x05 ∷ 0x00 ∷ 0x03 ∷ 0xB3 ∷ 0x82 ∷ 0x00 ∷ 0x83 ∷ 0xB3 ∷ 0x02 ∷ 0x00 ∷ 0xB3 ∷ 0x03
-    ∷ 0x73 ∷ 0x40 ∷ 0x93 ∷ 0xB3 ∷ 0xF3 ∷ 0x1F ∷ 0x13 ∷ 0x05 ∷ 0x00 ∷ 0x00 ∷ 0x63 ∷ 0x8E ∷ 0x03 ∷ 0x02 ∷ 0x13
-    ∷ 0x05 ∷ 0x0E ∷ 0x00 ∷ 0x93 ∷ 0x73 ∷ 0xF3 ∷ 0x1F ∷ 0x93 ∷ 0x93 ∷ 0x33 ∷ 0x00 ∷ 0xB3 ∷ 0x83 ∷ 0x53 ∷ 0x00
-    ∷ 0x83 ∷ 0x3E ∷ 0x05 ∷ 0x00 ∷ 0x23 ∷ 0xB0 ∷ 0xD3 ∷ 0x05 ∷ 0x13 ∷ 0x03 ∷ 0x13 ∷ 0x00 ∷ 0x93 ∷ 0x73 ∷ 0xF3
-    ∷ 0x1F ∷ 0x93 ∷ 0x93 ∷ 0x33 ∷ 0x00 ∷ 0xB3 ∷ 0x83 ∷ 0x53 ∷ 0x00 ∷ 0x83 ∷ 0x3E ∷ 0x85 ∷ 0x00 ∷ 0x23 ∷ 0xB0
-    ∷ 0xD3 ∷ 0x05 ∷ 0x13 ∷ 0x03 ∷ 0x13 ∷ 0x00 ∷ 0x23 ∷ 0xB4 ∷ 0x62 ∷ 0x00 ∷ 0x6F ∷ 0x00 ∷ 0x00 ∷ 0x01 ∷ 0x73
-    ∷ 0x10 ∷ 0x40 ∷ 0xF1 ∷ 0x13 ∷ 0x05 ∷ 0x0E ∷ 0x00 ∷ 0x6F ∷ 0xF0 ∷ 0xDF ∷ 0xF7 ∷ 0x13 ∷ 0x05 ∷ 0x09 ∷ 0x12
-    ∷ 0x13 ∷ 0x0E ∷ 0x05 ∷ 0x00 ∷ 0x83 ∷ 0x22 ∷ 0x04 ∷ 0x00 ∷ 0x37 ∷ 0x03 ∷ 0x01 ∷ 0x00 ∷ 0x13 ∷ 0x03 ∷ 0x03
-    ∷ 0x22 ∷ 0x23 ∷ 0x34 ∷ 0x64 ∷ 0x00 ∷ 0x03 ∷ 0x23 ∷ 0x44 ∷ 0x00 ∷ 0xE3 ∷ 0x14 ∷ 0x53 ∷ 0xFE ∷ 0x93 ∷ 0x92
-    ∷ 0xD2 ∷ 0x00 ∷ 0xB3 ∷ 0x82 ∷ 0x92 ∷ 0x00 ∷ 0x13 ∷ 0x0E ∷ 0x05 ∷ 0x00 ∷ 0x03 ∷ 0xB3 ∷ 0x02 ∷ 0x00 ∷ 0x83
-    ∷ 0xB3 ∷ 0x82 ∷ 0x00 ∷ 0xB3 ∷ 0x83 ∷ 0x63 ∷ 0x40 ∷ 0x93 ∷ 0xB3 ∷ 0x23 ∷ 0x00 ∷ 0x13 ∷ 0x05 ∷ 0x00 ∷ 0x00
-    ∷ 0x63 ∷ 0x9E ∷ 0x03 ∷ 0x02 ∷ 0x13 ∷ 0x05 ∷ 0x0E ∷ 0x00 ∷ 0x93 ∷ 0x73 ∷ 0xF3 ∷ 0x1F ∷ 0x93 ∷ 0x93 ∷ 0x33
-    ∷ 0x00 ∷ 0xB3 ∷ 0x83 ∷ 0x53 ∷ 0x00 ∷ 0x83 ∷ 0xBE ∷ 0x03 ∷ 0x04 ∷ 0x23 ∷ 0x30 ∷ 0xD5 ∷ 0x01 ∷ 0x13 ∷ 0x03
-    ∷ 0x13 ∷ 0x00 ∷ 0x93 ∷ 0x73 ∷ 0xF3 ∷ 0x1F ∷ 0x93 ∷ 0x93 ∷ 0x33 ∷ 0x00 ∷ 0xB3 ∷ 0x83 ∷ 0x53 ∷ 0x00 ∷ 0x83
-    ∷ 0xBE ∷ 0x03 ∷ 0x04 ∷ 0x23 ∷ 0x34 ∷ 0xD5 ∷ 0x01 ∷ 0x13 ∷ 0x03 ∷ 0x13 ∷ 0x00 ∷ 0x23 ∷ 0xB0 ∷ 0x62 ∷ 0x00
-    ∷ 0x6F ∷ 0x00 ∷ 0x00 ∷ 0x01 ∷ 0x73 ∷ 0x10 ∷ 0x40 ∷ 0xF1 ∷ 0x13 ∷ 0x05 ∷ 0x0E ∷ 0x00 ∷ 0x6F ∷ 0xF0 ∷ 0xDF
-    ∷ 0xF7 ∷ 0x6F ∷ 0xF0 ∷ 0x9F ∷ 0xF7 ∷ 0x00 ∷ 0x00 ∷ 0x00 ∷ 0x00 ∷ 0x00 ∷ 0x00 ∷ 0x00 ∷ 0x00 ∷ 0x00 ∷ 0x00
-    ∷ 0x00 ∷ 0x00 ∷ 0x00 ∷ 0x00 ∷ 0x00 ∷ 0x00 ∷ 0x00 ∷ 0x00 ∷ 0x00 ∷ 0x00 ∷ 0x00 ∷ 0x00 ∷ 0x00 ∷ 0x00 ∷ 0xEC
-    ∷ 0x00 ∷ 0x01 ∷ 0x00 ∷ 0x00 ∷ 0x00 ∷ 0x00 ∷ 0x00 ∷ 0x64 ∷ 0x00 ∷ 0x00 ∷ 0x00 ∷ 0x00 ∷ 0x00 ∷ 0x00 ∷ 0x00
-    ∷ 0x58 ∷ 0x01 ∷ 0x01 ∷ 0x00 ∷ 0x00 ∷ 0x00 ∷ 0x00 ∷ 0x00 ∷ 0x00 ∷ 0x00 ∷ 0x00 ∷ 0x00 ∷ 0x00 ∷ 0x00 ∷ 0x00
-    ∷ 0x00 ∷ 0x78 ∷ 0x01 ∷ 0x01 ∷ 0x00 ∷ 0x00 ∷ 0x00 ∷ 0x00 ∷ 0x00 ∷ 0x64 ∷ 0x00 ∷ 0x00 ∷ 0x00 ∷ 0x00 ∷ 0x00
-    ∷ 0x00 ∷ 0x00 ∷ 0xE4 ∷ 0x01 ∷ 0x01 ∷ 0x00 ∷ 0x00 ∷ 0x00 ∷ 0x00 ∷ 0x00 ∷ []
-
 abbrev pub setting : Setting
-setting = setting_over code (replicate 16 0xFF)
+setting = setting_over ring_code (replicate 16 0xFF)
 
 abbrev pub put_slots : Slots
-put_slots = record { area = 8; cells = 9; value = 10; table = 0x10200 }
+put_slots = slots_with 10 0x10200
 
 abbrev pub get_slots : Slots
-get_slots = record { area = 8; cells = 9; value = 10; table = 0x10220 }
+get_slots = slots_with 10 0x10220
 
 abbrev pub put_at : ℕ
 put_at = 0x100D8
@@ -130,16 +92,15 @@ the_get = placed_of get get_at area
 abbrev lines : List Ask
 lines =
     line (asked.Run (record { 0 = 1 }))
-    ∷ (replicate 32 (line asked.Exec)
+    ∷ (execs 32
     ++ (replicate 2 (line asked.Drain)
     ++ line asked.Preempt
     ∷ line (asked.Run (record { 0 = 1 }))
-    ∷ (replicate 32 (line asked.Exec)
+    ∷ (execs 32
     ++ (replicate 4 (line asked.Drain)
-    ++ (replicate 32 (line asked.Exec)
+    ++ (execs 32
     ++ (replicate 4 (line asked.Drain)
-    ++ (replicate 18 (line asked.Exec)
-    ++ [])))))))
+    ++ execs 18))))))
 
 abbrev log : List Entry
 log =
@@ -151,18 +112,18 @@ log =
     ∷ entry kind.Drain 1 0x101DC ∷ entry kind.Exec 1 0x101DC ∷ entry kind.Exec 1 0x101EC ∷ walk 0x10164 16
 
 is_played : played setting lines ≡ Ok log
-unfolding played decide history done meaning row_of rows lui_rows auipc_rows jal_rows jalr_rows branch_rows load_rows store_rows op_imm_rows op_imm_32_rows op_rows op_32_rows misc_mem_rows amo_rows system_rows are_readable number_at
+unfolding played by_rules
 is_played = refl
 
 is_run : IsBlockRun setting log
 is_run = (played_is_run setting lines log is_played).0
 
 put_there : AreThere (code_of setting.program.pages) put_at (put_block put_slots 2)
-unfolding row_of rows lui_rows auipc_rows jal_rows jalr_rows branch_rows load_rows store_rows op_imm_rows op_imm_32_rows op_rows op_32_rows misc_mem_rows amo_rows system_rows
+unfolding by_table
 put_there = (refl, (refl, (refl, (refl, (refl, (refl, (refl, (refl, (refl, (refl, (refl, (refl, (refl, (refl, (refl, (refl, (refl, (refl, (refl, (refl, (refl, (refl, (refl, (refl, (refl, (refl, (refl, (refl, (refl, (refl, (refl, (refl, (refl, (refl, tt))))))))))))))))))))))))))))))))))
 
 get_there : AreThere (code_of setting.program.pages) get_at (get_block get_slots 2)
-unfolding row_of rows lui_rows auipc_rows jal_rows jalr_rows branch_rows load_rows store_rows op_imm_rows op_imm_32_rows op_rows op_32_rows misc_mem_rows amo_rows system_rows
+unfolding by_table
 get_there = (refl, (refl, (refl, (refl, (refl, (refl, (refl, (refl, (refl, (refl, (refl, (refl, (refl, (refl, (refl, (refl, (refl, (refl, (refl, (refl, (refl, (refl, (refl, (refl, (refl, (refl, (refl, (refl, (refl, (refl, (refl, (refl, (refl, (refl, tt))))))))))))))))))))))))))))))))))
 
 abbrev put_tested : IsTested put
@@ -184,7 +145,7 @@ put_fits q =
 
 put_good : is_good setting put put_tested put_at area 1 (the_get ∷ []) put_fits (history setting put_log)
     ≡ true
-unfolding decide history done meaning row_of rows lui_rows auipc_rows jal_rows jalr_rows branch_rows load_rows store_rows op_imm_rows op_imm_32_rows op_rows op_32_rows misc_mem_rows amo_rows system_rows are_readable number_at
+unfolding by_rules
 put_good = refl
 
 put_run : IsBlockRun setting put_log
@@ -211,7 +172,7 @@ cut_fits q =
     && is_just (word_seen setting 0 (ring_of setting put_slots q + 8) q.reached) (2 ^ 64 - 1))))
 
 cut_found : is_found setting cut cut_fits ≡ true
-unfolding decide history done meaning row_of rows lui_rows auipc_rows jal_rows jalr_rows branch_rows load_rows store_rows op_imm_rows op_imm_32_rows op_rows op_32_rows misc_mem_rows amo_rows system_rows are_readable number_at
+unfolding by_rules
 cut_found = refl
 
 pub was_cut : IsFound setting cut cut_fits
@@ -229,7 +190,7 @@ get_fits q =
 
 get_good : is_good setting get get_tested get_at area 1 (the_put ∷ []) get_fits (history setting get_log)
     ≡ true
-unfolding decide history done meaning row_of rows lui_rows auipc_rows jal_rows jalr_rows branch_rows load_rows store_rows op_imm_rows op_imm_32_rows op_rows op_32_rows misc_mem_rows amo_rows system_rows are_readable number_at
+unfolding by_rules
 get_good = refl
 
 pub get_used : IsGood setting get_log get get_at area (the_put ∷ []) get_fits
@@ -246,7 +207,7 @@ none_fits q = eqb (value_of setting get_slots q.thread q.reached) 0 && stores_no
 
 none_good : is_good setting get get_tested get_at area 1 (the_put ∷ []) none_fits (history setting none_log)
     ≡ true
-unfolding decide history done meaning row_of rows lui_rows auipc_rows jal_rows jalr_rows branch_rows load_rows store_rows op_imm_rows op_imm_32_rows op_rows op_32_rows misc_mem_rows amo_rows system_rows are_readable number_at
+unfolding by_rules
 none_good = refl
 
 pub none_used : IsGood setting none_log get get_at area (the_put ∷ []) none_fits
@@ -270,7 +231,7 @@ rest = take 30 (drop 39 log)
 
 comes_back : is_retried setting the_put 1 first_time (take 24 (drop 11 log)) (take 2 (drop 35 log))
     (take 2 (drop 37 log)) ≡ true
-unfolding decide history done meaning row_of rows lui_rows auipc_rows jal_rows jalr_rows branch_rows load_rows store_rows op_imm_rows op_imm_32_rows op_rows op_32_rows misc_mem_rows amo_rows system_rows are_readable number_at
+unfolding by_rules
 comes_back = refl
 
 pub retried : Retries setting the_put 1 first_time anew
@@ -285,11 +246,11 @@ used_again =
     refl
 
 pub runs_anew : running setting 0 (history setting anew) ≡ Some 1
-unfolding decide history done meaning row_of rows lui_rows auipc_rows jal_rows jalr_rows branch_rows load_rows store_rows op_imm_rows op_imm_32_rows op_rows op_32_rows misc_mem_rows amo_rows system_rows are_readable number_at
+unfolding by_rules
 runs_anew = refl
 
 pub at_label : (file setting 1 (history setting anew)).pc ≡ put_at
-unfolding decide history done meaning row_of rows lui_rows auipc_rows jal_rows jalr_rows branch_rows load_rows store_rows op_imm_rows op_imm_32_rows op_rows op_32_rows misc_mem_rows amo_rows system_rows are_readable number_at
+unfolding by_rules
 at_label = refl
 
 pub undisturbed : IsUndisturbed 0 rest
@@ -300,31 +261,12 @@ enough = leb-true 30 (executed_on 0 rest) refl
 
 -- ONE WORD AND A FULL RING
 
--- the same instructions but for the last, `addi x18, x18, 0x100`; from 0x100D8 on a block that puts one
--- word, and at 0x10160 its descriptor
-abbrev full_code : List ℕ
-full_code =
-    0x37 ∷ 0x04 ∷ 0x02 ∷ 0x00 ∷ 0x13 ∷ 0x05 ∷ 0x04 ∷ 0x00 ∷ 0x93 ∷ 0x05 ∷ 0x00 ∷ 0x02 ∷ 0xB7 ∷ 0x16 ∷ 0x40
-    ∷ 0xF1 ∷ 0x93 ∷ 0x86 ∷ 0x36 ∷ 0x07 ∷ 0x93 ∷ 0x08 ∷ 0x50 ∷ 0x12 ∷ 0x73 ∷ 0x00 ∷ 0x00 ∷ 0x00 ∷ 0x93 ∷ 0x04
-    ∷ 0x04 ∷ 0x04 ∷ 0x37 ∷ 0x19 ∷ 0x02 ∷ 0x00 ∷ 0x13 ∷ 0x09 ∷ 0x09 ∷ 0x10 ∷ 0x13 ∷ 0x0E ∷ 0x09 ∷ 0x00 ∷ 0x83
-    ∷ 0x22 ∷ 0x04 ∷ 0x00 ∷ 0x37 ∷ 0x03 ∷ 0x01 ∷ 0x00 ∷ 0x13 ∷ 0x03 ∷ 0x03 ∷ 0x16 ∷ 0x23 ∷ 0x34 ∷ 0x64 ∷ 0x00
-    ∷ 0x03 ∷ 0x23 ∷ 0x44 ∷ 0x00 ∷ 0xE3 ∷ 0x14 ∷ 0x53 ∷ 0xFE ∷ 0x93 ∷ 0x92 ∷ 0xD2 ∷ 0x00 ∷ 0xB3 ∷ 0x82 ∷ 0x92
-    ∷ 0x00 ∷ 0x13 ∷ 0x0E ∷ 0x09 ∷ 0x00 ∷ 0x03 ∷ 0xB3 ∷ 0x82 ∷ 0x00 ∷ 0x83 ∷ 0xB3 ∷ 0x02 ∷ 0x00 ∷ 0xB3 ∷ 0x03
-    ∷ 0x73 ∷ 0x40 ∷ 0x93 ∷ 0xB3 ∷ 0x03 ∷ 0x20 ∷ 0x13 ∷ 0x09 ∷ 0x00 ∷ 0x00 ∷ 0x63 ∷ 0x82 ∷ 0x03 ∷ 0x02 ∷ 0x13
-    ∷ 0x09 ∷ 0x0E ∷ 0x00 ∷ 0x93 ∷ 0x73 ∷ 0xF3 ∷ 0x1F ∷ 0x93 ∷ 0x93 ∷ 0x33 ∷ 0x00 ∷ 0xB3 ∷ 0x83 ∷ 0x53 ∷ 0x00
-    ∷ 0x83 ∷ 0x3E ∷ 0x09 ∷ 0x00 ∷ 0x23 ∷ 0xB0 ∷ 0xD3 ∷ 0x05 ∷ 0x13 ∷ 0x03 ∷ 0x13 ∷ 0x00 ∷ 0x23 ∷ 0xB4 ∷ 0x62
-    ∷ 0x00 ∷ 0x6F ∷ 0x00 ∷ 0x00 ∷ 0x01 ∷ 0x73 ∷ 0x10 ∷ 0x40 ∷ 0xF1 ∷ 0x13 ∷ 0x09 ∷ 0x0E ∷ 0x00 ∷ 0x6F ∷ 0xF0
-    ∷ 0x5F ∷ 0xF9 ∷ 0x00 ∷ 0x00 ∷ 0x00 ∷ 0x00 ∷ 0x00 ∷ 0x00 ∷ 0x00 ∷ 0x00 ∷ 0x00 ∷ 0x00 ∷ 0x00 ∷ 0x00 ∷ 0x00
-    ∷ 0x00 ∷ 0x00 ∷ 0x00 ∷ 0x00 ∷ 0x00 ∷ 0x00 ∷ 0x00 ∷ 0x00 ∷ 0x00 ∷ 0x00 ∷ 0x00 ∷ 0x00 ∷ 0x00 ∷ 0x00 ∷ 0x00
-    ∷ 0x00 ∷ 0x00 ∷ 0x00 ∷ 0x00 ∷ 0xEC ∷ 0x00 ∷ 0x01 ∷ 0x00 ∷ 0x00 ∷ 0x00 ∷ 0x00 ∷ 0x00 ∷ 0x4C ∷ 0x00 ∷ 0x00
-    ∷ 0x00 ∷ 0x00 ∷ 0x00 ∷ 0x00 ∷ 0x00 ∷ 0x40 ∷ 0x01 ∷ 0x01 ∷ 0x00 ∷ 0x00 ∷ 0x00 ∷ 0x00 ∷ 0x00 ∷ []
-
 -- the head is 2^64 - 1, and the tail 511
 abbrev pub full_setting : Setting
-full_setting = setting_over full_code (replicate 8 0xFF ++ 0xFF ∷ 0x01 ∷ [])
+full_setting = setting_over full_ring_code (replicate 8 0xFF ++ 0xFF ∷ 0x01 ∷ [])
 
 abbrev pub full_slots : Slots
-full_slots = record { area = 8; cells = 9; value = 18; table = 0x10160 }
+full_slots = slots_with 18 0x10160
 
 abbrev pub full_at : ℕ
 full_at = 0x100D8
@@ -336,18 +278,18 @@ abbrev full_tested : IsTested full_put
 full_tested = ring_put_tested 1 full_slots
 
 abbrev full_lines : List Ask
-full_lines = line (asked.Run (record { 0 = 1 })) ∷ replicate 26 (line asked.Exec)
+full_lines = line (asked.Run (record { 0 = 1 })) ∷ execs 26
 
 abbrev pub full_log : List Entry
 full_log =
     entry kind.Run 1 0x100B0 ∷ walk 0x100B0 26
 
 full_played : played full_setting full_lines ≡ Ok full_log
-unfolding played decide history done meaning row_of rows lui_rows auipc_rows jal_rows jalr_rows branch_rows load_rows store_rows op_imm_rows op_imm_32_rows op_rows op_32_rows misc_mem_rows amo_rows system_rows are_readable number_at
+unfolding played by_rules
 full_played = refl
 
 full_there : AreThere (code_of full_setting.program.pages) full_at (put_block full_slots 1)
-unfolding row_of rows lui_rows auipc_rows jal_rows jalr_rows branch_rows load_rows store_rows op_imm_rows op_imm_32_rows op_rows op_32_rows misc_mem_rows amo_rows system_rows
+unfolding by_table
 full_there = (refl, (refl, (refl, (refl, (refl, (refl, (refl, (refl, (refl, (refl, (refl, (refl, (refl, (refl, (refl, (refl, (refl, (refl, (refl, (refl, (refl, (refl, (refl, (refl, (refl, (refl, (refl, (refl, tt))))))))))))))))))))))))))))
 
 -- the value is 0, head and tail are as they were, and no store was executed
@@ -360,7 +302,7 @@ full_fits q =
 
 full_good : is_good full_setting full_put full_tested full_at area 1 [] full_fits
     (history full_setting full_log) ≡ true
-unfolding decide history done meaning row_of rows lui_rows auipc_rows jal_rows jalr_rows branch_rows load_rows store_rows op_imm_rows op_imm_32_rows op_rows op_32_rows misc_mem_rows amo_rows system_rows are_readable number_at
+unfolding by_rules
 full_good = refl
 
 pub full_used : IsGood full_setting full_log full_put full_at area [] full_fits

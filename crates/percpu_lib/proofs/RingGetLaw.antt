@@ -1,14 +1,13 @@
 -- A sequence of a ring get block is one run of its thread alone, and so gets its words out of the ring once
 -- or not at all.
 use Rattle.std.proofs.Common.{◌≡◌, ◌≢◌, ℕ, zero, suc, ◌+◌, ◌*◌, ◌<◌, ◌≤◌, ◌%◌, ◌^◌, List, [], ◌∷◌, ◌++◌, refl}
-use Rattle.std.proofs.Common.{sym, ap, ◌∙◌, subst, arith, Bool, true, false, ltb, Option, Some, inl, inr, ◌⊎◌}
+use Rattle.std.proofs.Common.{ap, ◌∙◌, subst, arith, Bool, true, false, ltb, Option, Some, inl, inr, ◌⊎◌}
 use Rattle.std.proofs.Common.{append-nil, pos, slice_get, unwrap_or}
 use Rattle.std.proofs.lemmas.Bool.{cases_lt, ltb-false, ltb-true}
 use Rattle.std.proofs.lemmas.Int.{ints}
 use Rattle.mach_types.specs.Bytes.{word_at}
 use Rattle.mach_types.specs.Kernel.Areas.{is_inside}
 use Rattle.mach_types.specs.Registers.{register}
-use Rattle.mach_types.specs.declared.registers.Regs.{Regs}
 use Rattle.mach_types.specs.declared.sequences.Area.{Area}
 use Rattle.mach_types.specs.declared.user_memory.Store.{Store}
 use Rattle.rv_inst.specs.Execution.{seen_byte}
@@ -16,28 +15,27 @@ use Rattle.rv_inst.specs.Words.{one_if}
 use Rattle.rv_inst.specs.declared.instruction.Inst.TheVariants as inst
 use Rattle.alone.specs.Alone.{Stand}
 use Rattle.alone.specs.Paths.{KeepsOn, Path}
-use Rattle.alone.specs.Temps.{IsAt, is_scratch, put}
+use Rattle.alone.specs.Temps.{IsAt, put}
 use Rattle.alone.proofs.Laws.{word_unchanged}
 use Rattle.alone.proofs.Means.{means_add, means_addi, means_bne_not, means_bne_taken, means_ld, means_sd}
 use Rattle.alone.proofs.Means.{means_slli}
 use Rattle.alone.proofs.Paths.{leaves, then_branch, then_load, then_next, then_store}
-use Rattle.alone_laws.specs.Spans.{alone_from, code_of, seen_at, sees}
-use Rattle.block_model.specs.History.{History, file, stores}
+use Rattle.alone_laws.specs.Spans.{alone_from, code_of, sees}
+use Rattle.block_model.specs.History.{History, stores}
 use Rattle.block_model.specs.Setting.{Setting}
 use Rattle.percpu_lib.specs.Forms.{Form, IsBlockPlace, committed, range_of}
-use Rattle.percpu_lib.specs.Frees.{value_of}
 use Rattle.percpu_lib.specs.Pushes.{LieBeside, word_seen}
 use Rattle.percpu_lib.specs.RingForms.{AreGot, IsNoGet, IsRingApart, IsRingKept, Gets, content, first_stores}
-use Rattle.percpu_lib.specs.RingForms.{head_seen, held, get_block, get_front, get_insts, get_store, gets_none}
-use Rattle.percpu_lib.specs.RingForms.{gets_words, ring_at, ring_end, ring_get_form, slot_of, tail_seen}
+use Rattle.percpu_lib.specs.RingForms.{head_seen, get_block, get_front, get_insts, get_store, gets_none}
+use Rattle.percpu_lib.specs.RingForms.{gets_words, ring_end, ring_get_form, slot_of}
 use Rattle.percpu_lib.specs.RingForms.{word_of, word_store}
-use Rattle.percpu_lib.specs.Uses.{cells_of}
 use Rattle.percpu_lib.specs.Words.{AreHeld, AreSlots, is_changed}
 use Rattle.percpu_lib.specs.declared.slots.Slots.{Slots}
+use Rattle.percpu_lib.proofs.Beginnings.{beginning, ring_seen}
 use Rattle.percpu_lib.proofs.BlockCode.{behind_range}
 use Rattle.percpu_lib.proofs.CellPath.{BeginsSo, begins_of, inside_at, to_cell}
-use Rattle.percpu_lib.proofs.Changes.{area_not_changed, cells_not_changed, put_other}
-use Rattle.percpu_lib.proofs.Changes.{put_same, scratch_not, some_value, value_changed}
+use Rattle.percpu_lib.proofs.Changes.{area_not_changed, beside_value, cells_not_changed, put_same}
+use Rattle.percpu_lib.proofs.Changes.{some_value, value_beside, value_changed}
 use Rattle.percpu_lib.proofs.CourseLaw.{HasPath, IsAfter, course_of, way}
 use Rattle.percpu_lib.proofs.Courses.{IsCourse}
 use Rattle.percpu_lib.proofs.RingData.{area_bytes, in_ring, in_slot, in_words, loaded_is, raw, ring_pointer}
@@ -63,29 +61,8 @@ module _ (s : Setting) (count : ℕ) (some : 1 ≤ count) (many : count ≤ 4) (
   abbrev form : Form
   form = ring_get_form count p
 
-  abbrev old : Regs
-  old = (file s t begun).file
-
-  abbrev seen : ℕ → Option ℕ
-  seen = seen_at s h begun
-
-  abbrev rings : ℕ
-  rings = cells_of s p t begun
-
-  abbrev ring : ℕ
-  ring = ring_at rings h
-
-  abbrev value : ℕ
-  value = value_of s p t begun
-
-  abbrev head : ℕ
-  head = head_seen s h ring begun
-
-  abbrev tail : ℕ
-  tail = tail_seen s h ring begun
-
-  abbrev holds : ℕ
-  holds = held s h ring begun
+  open (beginning s p h t begun) use {old, seen, cells as rings, ring, value}
+  open (ring_seen s h ring begun) use {head, tail, holds}
 
   abbrev store : ℕ → Store
   store = get_store s h ring value begun
@@ -121,14 +98,6 @@ module _ (s : Setting) (count : ℕ) (some : 1 ≤ count) (many : count ≤ 4) (
 
   out : is_inside (range_of form at) (at + 4 * committed form) ≡ false
   out = let low = place.low in behind_range form at (committed form) low (omega arith) (omega arith)
-
-  -- a write to another register that the block changes leaves the value, and a write to the value leaves that
-  value_beside : (r x : ℕ) (temps : ℕ → ℕ) → is_scratch r ≡ true → put r x temps p.value ≡ temps p.value
-  value_beside r x temps is =
-      put_other r x temps p.value (λ same. scratch_not r p.value is slots.value (sym same))
-
-  beside_value : (r x : ℕ) (temps : ℕ → ℕ) → is_scratch r ≡ true → put p.value x temps r ≡ temps r
-  beside_value r x temps is = put_other p.value x temps r (scratch_not r p.value is slots.value)
 
   -- THE WORDS ARE GOT
 
@@ -166,16 +135,17 @@ module _ (s : Setting) (count : ℕ) (some : 1 ≤ count) (many : count ≤ 4) (
 
       value_3 : temps_3 p.value ≡ value
       value_3 =
-          value_beside 7 (ring + 8 * number) (put 7 (8 * number) (put 7 number temps)) refl
-          ∙ value_beside 7 (8 * number) (put 7 number temps) refl ∙ value_beside 7 number temps refl
+          value_beside p slots 7 (ring + 8 * number) (put 7 (8 * number) (put 7 number temps)) refl
+          ∙ value_beside p slots 7 (8 * number) (put 7 number temps) refl
+          ∙ value_beside p slots 7 number temps refl
           ∙ ready.value_is
 
       next_ready : IsReady (suc k) temps_6
       next_ready = record {
         five = ready.five;
         six = refl;
-        value_is = value_beside 6 ((head + suc k) % 2 ^ 64) (put 29 word temps_3) refl
-            ∙ value_beside 29 word temps_3 refl ∙ value_3;
+        value_is = value_beside p slots 6 ((head + suc k) % 2 ^ 64) (put 29 word temps_3) refl
+            ∙ value_beside p slots 29 word temps_3 refl ∙ value_3;
       }
 
       word_there : (j : ℕ) → j < 6 → slice_get (get_block p count) (base + j) ≡ slice_get (get_insts p k) j
@@ -257,7 +227,7 @@ module _ (s : Setting) (count : ℕ) (some : 1 ≤ count) (many : count ≤ 4) (
           (standing.holds (base + 4) (inst.Sd p.value 29 (pos (8 * k))) (word_there 4 (omega arith)))
           (value + 8 * k) 8 word (at + 4 * (base + 5))
           (λ f like. means_sd f (at + 4 * (base + 4)) p.value 29 (pos (8 * k)) value (value + 8 * k) word word
-          (like.temp p.value (value_changed p) ∙ value_beside 29 word temps_3 refl ∙ value_3)
+          (like.temp p.value (value_changed p) ∙ value_beside p slots 29 word temps_3 refl ∙ value_3)
           (omega (arith, ints))
           (like.temp 29 refl) (word_whole s h begun area.at ring value count apart word small))
           (in_words s h begun area.at ring value count apart (value + 8 * k) (omega arith) (omega arith))
@@ -327,12 +297,13 @@ module _ (s : Setting) (count : ℕ) (some : 1 ≤ count) (many : count ≤ 4) (
   temps_5 = put p.value 0 temps_4
 
   seven : temps_5 7 ≡ one_if short
-  seven = beside_value 7 0 temps_4 refl
+  seven = beside_value p slots 7 0 temps_4 refl
 
   value_0 : temps_0 p.value ≡ value
   value_0 =
-      value_beside 5 ring (put 5 (8192 * h) (put 6 h (register old))) refl
-      ∙ value_beside 5 (8192 * h) (put 6 h (register old)) refl ∙ value_beside 6 h (register old) refl
+      value_beside p slots 5 ring (put 5 (8192 * h) (put 6 h (register old))) refl
+      ∙ value_beside p slots 5 (8192 * h) (put 6 h (register old)) refl
+      ∙ value_beside p slots 6 h (register old) refl
 
   small_value : value < 2 ^ 64
   small_value =
@@ -342,7 +313,7 @@ module _ (s : Setting) (count : ℕ) (some : 1 ≤ count) (many : count ≤ 4) (
 
   -- the copy of the value
   copy_5 : temps_5 28 ≡ value
-  copy_5 = beside_value 28 0 temps_4 refl
+  copy_5 = beside_value p slots 28 0 temps_4 refl
 
   -- there are fewer words
   ends : (y : Stand) → IsAt (is_changed p) old (at + 60) temps_5 [] y → short ≡ true → KeepsOn w y
@@ -382,8 +353,8 @@ module _ (s : Setting) (count : ℕ) (some : 1 ≤ count) (many : count ≤ 4) (
     where
       ready_first : IsReady 0 (put p.value value temps_5)
       ready_first = record {
-        five = beside_value 5 value temps_5 refl ∙ beside_value 5 0 temps_4 refl;
-        six = beside_value 6 value temps_5 refl ∙ beside_value 6 0 temps_4 refl
+        five = beside_value p slots 5 value temps_5 refl ∙ beside_value p slots 5 0 temps_4 refl;
+        six = beside_value p slots 6 value temps_5 refl ∙ beside_value p slots 6 0 temps_4 refl
             ∙ head_small (word_low s h begun area.at ring value count apart ring);
         value_is = put_same p.value value temps_5;
       }

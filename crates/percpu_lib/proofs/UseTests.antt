@@ -409,23 +409,26 @@ module _ (s : Setting) (form : Form) (tested : IsTested form) (at : ℕ) (area :
       let handler : g.abort ≡ (range_of form at).abort = eqb-true g.abort (range_of form at).abort more.1 in
       λ i. record { start = start i; length = long i; abort = handler i }
 
-  reads_are : (before : History) (from n : ℕ) → are_usable before from n ≡ true → (a : ℕ)
-      → among from n a ≡ true → reads before a ≡ true
-  reads_are before from n is a has =
+  -- where each page of some bytes passes a test, so does that of one of them
+  of_pages : (page : ℕ → Bool) (from n : ℕ) → each_byte page (from / 4096) (pages_of from n) ≡ true → (a : ℕ)
+      → among from n a ≡ true → page (a / 4096) ≡ true
+  of_pages page from n is a has =
       let place = among_low from n a has in
       let low = place.0 in
       let high = place.1 in
-      each_holds (page_reads before) (from / 4096) (pages_of from n) (a / 4096)
-      (and_parts (each_byte (page_reads before) (from / 4096) (pages_of from n)) _ is).0 (omega arith) (omega arith)
+      each_holds page (from / 4096) (pages_of from n) (a / 4096) is (omega arith) (omega arith)
+
+  reads_are : (before : History) (from n : ℕ) → are_usable before from n ≡ true → (a : ℕ)
+      → among from n a ≡ true → reads before a ≡ true
+  reads_are before from n is =
+      of_pages (page_reads before) from n
+      (and_parts (each_byte (page_reads before) (from / 4096) (pages_of from n)) _ is).0
 
   writes_are : (before : History) (from n : ℕ) → are_usable before from n ≡ true → (a : ℕ)
       → among from n a ≡ true → writes before a ≡ true
-  writes_are before from n is a has =
-      let place = among_low from n a has in
-      let low = place.0 in
-      let high = place.1 in
-      each_holds (page_writes before) (from / 4096) (pages_of from n) (a / 4096)
-      (and_parts (each_byte (page_reads before) (from / 4096) (pages_of from n)) _ is).1 (omega arith) (omega arith)
+  writes_are before from n is =
+      of_pages (page_writes before) from n
+      (and_parts (each_byte (page_reads before) (from / 4096) (pages_of from n)) _ is).1
 
   all_are : (before : History) (ranges : List (ℕ × ℕ)) → all_usable before ranges ≡ true → (a : ℕ)
       → is_among ranges a ≡ true → (reads before a ≡ true) × (writes before a ≡ true)

@@ -35,8 +35,6 @@ lines_of frees p base = free_lines p base
 
 -- it takes a value in; pop and alloc only bring one out
 abbrev pub takes_in : Kind → Bool
-takes_in adds = true
-takes_in pushes = true
 takes_in pops = false
 takes_in allocs = false
-takes_in frees = true
+takes_in other = true

@@ -3,16 +3,10 @@
 //! kernel's rseq tests; those that take an item out of a pool and put one in are own.
 
 ghost use Rattle.std.specs.Prelude.{◌≡◌, ◌↔◌, ◌+◌, ◌^◌, ◌<◌, ℕ, Ok, Err, OnOk, IfOk, take};
-ghost use Rattle.percpu_lib.specs.Adds.{add_lines};
-ghost use Rattle.percpu_lib.specs.Allocs.{alloc_lines};
-ghost use Rattle.percpu_lib.specs.BlockKinds.{kind_of};
-ghost use Rattle.percpu_lib.specs.BlockLines.{IsLabelled};
-ghost use Rattle.percpu_lib.specs.Frees.{free_lines};
-ghost use Rattle.percpu_lib.specs.Kinds.{lines_of};
+ghost use Rattle.percpu_lib.specs.{Adds.add_lines, Allocs.alloc_lines, BlockKinds.kind_of};
+ghost use Rattle.percpu_lib.specs.{BlockLines.IsLabelled, Frees.free_lines, Kinds.lines_of};
 ghost use Rattle.percpu_lib.specs.Lines.{AreEmitted, HasRoom};
-ghost use Rattle.percpu_lib.specs.Pops.{pop_lines};
-ghost use Rattle.percpu_lib.specs.Pushes.{push_lines};
-ghost use Rattle.percpu_lib.specs.Words.{AreSlots};
+ghost use Rattle.percpu_lib.specs.{Pops.pop_lines, Pushes.push_lines, Words.AreSlots};
 
 use crate::block_lines::{block_lines, inst};
 use crate::fault::EmitFault;

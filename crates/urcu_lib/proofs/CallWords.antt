@@ -1,5 +1,5 @@
 -- No word of a block is a call but the fifth of a sync block.
-use Rattle.std.proofs.Common.{◌≡◌, ◌≢◌, ℕ, zero, suc, ◌<◌, List, [], ◌∷◌, length, arith, refl, Bool, true}
+use Rattle.std.proofs.Common.{◌≡◌, ◌≢◌, ℕ, zero, suc, ◌<◌, List, [], ◌∷◌, drop, length, arith, refl, Bool, true}
 use Rattle.std.proofs.Common.{false, cond, eqb, ltb, not, ◌%◌, Option, Some, None, slice_get, ℤ, pos, negsuc}
 use Rattle.mach_types.specs.Registers.{register}
 use Rattle.mach_types.specs.declared.registers.Regs.{Regs}
@@ -68,20 +68,7 @@ plain_word (Some i ∷ ws) none (suc k) lt =
 
 -- the words behind the call
 abbrev late_words : SyncRegs → ℕ → List (Option Inst)
-late_words r readers =
-    Some (inst.Ld 5 r.gp (pos 0))
-    ∷ Some (inst.Addi 5 5 (pos 1))
-    ∷ Some (inst.Sd r.gp 5 (pos 0))
-    ∷ Some (inst.Addi 6 r.slots (pos 0))
-    ∷ Some (inst.Addi 7 0 (pos readers))
-    ∷ Some (inst.Ld 10 6 (pos 0))
-    ∷ Some (inst.Beq 10 0 (pos 8))
-    ∷ Some (inst.Bltu 10 5 (negsuc 7))
-    ∷ Some (inst.Addi 6 6 (pos 64))
-    ∷ Some (inst.Addi 7 7 (negsuc 0))
-    ∷ Some (inst.Bne 7 0 (negsuc 19))
-    ∷ Some (inst.Addi 10 0 (pos 0))
-    ∷ []
+late_words r readers = drop 5 (sync_block r readers)
 
 late_none : (r : SyncRegs) (readers : ℕ) → AreNoCalls (late_words r readers)
 late_none r readers = (

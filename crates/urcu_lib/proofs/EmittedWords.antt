@@ -1,8 +1,8 @@
 -- Finished code holds the instructions of the blocks where their lines were appended, and a machine that runs
 -- the image of a file in which the code stands fetches them.
-use Rattle.std.proofs.Common.{◌≡◌, ◌≢◌, ℕ, zero, suc, ◌+◌, ◌*◌, List, [], ◌∷◌, ◌++◌, length, length-append}
-use Rattle.std.proofs.Common.{set, slice_get, refl, ap, ◌∙◌}
-use Rattle.std.proofs.Common.{arith, Bool, true, false, cond, Option, Some, None, get_or, ℤ, pos}
+use Rattle.std.proofs.Common.{◌≡◌, ℕ, zero, suc, ◌+◌, ◌*◌, List, [], ◌∷◌, ◌++◌, length, length-append}
+use Rattle.std.proofs.Common.{slice_get, refl, ap, ◌∙◌}
+use Rattle.std.proofs.Common.{arith, Option, Some, None, get_or, ℤ, pos}
 use Rattle.std.proofs.Common.{negsuc, ◌-ℤ◌}
 use Rattle.std.specs.Option.{option_map}
 use Rattle.std.proofs.lemmas.Int.{ints}
@@ -18,7 +18,7 @@ use Rattle.rv_inst.specs.declared.instruction.Inst.TheVariants as inst
 use Rattle.block_model.specs.Instruction.{instruction_of}
 use Rattle.alone_laws.specs.Spans.{code_of}
 use Rattle.percpu_lib.specs.Files.{HoldsCode}
-use Rattle.percpu_lib.specs.Lines.{AreEmitted, IsContinued, IsEmitted, instructions, is_free, with_item}
+use Rattle.percpu_lib.specs.Lines.{AreEmitted, IsContinued, IsEmitted, instructions, with_item}
 use Rattle.percpu_lib.specs.Lines.{with_label}
 use Rattle.percpu_lib.specs.Words.{AreHeld}
 use Rattle.percpu_lib.specs.declared.lines.Line.{Line}
@@ -26,6 +26,7 @@ use Rattle.percpu_lib.specs.declared.lines.Line.TheVariants as line
 use Rattle.percpu_lib.proofs.FileCode.{word_fetched}
 use Rattle.percpu_lib.proofs.HeldWords.{FindsItem, items_held, labelled_items}
 use Rattle.percpu_lib.proofs.Labels.{index_is, keeps, label_own}
+use Rattle.percpu_lib.proofs.Labels.{label_other}
 use Rattle.urcu_lib.specs.Blocks.{sync_block}
 use Rattle.urcu_lib.specs.Lines.{AreFree, sync_lines}
 use Rattle.urcu_lib.specs.declared.regs.SyncRegs.{SyncRegs}
@@ -79,25 +80,6 @@ module _ (lines : List Line) (block : List (Option Inst)) (a b c : Assembly) (is
   }
 
 -- LABELS OF THE SYNC BLOCK
-
-get_other : (xs : List (Option ℕ)) (n l : ℕ) (v : Option ℕ) → l ≢ n
-    → slice_get (set xs n v) l ≡ slice_get xs l
-get_other [] n l v other = refl
-get_other (x ∷ xs) zero zero v other = absurd (other refl)
-get_other (x ∷ xs) zero (suc l) v other = refl
-get_other (x ∷ xs) (suc n) zero v other = refl
-get_other (x ∷ xs) (suc n) (suc l) v other = get_other xs n l v (λ same. other (ap suc same))
-
-label_other : (a : Assembly) (n l : ℕ) → l ≢ n → slice_get (with_label a n).labels l ≡ slice_get a.labels l
-label_other a n l other = by_free (is_free (slice_get a.labels n))
-  where
-    by_free : (c : Bool) → slice_get
-        (cond c (record a {
-          labels = set a.labels n (Some
-              (length a.items));
-        }) a).labels l ≡ slice_get a.labels l
-    by_free true = get_other a.labels n l (Some (length a.items)) other
-    by_free false = refl
 
 -- the assembler behind some words: its labels, and how many words it has
 record IsBehind (a between : Assembly) (n : ℕ) : Type 0 where

@@ -1,45 +1,39 @@
--- A worked log, by computation: two readers, each with a slot, and a thread that makes two grace periods. In the first
--- it finds the first reader in its section, and is interrupted in its loop by a signal, whose handler only returns; the
--- second reader begins a section by the new counter, for which it doesn't wait. In the second no reader is in a
--- section, but the second reader's unlock has stored a 0 that waits when the thread calls membarrier.
-use Rattle.std.proofs.Common.{◌≡◌, ℕ, ◌+◌, ◌^◌, ◌≤◌, List, [], ◌∷◌, ◌++◌, ◌⊎◌, inl, inr, refl, ap, ◌∙◌}
-use Rattle.std.proofs.Common.{arith, true, fold, replicate, subst, take, Ok, Result}
-use Rattle.std.proofs.lemmas.Bool.{eqb-false, leb-true, ltb-true}
-use Rattle.mach_types.specs.Kernel.Areas.{are_readable, number_at}
+-- A worked log, by computation: two readers, each with a slot, and a thread that makes two grace periods. In
+-- the first it finds the first reader in its section, and is interrupted in its loop by a signal, whose
+-- handler only returns; the second reader begins a section by the new counter, for which it doesn't wait. In
+-- the second no reader is in a section, but the second reader's unlock has stored a 0 that waits when the
+-- thread calls membarrier.
+use Rattle.std.proofs.Common.{◌≡◌, ℕ, ◌+◌, ◌≤◌, List, [], ◌∷◌, ◌++◌, ◌⊎◌, inl, inr, refl, ap, ◌∙◌}
+use Rattle.std.proofs.Common.{arith, true, fold, replicate, subst, take, Ok}
 use Rattle.mach_types.specs.Kernel.Barriers.{asked as command_asked}
-use Rattle.mach_types.specs.Kernel.SignalFrames.{can_write_frame, frame_read}
-use Rattle.mach_types.specs.Kernel.Signals.{all_signals}
 use Rattle.mach_types.specs.Registers.{register}
 use Rattle.mach_types.specs.declared.events.Choice.TheVariants as asked
 use Rattle.mach_types.specs.declared.events.Entry.{Entry}
 use Rattle.mach_types.specs.declared.events.Kind.TheVariants as kind
-use Rattle.rv_inst.specs.Meaning.{meaning}
-use Rattle.rv_inst.specs.Table.{row_of, rows, lui_rows, auipc_rows, jal_rows, jalr_rows, branch_rows}
-use Rattle.rv_inst.specs.Table.{load_rows, store_rows}
-use Rattle.rv_inst.specs.Table.{op_imm_rows, op_imm_32_rows, op_rows, op_32_rows, misc_mem_rows, amo_rows}
-use Rattle.rv_inst.specs.Table.{system_rows}
-use Rattle.block_model.specs.Deciding.{decide, done, event, history}
+use Rattle.block_model.specs.Deciding.{event, history}
 use Rattle.block_model.specs.History.{Event, file}
 use Rattle.block_model.specs.Replay.{Ask, play_line, played}
 use Rattle.block_model.specs.Run.{IsBlockRun}
 use Rattle.block_model.specs.Setting.{Setting}
 use Rattle.block_model.proofs.Laws.{played_is_run}
 use Rattle.alone_laws.specs.Spans.{code_of}
+use Rattle.percpu_lib.proofs.Computing.{by_rules, by_signals, by_table}
+use Rattle.percpu_lib.proofs.ExampleParts.{AreThere}
 use Rattle.urcu_lib.specs.Blocks.{Urcu, lock_block, sync_block, unlock_block}
-use Rattle.urcu_lib.specs.Registers.{AreReadRegs}
 use Rattle.urcu_lib.specs.Sections.{IsLockStore}
 use Rattle.urcu_lib.specs.Stretch.{IsPassing, Runs}
-use Rattle.urcu_lib.specs.Uses.{HoldsUrcu, IsStart}
+use Rattle.urcu_lib.specs.Uses.{HoldsUrcu}
 use Rattle.urcu_lib.specs.declared.regs.ReadRegs.{ReadRegs}
+use Rattle.urcu_lib.proofs.ExampleParts.{blocks_so, entry, execs, line, played_on, reads_so, start_so, walk}
 use Rattle.urcu_lib.proofs.RunTests.{all_go_on, executed_in, runs_so}
-use Rattle.urcu_lib.proofs.UseExample.{AreThere, are_sync, blocks_so, entry, is_register, line, sync_regs}
-use Rattle.urcu_lib.proofs.UseTests.{Layout, all_used, are_fine, is_file, is_lock_store, lock_store_is, only}
+use Rattle.urcu_lib.proofs.UseExample.{are_sync, sync_regs}
+use Rattle.urcu_lib.proofs.UseTests.{Layout, all_used, are_fine, is_file, is_lock_store, lock_store_is}
 use Rattle.urcu_lib.proofs.UseTests.{saved_is, urcu_of}
 
--- The first thread registers for membarrier, starts the readers, sets the handler of SIGUSR1 and sends itself the
--- signal. From 0x10064 on stands the sync block, behind it a jump back to it and the handler, `jalr x0, 0(x1)`, and at
--- 0x100B0 the lock block and the unlock block. The counter is at 0x20000, the action behind it, the slots at 0x20040
--- and 0x20080
+-- The first thread registers for membarrier, starts the readers, sets the handler of SIGUSR1 and sends itself
+-- the signal. From 0x10064 on stands the sync block, behind it a jump back to it and the handler, `jalr x0,
+-- 0(x1)`, and at 0x100B0 the lock block and the unlock block. The counter is at 0x20000, the action behind
+-- it, the slots at 0x20040 and 0x20080
 abbrev code : List ℕ
 code =
     0x37 ∷ 0x04 ∷ 0x02 ∷ 0x00 ∷ 0x93 ∷ 0x04 ∷ 0x04 ∷ 0x04 ∷ 0x13 ∷ 0x05 ∷ 0x00 ∷ 0x01 ∷ 0x93 ∷ 0x08 ∷ 0xB0
@@ -89,29 +83,19 @@ layout = record {
 abbrev pub urcu : Urcu
 urcu = urcu_of layout
 
--- up to the store of the first reader's lock; up to the first call; up to the signal, where the thread has loaded a
--- slot; up to the handler's return; up to the last instruction of the block; up to its first one; up to the second
--- call; up to the last instruction again; and two instructions more
+-- up to the store of the first reader's lock; up to the first call; up to the signal, where the thread has
+-- loaded a slot; up to the handler's return; up to the last instruction of the block; up to its first one; up
+-- to the second call; up to the last instruction again; and two instructions more
 abbrev pub first : List Entry
 first =
-    entry 0 kind.Run 1 0x10000 ∷ entry 0 kind.Exec 1 0x10000 ∷ entry 0 kind.Exec 1 0x10004
-    ∷ entry 0 kind.Exec 1 0x10008 ∷ entry 0 kind.Exec 1 0x1000C ∷ entry 0 kind.Exec 1 0x10010
-    ∷ entry 0 kind.Exec 1 0x10014 ∷ entry 0 kind.Exec 1 0x10018 ∷ entry 0 kind.Exec 1 0x1001C
-    ∷ entry 0 kind.Exec 1 0x10020 ∷ entry 0 kind.Exec 1 0x10024 ∷ entry 0 kind.Exec 1 0x10028
-    ∷ entry 0 kind.Exec 1 0x1002C ∷ entry 0 kind.Exec 1 0x10030 ∷ entry 0 kind.Exec 1 0x10034
-    ∷ entry 0 kind.Exec 1 0x10038 ∷ entry 0 kind.Exec 1 0x1003C ∷ entry 0 kind.Exec 1 0x10040
-    ∷ entry 0 kind.Exec 1 0x10044 ∷ entry 0 kind.Exec 1 0x10048 ∷ entry 0 kind.Exec 1 0x1004C
-    ∷ entry 0 kind.Exec 1 0x10050 ∷ entry 0 kind.Exec 1 0x10054 ∷ entry 0 kind.Exec 1 0x10058
-    ∷ entry 0 kind.Exec 1 0x1005C ∷ entry 0 kind.Exec 1 0x10060 ∷ entry 1 kind.Run 2 0x10028
+    entry 0 kind.Run 1 0x10000 ∷ walk 0 1 0x10000 25 ++ entry 1 kind.Run 2 0x10028
     ∷ entry 1 kind.Exec 2 0x10028 ∷ entry 1 kind.Exec 2 0x100B0 ∷ []
 
 abbrev pub lock_entry : Entry
 lock_entry = entry 1 kind.Exec 2 0x100B4
 
 abbrev pub second : List Entry
-second =
-    entry 2 kind.Run 3 0x1003C ∷ entry 2 kind.Exec 3 0x1003C ∷ entry 0 kind.Exec 1 0x10064
-    ∷ entry 0 kind.Exec 1 0x10068 ∷ entry 0 kind.Exec 1 0x1006C ∷ entry 0 kind.Exec 1 0x10070 ∷ []
+second = entry 2 kind.Run 3 0x1003C ∷ entry 2 kind.Exec 3 0x1003C ∷ walk 0 1 0x10064 4
 
 abbrev pub call_entry : Entry
 call_entry = entry 0 kind.Exec 1 0x10074
@@ -119,29 +103,21 @@ call_entry = entry 0 kind.Exec 1 0x10074
 abbrev pub third : List Entry
 third =
     entry 1 kind.Drain 2 0x100B8 ∷ entry 1 kind.Take 2 0x100B8 ∷ entry 2 kind.Take 3 0x100B0
-    ∷ entry 0 kind.Done 1 0x10078 ∷ entry 0 kind.Exec 1 0x10078 ∷ entry 0 kind.Exec 1 0x1007C
-    ∷ entry 0 kind.Exec 1 0x10080 ∷ entry 0 kind.Exec 1 0x10084 ∷ entry 0 kind.Exec 1 0x10088
-    ∷ entry 0 kind.Exec 1 0x1008C ∷ entry 0 kind.Exec 1 0x10090 ∷ entry 0 kind.Exec 1 0x10094
-    ∷ entry 0 kind.Drain 1 0x1008C ∷ []
+    ∷ entry 0 kind.Done 1 0x10078 ∷ walk 0 1 0x10078 8 ++ entry 0 kind.Drain 1 0x1008C ∷ []
 
 abbrev pub signal_entry : Entry
 signal_entry = entry 0 kind.Signal 1 0x1008C
 
 abbrev pub fourth : List Entry
-fourth =
-    entry 0 kind.Exec 1 0x100AC ∷ entry 0 kind.Exec 1 0x3FFFFF0000 ∷ []
+fourth = entry 0 kind.Exec 1 0x100AC ∷ entry 0 kind.Exec 1 0x3FFFFF0000 ∷ []
 
 abbrev pub back_entry : Entry
 back_entry = entry 0 kind.Exec 1 0x3FFFFF0004
 
 abbrev pub fifth : List Entry
 fifth =
-    entry 2 kind.Exec 3 0x100B0 ∷ entry 2 kind.Exec 3 0x100B4 ∷ entry 2 kind.Drain 3 0x100B8
-    ∷ entry 1 kind.Exec 2 0x100B8 ∷ entry 1 kind.Drain 2 0x100BC ∷ entry 0 kind.Exec 1 0x1008C
-    ∷ entry 0 kind.Exec 1 0x10090 ∷ entry 0 kind.Exec 1 0x10098 ∷ entry 0 kind.Exec 1 0x1009C
-    ∷ entry 0 kind.Exec 1 0x100A0 ∷ entry 0 kind.Exec 1 0x1008C ∷ entry 0 kind.Exec 1 0x10090
-    ∷ entry 0 kind.Exec 1 0x10094 ∷ entry 0 kind.Exec 1 0x10098 ∷ entry 0 kind.Exec 1 0x1009C
-    ∷ entry 0 kind.Exec 1 0x100A0 ∷ []
+    walk 2 3 0x100B0 2 ++ entry 2 kind.Drain 3 0x100B8 ∷ entry 1 kind.Exec 2 0x100B8
+    ∷ entry 1 kind.Drain 2 0x100BC ∷ walk 0 1 0x1008C 2 ++ walk 0 1 0x10098 3 ++ walk 0 1 0x1008C 6
 
 abbrev pub last_entry : Entry
 last_entry = entry 0 kind.Exec 1 0x100A4
@@ -150,9 +126,7 @@ abbrev pub sixth : List Entry
 sixth = entry 2 kind.Exec 3 0x100B8 ∷ entry 0 kind.Exec 1 0x100A8 ∷ []
 
 abbrev pub seventh : List Entry
-seventh =
-    entry 0 kind.Exec 1 0x10064 ∷ entry 0 kind.Exec 1 0x10068 ∷ entry 0 kind.Exec 1 0x1006C
-    ∷ entry 0 kind.Exec 1 0x10070 ∷ []
+seventh = walk 0 1 0x10064 4
 
 abbrev pub again_entry : Entry
 again_entry = entry 0 kind.Exec 1 0x10074
@@ -160,12 +134,8 @@ again_entry = entry 0 kind.Exec 1 0x10074
 abbrev pub eighth : List Entry
 eighth =
     entry 1 kind.Take 2 0x100BC ∷ entry 2 kind.Drain 3 0x100BC ∷ entry 2 kind.Take 3 0x100BC
-    ∷ entry 0 kind.Done 1 0x10078 ∷ entry 0 kind.Exec 1 0x10078 ∷ entry 0 kind.Exec 1 0x1007C
-    ∷ entry 0 kind.Exec 1 0x10080 ∷ entry 0 kind.Exec 1 0x10084 ∷ entry 0 kind.Exec 1 0x10088
-    ∷ entry 0 kind.Exec 1 0x1008C ∷ entry 0 kind.Exec 1 0x10090 ∷ entry 0 kind.Exec 1 0x10098
-    ∷ entry 0 kind.Exec 1 0x1009C ∷ entry 0 kind.Exec 1 0x100A0 ∷ entry 0 kind.Exec 1 0x1008C
-    ∷ entry 0 kind.Exec 1 0x10090 ∷ entry 0 kind.Exec 1 0x10098 ∷ entry 0 kind.Exec 1 0x1009C
-    ∷ entry 0 kind.Exec 1 0x100A0 ∷ []
+    ∷ entry 0 kind.Done 1 0x10078 ∷ walk 0 1 0x10078 7 ++ walk 0 1 0x10098 3 ++ walk 0 1 0x1008C 2
+    ++ walk 0 1 0x10098 3
 
 abbrev pub over_entry : Entry
 over_entry = entry 0 kind.Exec 1 0x100A4
@@ -200,9 +170,6 @@ log = to_over ++ over_entry ∷ ninth
 
 -- the script is played in parts, each from the log that the parts before it make
 
-abbrev execs : ℕ → ℕ → List Ask
-execs h n = replicate n (line h asked.Exec)
-
 abbrev to_call : List Ask
 to_call =
     line 0 (asked.Run (record { 0 = 1 }))
@@ -221,7 +188,8 @@ to_return =
 abbrev to_second_call : List Ask
 to_second_call =
     execs 2 2
-    ++ (line 2 asked.Drain ∷ line 1 asked.Exec ∷ line 1 asked.Drain ∷ (execs 0 12 ++ (execs 2 1 ++ execs 0 6)))
+    ++ (line 2 asked.Drain ∷ line 1 asked.Exec ∷ line 1 asked.Drain ∷ (execs 0 12 ++
+    (execs 2 1 ++ execs 0 6)))
 
 abbrev to_end : List Ask
 to_end = line 1 asked.Take ∷ line 2 asked.Drain ∷ line 2 asked.Take ∷ line 0 asked.Done ∷ execs 0 18
@@ -229,26 +197,21 @@ to_end = line 1 asked.Take ∷ line 2 asked.Drain ∷ line 2 asked.Take ∷ line
 abbrev lines : List Ask
 lines = to_call ++ (to_return ++ (to_second_call ++ to_end))
 
-played_on : (s : Setting) (xs ys : List Ask) (r : Result (List Entry) ℕ)
-    → fold (play_line s) r (xs ++ ys) ≡ fold (play_line s) (fold (play_line s) r xs) ys
-played_on s [] ys r = refl
-played_on s (x ∷ xs) ys r = played_on s xs ys (play_line s r x)
-
 to_call_played : fold (play_line waiting) (Ok []) to_call ≡ Ok (begun ++ call_entry ∷ [])
-unfolding decide history done meaning row_of rows lui_rows auipc_rows jal_rows jalr_rows branch_rows load_rows store_rows op_imm_rows op_imm_32_rows op_rows op_32_rows misc_mem_rows amo_rows system_rows are_readable number_at command_asked all_signals can_write_frame frame_read
+unfolding by_rules command_asked by_signals
 to_call_played = refl
 
 to_return_played : fold (play_line waiting) (Ok (begun ++ call_entry ∷ [])) to_return ≡ Ok come_back
-unfolding decide history done meaning row_of rows lui_rows auipc_rows jal_rows jalr_rows branch_rows load_rows store_rows op_imm_rows op_imm_32_rows op_rows op_32_rows misc_mem_rows amo_rows system_rows are_readable number_at command_asked all_signals can_write_frame frame_read
+unfolding by_rules command_asked by_signals
 to_return_played = refl
 
 to_second_call_played : fold (play_line waiting) (Ok come_back) to_second_call
     ≡ Ok (called_again ++ again_entry ∷ [])
-unfolding decide history done meaning row_of rows lui_rows auipc_rows jal_rows jalr_rows branch_rows load_rows store_rows op_imm_rows op_imm_32_rows op_rows op_32_rows misc_mem_rows amo_rows system_rows are_readable number_at command_asked all_signals can_write_frame frame_read
+unfolding by_rules command_asked by_signals
 to_second_call_played = refl
 
 to_end_played : fold (play_line waiting) (Ok (called_again ++ again_entry ∷ [])) to_end ≡ Ok log
-unfolding decide history done meaning row_of rows lui_rows auipc_rows jal_rows jalr_rows branch_rows load_rows store_rows op_imm_rows op_imm_32_rows op_rows op_32_rows misc_mem_rows amo_rows system_rows are_readable number_at command_asked all_signals can_write_frame frame_read
+unfolding by_rules command_asked by_signals
 to_end_played = refl
 
 is_played : played waiting lines ≡ Ok log
@@ -266,29 +229,32 @@ pub is_run : IsBlockRun waiting log
 is_run = (played_is_run waiting lines log is_played).0
 
 fine : are_fine waiting layout 1 (history waiting log) ≡ true
-unfolding decide history done meaning row_of rows lui_rows auipc_rows jal_rows jalr_rows branch_rows load_rows store_rows op_imm_rows op_imm_32_rows op_rows op_32_rows misc_mem_rows amo_rows system_rows are_readable number_at command_asked all_signals can_write_frame frame_read
+unfolding by_rules command_asked by_signals
 fine = refl
 
-locks_it : is_lock_store waiting layout 1 0 (event waiting (history waiting first) lock_entry) (history waiting first)
+locks_it : is_lock_store waiting layout 1 0 (event waiting (history waiting first) lock_entry)
+    (history waiting first)
     ≡ true
-unfolding decide history done meaning row_of rows lui_rows auipc_rows jal_rows jalr_rows branch_rows load_rows store_rows op_imm_rows op_imm_32_rows op_rows op_32_rows misc_mem_rows amo_rows system_rows are_readable number_at command_asked all_signals can_write_frame frame_read
+unfolding by_rules command_asked by_signals
 locks_it = refl
 
-pub locks : IsLockStore waiting urcu 0 (event waiting (history waiting first) lock_entry) (history waiting first)
-locks = lock_store_is waiting layout 1 0 (event waiting (history waiting first) lock_entry) (history waiting first)
+pub locks : IsLockStore waiting urcu 0 (event waiting (history waiting first) lock_entry)
+    (history waiting first)
+locks = lock_store_is waiting layout 1 0 (event waiting (history waiting first) lock_entry)
+    (history waiting first)
     locks_it
 
 -- in the loop the thread has loaded 1, which is below the new counter; and it comes back to there as it was
 pub at_load : (file waiting 1 (history waiting in_loop)).pc ≡ 0x1008C
-unfolding decide history done meaning row_of rows lui_rows auipc_rows jal_rows jalr_rows branch_rows load_rows store_rows op_imm_rows op_imm_32_rows op_rows op_32_rows misc_mem_rows amo_rows system_rows are_readable number_at command_asked all_signals can_write_frame frame_read
+unfolding by_rules command_asked by_signals
 at_load = refl
 
 loaded : register (file waiting 1 (history waiting in_loop)).file 10 ≡ 1
-unfolding decide history done meaning row_of rows lui_rows auipc_rows jal_rows jalr_rows branch_rows load_rows store_rows op_imm_rows op_imm_32_rows op_rows op_32_rows misc_mem_rows amo_rows system_rows are_readable number_at command_asked all_signals can_write_frame frame_read
+unfolding by_rules command_asked by_signals
 loaded = refl
 
 counter : register (file waiting 1 (history waiting in_loop)).file 5 ≡ 2
-unfolding decide history done meaning row_of rows lui_rows auipc_rows jal_rows jalr_rows branch_rows load_rows store_rows op_imm_rows op_imm_32_rows op_rows op_32_rows misc_mem_rows amo_rows system_rows are_readable number_at command_asked all_signals can_write_frame frame_read
+unfolding by_rules command_asked by_signals
 counter = refl
 
 pub fails : IsPassing (file waiting 1 (history waiting in_loop)).file → ⊥
@@ -301,76 +267,60 @@ fails passing = no_pass passing
     no_pass (inr low) = let one = loaded in let two = counter in omega arith
 
 is_so : is_file (file waiting 1 (history waiting come_back)) (file waiting 1 (history waiting in_loop)) ≡ true
-unfolding decide history done meaning row_of rows lui_rows auipc_rows jal_rows jalr_rows branch_rows load_rows store_rows op_imm_rows op_imm_32_rows op_rows op_32_rows misc_mem_rows amo_rows system_rows are_readable number_at command_asked all_signals can_write_frame frame_read
+unfolding by_rules command_asked by_signals
 is_so = refl
 
 pub comes_back : file waiting 1 (history waiting come_back) ≡ file waiting 1 (history waiting in_loop)
 comes_back =
     saved_is (file waiting 1 (history waiting come_back)) (file waiting 1 (history waiting in_loop)) is_so
 
--- from the block's first instruction on it then executes 23 instructions undisturbed, and each of its loads passes
+-- from the block's first instruction on it then executes 23 instructions undisturbed, and each of its loads
+-- passes
 pub starts : (file waiting 1 (history waiting at_start)).pc ≡ 0x10064
-unfolding decide history done meaning row_of rows lui_rows auipc_rows jal_rows jalr_rows branch_rows load_rows store_rows op_imm_rows op_imm_32_rows op_rows op_32_rows misc_mem_rows amo_rows system_rows are_readable number_at command_asked all_signals can_write_frame frame_read
+unfolding by_rules command_asked by_signals
 starts = refl
 
 abbrev since : List Event
 since = take 27 (history waiting log)
 
 are_since : since ++ history waiting at_start ≡ history waiting log
-unfolding decide history done meaning row_of rows lui_rows auipc_rows jal_rows jalr_rows branch_rows load_rows store_rows op_imm_rows op_imm_32_rows op_rows op_32_rows misc_mem_rows amo_rows system_rows are_readable number_at command_asked all_signals can_write_frame frame_read
+unfolding by_rules command_asked by_signals
 are_since = refl
 
 all_go : all_go_on waiting 0x10064 1 since (history waiting at_start) ≡ true
-unfolding decide history done meaning row_of rows lui_rows auipc_rows jal_rows jalr_rows branch_rows load_rows store_rows op_imm_rows op_imm_32_rows op_rows op_32_rows misc_mem_rows amo_rows system_rows are_readable number_at command_asked all_signals can_write_frame frame_read
+unfolding by_rules command_asked by_signals
 all_go = refl
 
 counts : executed_in waiting 0x10064 1 since ≡ 23
-unfolding decide history done meaning row_of rows lui_rows auipc_rows jal_rows jalr_rows branch_rows load_rows store_rows op_imm_rows op_imm_32_rows op_rows op_32_rows misc_mem_rows amo_rows system_rows are_readable number_at command_asked all_signals can_write_frame frame_read
+unfolding by_rules command_asked by_signals
 counts = refl
 
 pub runs : Runs waiting 0x10064 1 (history waiting at_start) (history waiting log) 23
 runs =
     subst (λ n. Runs waiting 0x10064 1 (history waiting at_start) (history waiting log) n) counts
-    (subst (λ h. Runs waiting 0x10064 1 (history waiting at_start) h (executed_in waiting 0x10064 1 since)) are_since
+    (subst (λ h. Runs waiting 0x10064 1 (history waiting at_start) h
+    (executed_in waiting 0x10064 1 since)) are_since
     (runs_so waiting 0x10064 1 since (history waiting at_start) all_go))
 
 lock_there : AreThere (code_of waiting.program.pages) 0x100B0 (lock_block read_regs)
-unfolding row_of rows lui_rows auipc_rows jal_rows jalr_rows branch_rows load_rows store_rows op_imm_rows op_imm_32_rows op_rows op_32_rows misc_mem_rows amo_rows system_rows
+unfolding by_table
 lock_there = (refl, (refl, tt))
 
 unlock_there : AreThere (code_of waiting.program.pages) 0x100B8 (unlock_block read_regs)
-unfolding row_of rows lui_rows auipc_rows jal_rows jalr_rows branch_rows load_rows store_rows op_imm_rows op_imm_32_rows op_rows op_32_rows misc_mem_rows amo_rows system_rows
+unfolding by_table
 unlock_there = (refl, tt)
 
 sync_there : AreThere (code_of waiting.program.pages) 0x10064 (sync_block sync_regs 2)
-unfolding row_of rows lui_rows auipc_rows jal_rows jalr_rows branch_rows load_rows store_rows op_imm_rows op_imm_32_rows op_rows op_32_rows misc_mem_rows amo_rows system_rows
+unfolding by_table
 sync_there = (refl, (refl, (refl, (refl, (refl, (refl, (refl, (refl, (refl, (refl, (refl, (refl, (refl, (refl, (refl, (refl, (refl, tt)))))))))))))))))
-
-are_read : AreReadRegs read_regs
-are_read = record {
-  gp = is_register 8 refl (ltb-true 8 32 refl);
-  slot = is_register 19 refl (ltb-true 19 32 refl);
-  scratch = is_register 18 refl (ltb-true 18 32 refl);
-  gp_slot = eqb-false 8 19 refl;
-  gp_scratch = eqb-false 8 18 refl;
-  slot_scratch = eqb-false 19 18 refl;
-}
-
-start : IsStart waiting urcu 1
-start = record {
-  counter = refl;
-  some = leb-true 1 1 refl;
-  fits = ltb-true 1 (2 ^ 64) refl;
-  locking = λ at r is same. let its = (only at 0x100B0 read_regs r is).0 in let no : ⊥ = omega arith in no;
-  syncing = λ at k r is some lt same. let its =
-      (only at 0x10064 sync_regs r is).0 in let no : ⊥ = omega arith in no;
-}
 
 pub holds : HoldsUrcu waiting urcu (history waiting log)
 holds = record {
   first = 1;
   blocks =
-      blocks_so waiting.program.pages layout refl refl are_read are_read are_sync lock_there unlock_there sync_there;
-  start = start;
+      blocks_so waiting.program.pages layout refl refl (reads_so read_regs refl)
+      (reads_so read_regs refl) are_sync
+      lock_there unlock_there sync_there;
+  start = start_so waiting layout 1 refl refl refl;
   uses = all_used waiting layout 1 (history waiting log) fine;
 }

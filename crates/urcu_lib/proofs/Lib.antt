@@ -1,6 +1,7 @@
 pub mod CallWords
 pub mod CounterLaw
 pub mod EmittedWords
+pub mod ExampleParts
 pub mod GraceLaw
 pub mod HandlerExample
 pub mod LowCode

@@ -77,48 +77,23 @@ only at p v r is = by_test (eqb at p) refl is
 
 pub exec_is : (c : Choice) → is_exec c ≡ true → c ≡ asked.Exec
 exec_is asked.Exec is = refl
-exec_is asked.Drain is = absurd (false≢true is)
-exec_is asked.Take is = absurd (false≢true is)
-exec_is asked.Done is = absurd (false≢true is)
-exec_is asked.Preempt is = absurd (false≢true is)
-exec_is (asked.Run t) is = absurd (false≢true is)
-exec_is asked.Signal is = absurd (false≢true is)
+exec_is other is = absurd (false≢true is)
 
 abbrev is_drain : Choice → Bool
-is_drain asked.Exec = false
 is_drain asked.Drain = true
-is_drain asked.Take = false
-is_drain asked.Done = false
-is_drain asked.Preempt = false
-is_drain (asked.Run t) = false
-is_drain asked.Signal = false
+is_drain other = false
 
 drain_is : (c : Choice) → is_drain c ≡ true → c ≡ asked.Drain
-drain_is asked.Exec is = absurd (false≢true is)
 drain_is asked.Drain is = refl
-drain_is asked.Take is = absurd (false≢true is)
-drain_is asked.Done is = absurd (false≢true is)
-drain_is asked.Preempt is = absurd (false≢true is)
-drain_is (asked.Run t) is = absurd (false≢true is)
-drain_is asked.Signal is = absurd (false≢true is)
+drain_is other is = absurd (false≢true is)
 
 abbrev is_done : Choice → Bool
-is_done asked.Exec = false
-is_done asked.Drain = false
-is_done asked.Take = false
 is_done asked.Done = true
-is_done asked.Preempt = false
-is_done (asked.Run t) = false
-is_done asked.Signal = false
+is_done other = false
 
 done_is : (c : Choice) → is_done c ≡ true → c ≡ asked.Done
-done_is asked.Exec is = absurd (false≢true is)
-done_is asked.Drain is = absurd (false≢true is)
-done_is asked.Take is = absurd (false≢true is)
 done_is asked.Done is = refl
-done_is asked.Preempt is = absurd (false≢true is)
-done_is (asked.Run t) is = absurd (false≢true is)
-done_is asked.Signal is = absurd (false≢true is)
+done_is other is = absurd (false≢true is)
 
 -- each number below another
 abbrev all_below : ℕ → (ℕ → Bool) → Bool

@@ -2,15 +2,16 @@ use Rattle.std.proofs.Common.{refl}
 use Rattle.percpu_lib.specs.Adds.{cell_seen}
 use Rattle.percpu_lib.specs.Uses.{cells_of}
 use Rattle.percpu_lib.proofs.UseTests.{just_is}
-use Rattle.guest_programs.proofs.CounterCode.{assembled, assembler, code, emitted}
+use Rattle.guest_names.specs.declared.names.Name.TheVariants.{Counter}
+use Rattle.guest_programs.proofs.GuestCode.{assembler_of, code_of_words, counter_code, counter_words}
 use Rattle.guest_programs.proofs.CounterLog as example
 use Rattle.guest_programs.proofs.theorems.counters_use_their_block.Goals as goal
 
 pub returns : goal.returns
 returns c =
     let its = example.adds_well in (
-      assembler,
-      code,
+      assembler_of Counter counter_words,
+      code_of_words counter_words,
       example.counting,
       example.log,
       example.slots,
@@ -18,8 +19,8 @@ returns c =
       example.area,
       0,
       its.sequence,
-      emitted,
-      assembled,
+      counter_code.emitted,
+      counter_code.assembled,
       refl,
       its.used.run,
       its.used.holds,

@@ -4,7 +4,8 @@ use Rattle.percpu_lib.specs.Adds.{cell_seen}
 use Rattle.percpu_lib.specs.Pushes.{node_of}
 use Rattle.percpu_lib.specs.Uses.{cells_of}
 use Rattle.percpu_lib.proofs.UseTests.{is_just, just_is}
-use Rattle.guest_programs.proofs.ListCode.{assembled, assembler, code, emitted}
+use Rattle.guest_names.specs.declared.names.Name.TheVariants.{List as Lists}
+use Rattle.guest_programs.proofs.GuestCode.{assembler_of, code_of_words, list_code, list_words}
 use Rattle.guest_programs.proofs.ListLog as example
 use Rattle.guest_programs.proofs.theorems.lists_use_their_block.Goals as goal
 
@@ -13,8 +14,8 @@ returns c = record {
   push =
       let its = example.pushes_well in
       let q = its.sequence in (
-        assembler,
-        code,
+        assembler_of Lists list_words,
+        code_of_words list_words,
         example.listing,
         example.push_log,
         example.push_slots,
@@ -22,8 +23,8 @@ returns c = record {
         example.push_area,
         example.the_pop ∷ [],
         q,
-        emitted,
-        assembled,
+        list_code.emitted,
+        list_code.assembled,
         refl,
         its.used,
         just_is (cell_seen example.listing 0 (cells_of example.listing example.push_slots q.thread q.begun) q.reached)
@@ -35,8 +36,8 @@ returns c = record {
       let cells = cells_of example.listing example.pop_slots q.thread q.begun in
       let one = and_parts (is_just (cell_seen example.listing 0 cells q.begun) 0x40000) _ its.passes in
       let two = and_parts (eqb (node_of example.listing example.pop_slots q.thread q.reached) 0x40000) _ one.1 in (
-        assembler,
-        code,
+        assembler_of Lists list_words,
+        code_of_words list_words,
         example.listing,
         example.log,
         example.pop_slots,
@@ -44,8 +45,8 @@ returns c = record {
         example.pop_area,
         example.the_push ∷ [],
         q,
-        emitted,
-        assembled,
+        list_code.emitted,
+        list_code.assembled,
         refl,
         its.used,
         just_is (cell_seen example.listing 0 cells q.begun) 0x40000 one.0,

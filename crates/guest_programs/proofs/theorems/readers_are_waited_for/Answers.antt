@@ -1,12 +1,13 @@
 use Rattle.std.proofs.Common.{refl}
-use Rattle.guest_programs.proofs.UrcuCode.{assembled, assembler, code, emitted}
+use Rattle.guest_names.specs.declared.names.Name.TheVariants.{Urcu}
+use Rattle.guest_programs.proofs.GuestCode.{assembler_of, code_of_words, urcu_code, urcu_words}
 use Rattle.guest_programs.proofs.UrcuLog as example
 use Rattle.guest_programs.proofs.theorems.readers_are_waited_for.Goals as goal
 
 pub returns : goal.returns
 returns c = (
-  assembler,
-  code,
+  assembler_of Urcu urcu_words,
+  code_of_words urcu_words,
   example.exchanging,
   example.first,
   example.second,
@@ -18,8 +19,8 @@ returns c = (
   0x1019C,
   1,
   example.waits,
-  emitted,
-  assembled,
+  urcu_code.emitted,
+  urcu_code.assembled,
   refl,
   example.is_run,
   example.holds,
