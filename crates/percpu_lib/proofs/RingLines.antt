@@ -2,9 +2,11 @@
 use Rattle.std.proofs.Common.{◌≡◌, ℕ, zero, suc, ◌+◌, ◌-◌, ◌*◌, ◌<◌, ◌≤◌, List, [], ◌∷◌, ◌++◌, refl, ap, ◌∙◌, arith}
 use Rattle.std.proofs.Common.{true, ◌&&◌, ltb, All, pos}
 use Rattle.std.proofs.lemmas.Bool.{lt-ltb}
+use Rattle.rv_asm.specs.Assembly.{Assembly}
 use Rattle.rv_asm.specs.Fields.{has_signed_bits}
-use Rattle.percpu_lib.specs.BlockLines.{HasNoLabel, block_lines}
-use Rattle.percpu_lib.specs.Lines.{IsEmittable}
+use Rattle.percpu_lib.specs.BlockLines.{HasNoLabel, IsLabelled, block_lines}
+use Rattle.percpu_lib.specs.Lines.{AreEmitted, HasRoom, IsEmittable}
+use Rattle.percpu_lib.specs.RingKinds.{RingKind, gets, puts, ring_lines_of, ring_steps_of}
 use Rattle.percpu_lib.specs.Rings.{get_steps, get_test, get_word, get_words, put_steps, put_test, put_word}
 use Rattle.percpu_lib.specs.Rings.{put_words, ring_aborted, ring_first, ring_get_lines, ring_put_lines}
 use Rattle.percpu_lib.specs.Words.{AreSlots}
@@ -12,6 +14,7 @@ use Rattle.percpu_lib.specs.declared.lines.Line.{Line}
 use Rattle.percpu_lib.specs.declared.lines.Line.TheVariants as line
 use Rattle.percpu_lib.specs.declared.slots.Slots.{Slots}
 use Rattle.percpu_lib.proofs.Emittable.{AreEmittable, all_joined, block_emittable, both_true, second, written}
+use Rattle.percpu_lib.proofs.Labels.{labelled}
 
 -- LABELS
 
@@ -119,3 +122,29 @@ pub lines_made : (p : Slots) (base : ℕ) (lines inside steps : List Line)
     → lines ≡ block_lines p base 13 (ring_first p) steps (ring_aborted p)
 lines_made p base lines inside steps made same =
     made ∙ ap (λ (xs : List Line). block_lines p base 13 (ring_first p) xs (ring_aborted p)) same
+
+-- THE SAME BY KIND
+
+pub way_made : (k : RingKind) (count : ℕ) (p : Slots) (base : ℕ) (lines inside : List Line)
+    → lines ≡ block_lines p base 13 (ring_first p) inside (ring_aborted p)
+    → inside ≡ ring_steps_of k p base count → lines ≡ ring_lines_of k count p base
+way_made puts count p base lines inside made same =
+    lines_made p base lines inside (put_steps p base count) made same
+way_made gets count p base lines inside made same =
+    lines_made p base lines inside (get_steps p base count) made same
+
+pub ring_emittable : (k : RingKind) (p : Slots) (base labels : ℕ) → AreSlots p → p.table < 0x7FFFF800
+    → base + 8 ≤ labels → (count : ℕ) → count ≤ 4 → All (IsEmittable labels) (ring_lines_of k count p base)
+ring_emittable puts p base labels slots low room count few =
+    ring_put_emittable p base labels slots low room count few
+ring_emittable gets p base labels slots low room count few =
+    ring_get_emittable p base labels slots low room count few
+
+pub ring_labelled : (k : RingKind) (count : ℕ) (p : Slots) (base : ℕ) (a b : Assembly)
+    → AreEmitted (ring_lines_of k count p base) a b → HasRoom a.labels base → IsLabelled base b
+ring_labelled puts count p base a b is room =
+    labelled p base 13 (ring_first p) (put_steps p base count) (ring_aborted p) a b is room tt
+    (put_none p base count) tt
+ring_labelled gets count p base a b is room =
+    labelled p base 13 (ring_first p) (get_steps p base count) (ring_aborted p) a b is room tt
+    (get_none p base count) tt

@@ -1,8 +1,10 @@
 //! The blocks that put words into the ring of their processor and get them out of it (own).
 
 ghost use Rattle.std.specs.Prelude.{◌≡◌, ◌↔◌, ◌+◌, ◌^◌, ◌<◌, ◌≤◌, ℕ, Ok, Err, OnOk, IfOk, take};
+ghost use Rattle.percpu_lib.specs.BlockKinds.{ring_kind_of};
 ghost use Rattle.percpu_lib.specs.BlockLines.{IsLabelled, block_lines};
 ghost use Rattle.percpu_lib.specs.Lines.{AreEmitted, HasRoom};
+ghost use Rattle.percpu_lib.specs.RingKinds.{ring_lines_of, ring_steps_of};
 ghost use Rattle.percpu_lib.specs.Rings.{get_steps, put_steps, ring_aborted, ring_first};
 ghost use Rattle.percpu_lib.specs.Rings.{ring_get_lines, ring_put_lines};
 ghost use Rattle.percpu_lib.specs.Words.{AreSlots};
@@ -15,6 +17,15 @@ use crate::slots::Slots;
 use rv_asm::Asm;
 use rv_inst::Inst;
 use std::alloc::{AllocError, Global};
+
+/// Which way the words of a block go.
+#[derive(Clone, Copy, Drop)]
+pub enum RingWay {
+    /// Into the ring.
+    In,
+    /// Out of it.
+    Out,
+}
 
 /// How many lines of a block stand before what it does inside.
 const BEFORE: usize = 11;
@@ -95,6 +106,24 @@ fn steps_of_get(alloc: Global, base: u32, slots: Slots, count: u8) -> Result<Vec
     Ok(lines)
 }
 
+/// What a block does inside that moves so many words this way.
+fn steps_of_ring(
+    alloc: Global,
+    base: u32,
+    slots: Slots,
+    way: RingWay,
+    count: u8,
+) -> Result<Vec<Line>, AllocError>
+    requires few { count ≤ 4 }
+    requires fits { base + 8 < 2 ^ 32 }
+    ensures { IfOk result (λ lines. lines.items ≡ ring_steps_of (ring_kind_of way) slots base count) }
+{
+    match way {
+        RingWay::In => steps_of_put(alloc, base, slots, count),
+        RingWay::Out => steps_of_get(alloc, base, slots, count),
+    }
+}
+
 /// The lines of a block that does this inside, and that brings its value back where it was aborted.
 fn lines_of_ring(
     alloc: Global,
@@ -127,8 +156,37 @@ fn lines_of_ring(
     Ok(lines)
 }
 
-/// Appends a block that puts `count` words, from the address in the value on, into the ring of its processor. Where
-/// there is no room for them the value becomes 0, and nothing else changes.
+/// Appends a block that moves so many words this way; labels, `Room` and `NoMemory` are as those of
+/// `emit_ring_put`.
+fn emit_ring(
+    alloc: Global,
+    asm: &mut Asm,
+    base: u32,
+    slots: Slots,
+    way: RingWay,
+    count: u8,
+) -> Result<(), EmitFault>
+    requires slots { AreSlots slots }
+    requires low { slots.table < 0x7FFFF800 }
+    requires few { count ≤ 4 }
+    ensures room { (result ≡ Err EmitFault.Room) ↔ (HasRoom asm.old.labels base → ⊥) }
+    ensures refused { result ≡ Err EmitFault.Room → asm.new ≡ asm.old }
+    ensures ok { OnOk result (AreEmitted (ring_lines_of (ring_kind_of way) count slots base) asm.old asm.new) }
+    ensures labelled { OnOk result (IsLabelled base asm.new) }
+    ensures memory { result ≡ Err EmitFault.NoMemory
+        → (n : ℕ) × AreEmitted (take n (ring_lines_of (ring_kind_of way) count slots base)) asm.old asm.new }
+{
+    if !has_room(asm, base) {
+        return Err(EmitFault::Room);
+    }
+    let steps = steps_of_ring(alloc, base, slots, way, count)?;
+    let lines = lines_of_ring(alloc, base, slots, &steps)?;
+    emit_lines(asm, &lines)?;
+    Ok(())
+}
+
+/// Appends a block that puts `count` words, from the address in the value on, into the ring of its processor.
+/// Where there is no room for them the value becomes 0, and nothing else changes.
 ///
 /// Labels: `base` is the retry label, `base + 1` the start, `base + 2` the post-commit address, `base + 3` the
 /// abort address, and `base + 4` stands behind the block; `base + 5` to `base + 7` stay free. `Room` exactly
@@ -152,15 +210,8 @@ pub fn emit_ring_put(
     ensures memory { result ≡ Err EmitFault.NoMemory
         → (n : ℕ) × AreEmitted (take n (ring_put_lines slots.now base count)) asm.old asm.new }
 {
-    if !has_room(asm, base) {
-        return Err(EmitFault::Room);
-    }
-    let steps = steps_of_put(alloc, base, *slots, count)?;
-    let lines = lines_of_ring(alloc, base, *slots, &steps)?;
-    emit_lines(asm, &lines)?;
-    Ok(())
+    emit_ring(alloc, asm, base, *slots, RingWay::In, count)
 }
-
 /// Appends a block that gets `count` words out of the ring of its processor, into memory from the address in the
 /// value on. Where the ring holds fewer the value becomes 0, and nothing else changes.
 ///
@@ -183,11 +234,5 @@ pub fn emit_ring_get(
     ensures memory { result ≡ Err EmitFault.NoMemory
         → (n : ℕ) × AreEmitted (take n (ring_get_lines slots.now base count)) asm.old asm.new }
 {
-    if !has_room(asm, base) {
-        return Err(EmitFault::Room);
-    }
-    let steps = steps_of_get(alloc, base, *slots, count)?;
-    let lines = lines_of_ring(alloc, base, *slots, &steps)?;
-    emit_lines(asm, &lines)?;
-    Ok(())
+    emit_ring(alloc, asm, base, *slots, RingWay::Out, count)
 }
