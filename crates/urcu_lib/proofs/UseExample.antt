@@ -2,7 +2,7 @@
 -- reader's lock has stored the counter in its slot, but the store waits, when the first thread calls
 -- membarrier in a sync block. The store enters memory before the call returns; the sync block finds it there
 -- twice, then finds 0, and ends. The program uses the blocks as HoldsUrcu asks.
-use Rattle.std.proofs.Common.{◌≡◌, ℕ, ◌+◌, List, [], ◌∷◌, ◌++◌, refl}
+use Rattle.std.proofs.Common.{◌≡◌, ℕ, List, [], ◌∷◌, ◌++◌, refl}
 use Rattle.std.proofs.Common.{true, Ok}
 use Rattle.std.proofs.lemmas.Bool.{eqb-false, ltb-true}
 use Rattle.mach_types.specs.Kernel.Barriers.{asked as command_asked}
