@@ -5,10 +5,8 @@ use Rattle.mach_types.specs.Bytes.{each_byte}
 use Rattle.mach_types.specs.Kernel.Areas.{are_readable, can_read_area, can_read_descriptor, descriptor_at, flags_of, has_flags, is_inside, is_out_of_range, is_signed, named, named_by, number_at, pointer_of, sequence_of}
 use Rattle.mach_types.specs.declared.address_space.TheConstants.{USER_END}
 use Rattle.mach_types.specs.declared.sequences.Area.{Area}
-use Rattle.mach_types.specs.declared.sequences.BadWhy.TheVariants as bad
 use Rattle.mach_types.specs.declared.sequences.Descriptor.{Descriptor}
 use Rattle.mach_types.specs.declared.sequences.Named.{Named}
-use Rattle.mach_types.specs.declared.sequences.Named.TheVariants as names
 use Rattle.mach_types.specs.declared.sequences.Seq.{Seq}
 use Rattle.mach_types.specs.declared.sequences.TheConstants.{DESCRIPTOR_SIZE, FLAGS, RSEQ_CS}
 use Rattle.rv_inst.specs.Accesses.{Bytes, bytes}
@@ -16,6 +14,7 @@ use Rattle.block_model.specs.Footprints.{has_byte, have_byte}
 use Rattle.rseq_area.specs.Lookups.{fields_of, signature_of}
 use Rattle.log_gather.specs.Lookups.{bytes_if, bytes_looked_at, looked_over}
 use Rattle.block_model.proofs.Swaps.Untouched.{word_same}
+use Rattle.log_gather.proofs.NamedLookups.{named_signature, named_tail}
 
 -- THE BYTES, LINE BY LINE
 
@@ -79,22 +78,7 @@ on_rest S x xs all a is = all a (wide (has_byte x a) (have_byte xs a) is)
     wide true c is = refl
     wide false c is = is
 
--- the lines of a check
-abbrev named_tail : Bool → Bool → Bool → Bool → Named → Named
-named_tail area_read none past descriptor_read then =
-    cond (not area_read) (names.Bad bad.AreaBytes)
-    (cond none names.Nothing
-    (cond past (names.Bad bad.Pointer)
-    (cond (not descriptor_read) (names.Bad bad.Descriptor) then)))
-
-abbrev named_signature : Bool → Bool → Bool → Bool → Bool → Seq → Named
-named_signature version out inside signed flagged q =
-    cond (not version) (names.Bad bad.Version)
-    (cond out (names.Bad bad.Range)
-    (cond inside (names.Bad bad.AbortInside)
-    (cond (not signed) (names.Bad bad.Signature)
-    (cond flagged (names.Bad bad.SeqFlags) (names.Good q)))))
-
+-- the lines of a check are the same
 tail_same : (S : ℕ → Type 0) (a n p d d' : Bool) (at : Bytes) (x x' : Named) (y y' : List Bytes) → HoldsOn S (looked_tail a n p d at y)
     → (HoldsOn S (at ∷ []) → d' ≡ d) → (HoldsOn S (at ∷ []) → HoldsOn S y → (x' ≡ x) × (y' ≡ y))
     → (named_tail a n p d' x' ≡ named_tail a n p d x) × (looked_tail a n p d' at y' ≡ looked_tail a n p d at y)

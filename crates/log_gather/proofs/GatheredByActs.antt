@@ -13,7 +13,7 @@ use Rattle.log_gather.specs.LogEvents.{LogEvent, Name, entry_of, clashes_with_no
 use Rattle.log_gather.specs.Spans.{after_act, after_from, before_act, begins_act, begins_own, gather_span, gathered_by_spans, gathered_if, gathered_in, has_moved_out, is_inside_at_place, is_inside_next, is_private, names_of, rest_of_act, span_from}
 use Rattle.log_gather.specs.Facts.{first_place, place_after}
 use Rattle.log_gather.proofs.NamedSequences.{names_by_acts}
-use Rattle.log_gather.proofs.LeftSequences.{Plain}
+use Rattle.log_gather.proofs.LeftSequences.{Plain, and_false, and_true}
 use Rattle.log_gather.proofs.NumberedActs.{IsActOf, IsFound, found_in}
 use Rattle.log_gather.proofs.NumberedActs.IsFound.{Nowhere, There}
 use Rattle.log_gather.proofs.GatheredSequences.{before_from, gathers_one, span_after}
@@ -33,14 +33,6 @@ own_plain h [] is = tt
 own_plain h (x ∷ ms) is =
     let p = and_parts x.facts.plain (list_all (λ x. x.facts.plain) ms) is in
     (λ own_is. p.0, own_plain h ms p.1)
-
-and_with : (b : Bool) → (b && true) ≡ b
-and_with true = refl
-and_with false = refl
-
-and_without : (b : Bool) → (b && false) ≡ false
-and_without true = refl
-and_without false = refl
 
 -- an act that is found: its parts of all events
 module _ (h : ℕ) (at_end : Bool) (before : List LogEvent) (z : LogEvent) (xs all : List LogEvent) (a : Act)
@@ -82,14 +74,14 @@ module _ (h : ℕ) (at_end : Bool) (before : List LogEvent) (z : LogEvent) (xs a
           let end = is_ended is_left a.form in
           ap (λ b. b && (has_moved_out h span && (not (is_inside_next h at_end later) && is_undisturbed h span))) begins
           ∙ ap (λ u. has_moved_out h span && (not (is_inside_next h at_end later) && u)) undisturbed
-          ∙ ap (λ b. has_moved_out h span && b) (and_with (not (is_inside_next h at_end later)))
-          ∙ sym left ∙ sym (and_with end) ∙ ap (λ u. end && u) (sym (undisturbed_same begins ∙ undisturbed))
+          ∙ ap (λ b. has_moved_out h span && b) (and_true (not (is_inside_next h at_end later)))
+          ∙ sym left ∙ sym (and_true end) ∙ ap (λ u. end && u) (sym (undisturbed_same begins ∙ undisturbed))
       by_test false undisturbed begins =
           let end = is_ended is_left a.form in
           ap (λ b. b && (has_moved_out h span && (not (is_inside_next h at_end later) && is_undisturbed h span))) begins
           ∙ ap (λ u. has_moved_out h span && (not (is_inside_next h at_end later) && u)) undisturbed
-          ∙ ap (λ b. has_moved_out h span && b) (and_without (not (is_inside_next h at_end later))) ∙ and_without (has_moved_out h span)
-          ∙ sym (and_without end) ∙ ap (λ u. end && u) (sym (undisturbed_same begins ∙ undisturbed))
+          ∙ ap (λ b. has_moved_out h span && b) (and_false (not (is_inside_next h at_end later))) ∙ and_false (has_moved_out h span)
+          ∙ sym (and_false end) ∙ ap (λ u. end && u) (sym (undisturbed_same begins ∙ undisturbed))
 
       by_first : (b : Bool) → z.facts.begins ≡ b → is_private h at_end span later ≡ is_private_act all a
       by_first false begins =

@@ -21,14 +21,14 @@ use Rattle.block_model.specs.Sequences.{area_here, named_here}
 -- THE LINES OF A CHECK
 
 -- what is named, by what is wrong with the area and its descriptor
-abbrev named_tail : Bool → Bool → Bool → Bool → Named → Named
+abbrev pub named_tail : Bool → Bool → Bool → Bool → Named → Named
 named_tail area_read none past descriptor_read then =
     cond (not area_read) (names.Bad bad.AreaBytes)
     (cond none names.Nothing
     (cond past (names.Bad bad.Pointer)
     (cond (not descriptor_read) (names.Bad bad.Descriptor) then)))
 
-abbrev named_signature : Bool → Bool → Bool → Bool → Bool → Seq → Named
+abbrev pub named_signature : Bool → Bool → Bool → Bool → Bool → Seq → Named
 named_signature version out inside signed flagged q =
     cond (not version) (names.Bad bad.Version)
     (cond out (names.Bad bad.Range)

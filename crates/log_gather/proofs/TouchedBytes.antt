@@ -1,5 +1,5 @@
 -- What the events of a sequence touch, found event by event.
-use Rattle.std.proofs.Common.{◌≡◌, ℕ, ◌+◌, ◌<◌, List, [], ◌∷◌, ◌++◌, filter, length, get_or, map, take, refl, sym, ap, subst, ◌∙◌, append-nil, Bool, true, false, not, cond, ◌&&◌, ◌||◌, Option}
+use Rattle.std.proofs.Common.{◌≡◌, ℕ, ◌+◌, ◌<◌, List, [], ◌∷◌, ◌++◌, length, get_or, map, take, refl, sym, ap, subst, ◌∙◌, append-nil, Bool, true, false, not, cond, ◌&&◌, ◌||◌, Option}
 use Rattle.std.proofs.Math.Path.{fun_ext}
 use Rattle.std.specs.List.{flat_map, list_all, list_any}
 use Rattle.std.specs.Option.{option_map_or}
@@ -24,6 +24,7 @@ use Rattle.log_gather.specs.declared.marks.Details.{Details}
 use Rattle.log_gather.specs.declared.marks.Mark.{Mark}
 use Rattle.log_gather.specs.declared.steps.Step.{Step}
 use Rattle.log_gather.proofs.ClashingBytes.{any_in_is, clashes_with_one, undisturbed_is}
+use Rattle.log_gather.proofs.GatheredSequences.{filter_append}
 
 or_true : (b : Bool) → (b || true) ≡ true
 or_true true = refl
@@ -142,14 +143,6 @@ touched_more xs s y t so_far one = record {
 }
 
 -- the events of a hart, with an event more
-filter_append : {A : Type 0} (p : A → Bool) (xs ys : List A) → filter p (xs ++ ys) ≡ filter p xs ++ filter p ys
-filter_append p [] ys = refl
-filter_append p (x ∷ xs) ys = go (p x) (filter_append p xs ys)
-  where
-    go : (b : Bool) → filter p (xs ++ ys) ≡ filter p xs ++ filter p ys → cond b (x ∷ filter p (xs ++ ys)) (filter p (xs ++ ys)) ≡ cond b (x ∷ filter p xs) (filter p xs) ++ filter p ys
-    go true rest = ap (λ l. x ∷ l) rest
-    go false rest = rest
-
 owns_more : (d : Details) (h : ℕ) (span : List Mark) (i : ℕ) (m : Mark) → i < length span
     → own_steps h (steps_of d (take (i + 1) span))
     ≡ own_steps h (steps_of d (take i span)) ++ cond (is_of h (entry_marked (get_or span i m))) (step_of d (get_or span i m) ∷ []) []

@@ -5,8 +5,7 @@ ghost use Rattle.mach_types.specs.Limits.{InRange};
 ghost use Rattle.elf_load.specs.Images.{IsBootable};
 ghost use Rattle.block_model.specs.Setting.{setting_of};
 ghost use Rattle.block_view.specs.Viewing.{IsViewCause};
-ghost use Rattle.log_gather.specs.Gathered.{IsGathered};
-ghost use Rattle.log_gather.specs.Marks.{entry_marked};
+ghost use Rattle.log_gather.specs.{Gathered.IsGathered, Marks.entry_marked};
 
 use crate::marks::Mark;
 use crate::passing::pass;

@@ -2,16 +2,13 @@
 
 ghost use Rattle.std.specs.Prelude.{ℕ, ◌≡◌, ◌<◌, ◌+◌, ◌&&◌, Some, not, false, None, if◌then◌else◌};
 ghost use Rattle.std.specs.Prelude.{slice_index_or, length, IfOk, IfErr, IfSome, IfNone, is_some};
-ghost use Rattle.mach_types.specs.Bytes.{word_at};
-ghost use Rattle.mach_types.specs.Events.{choice_of};
-ghost use Rattle.mach_types.specs.Kernel.Areas.{is_inside_named};
+ghost use Rattle.mach_types.specs.{Bytes.word_at, Events.choice_of, Kernel.Areas.is_inside_named};
 ghost use Rattle.mach_types.specs.Limits.{InRange};
 ghost use Rattle.mach_types.specs.declared.events.Choice.TheVariants as asked;
 ghost use Rattle.mach_types.specs.declared.events.Entry.{Entry};
 ghost use Rattle.rv_inst.specs.Class as class;
 ghost use Rattle.elf_load.specs.Images.{IsBootable};
-ghost use Rattle.block_model.specs.Here.{view};
-ghost use Rattle.block_model.specs.PlainEvents.{is_plain};
+ghost use Rattle.block_model.specs.{Here.view, PlainEvents.is_plain};
 ghost use Rattle.block_model.specs.Setting.{Seen, setting_of};
 ghost use Rattle.process.specs.Sequences.{looked_at_on, named_on};
 ghost use Rattle.block_view.specs.Ledgers as ledgers;
