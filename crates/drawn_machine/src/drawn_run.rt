@@ -1,15 +1,11 @@
 //! The loop of a drawn run.
 
 ghost use Rattle.std.specs.Prelude.{◌≡◌, ◌≤◌, ◌<◌, ◌++◌, ◌∷◌, [], ◌↔◌, IfOk, OnOk, IsTrue, length, take};
-ghost use Rattle.mach_types.specs.Events.{kind_of};
-ghost use Rattle.mach_types.specs.Limits.{InRange};
+ghost use Rattle.mach_types.specs.{Events.kind_of, Limits.InRange};
 ghost use Rattle.mach_types.specs.declared.limits.End.TheVariants.{Unended};
-ghost use Rattle.elf_load.specs.Images.{IsBootable};
-ghost use Rattle.elf_load.specs.Start.{program_of};
+ghost use Rattle.elf_load.specs.{Images.IsBootable, Start.program_of};
 ghost use Rattle.block_model.specs.Deciding.{end_of, history};
-ghost use Rattle.block_model.specs.History.{waiting};
-ghost use Rattle.block_model.specs.Run.{IsBlockRun};
-ghost use Rattle.block_model.specs.Setting.{setting_of};
+ghost use Rattle.block_model.specs.{History.waiting, Run.IsBlockRun, Setting.setting_of};
 ghost use Rattle.drawn_runs.specs.DrawnRuns.{first_drawing};
 ghost use Rattle.drawn_runs.specs.WholeRuns.{IsDrawnRun, IsWholeDrawn};
 ghost use Rattle.drawn_machine.specs.OnTheWay.{GoesOn, IsOnAWay};

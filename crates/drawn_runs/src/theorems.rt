@@ -4,8 +4,7 @@ ghost use Rattle.std.specs.Prelude.{◌≡◌, ◌<◌, ◌≤◌, ◌++◌, [],
 ghost use Rattle.mach_types.specs.declared.events.Entry.{Entry};
 ghost use Rattle.block_model.specs.Choosing.{has_ended};
 ghost use Rattle.block_model.specs.Deciding.{decide, history};
-ghost use Rattle.block_model.specs.Run.{IsBlockRun};
-ghost use Rattle.block_model.specs.Setting.{Setting};
+ghost use Rattle.block_model.specs.{Run.IsBlockRun, Setting.Setting};
 ghost use Rattle.drawings.specs.Drawings.{Drawn};
 ghost use Rattle.drawn_runs.specs.declared.manner.Manner.{Manner};
 ghost use Rattle.drawn_runs.specs.DrawnRuns.{IsDrawn, drawn_at, drawn_entry, entry_of};

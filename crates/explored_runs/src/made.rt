@@ -4,8 +4,7 @@ ghost use Rattle.std.specs.Prelude.{◌≡◌, ◌≤◌, length, All, IfOk};
 ghost use Rattle.mach_types.specs.Limits.{InRange};
 ghost use Rattle.elf_load.specs.Images.{IsBootable};
 ghost use Rattle.block_model.specs.Setting.{setting_of};
-ghost use Rattle.drawn_machine.specs.Preemptions.{left_inside_in};
-ghost use Rattle.drawn_machine.specs.Waits.{wait_counts_in};
+ghost use Rattle.drawn_machine.specs.{Preemptions.left_inside_in, Waits.wait_counts_in};
 ghost use Rattle.explored_runs.specs.Made.{IsMadeAt, kept, made_by};
 
 use crate::exploration::{Apart, Exploration};

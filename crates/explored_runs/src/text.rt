@@ -6,8 +6,7 @@ ghost use Rattle.std.specs.List.{flat_map};
 ghost use Rattle.place_text.specs.Ends.{number_line};
 ghost use Rattle.place_text.specs.Fields.{behind, line};
 ghost use Rattle.step_log.specs.Text.{space};
-ghost use Rattle.explored_runs.specs.Accounts.{account_of};
-ghost use Rattle.explored_runs.specs.Deciles.{deciles};
+ghost use Rattle.explored_runs.specs.{Accounts.account_of, Deciles.deciles};
 ghost use Rattle.explored_runs.specs.Text.{console_part, explored_text, found_line, found_text, harts_fields, others_text, wait_field, waited_line};
 
 use crate::deciles::{TENTHS, decile, total_of};
