@@ -6,6 +6,6 @@ mod keeping;
 mod messages;
 mod usage;
 
-pub use keeping::KeepingShelf;
+pub use keeping::{Keep, Keeping, KeepingShelf};
 pub use messages::{AtHand, OUT_OF_MEMORY, brief, explain};
 pub use usage::usage_text;

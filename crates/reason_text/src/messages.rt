@@ -26,7 +26,7 @@ pub const OUT_OF_MEMORY: &str = "rseq_run: out of memory\n";
 pub struct AtHand<'a> {
     /// The words of the command line.
     pub words: &'a [String],
-    /// The script as it was read.
+    /// The script, where a reason is of one of its lines; empty where it isn't there.
     pub script: &'a [u8],
 }
 

@@ -4,18 +4,37 @@
 //! programs together by a script, and prints both consoles, the log, and how each process and the pair ended.
 #![tactic(auto)]
 
-use outcomes::{Fault, Reason};
+use outcomes::{Explained, Fault, Reason};
 use outside::{FileShelf, Meter, MeteredSink, OpenGate, OutSink};
-use reason_text::{AtHand, KeepingShelf, OUT_OF_MEMORY, brief, explain, usage_text};
+use reason_text::{AtHand, Keep, Keeping, KeepingShelf, OUT_OF_MEMORY, brief, explain, usage_text};
 use std::alloc::Global;
 use std::env;
 use std::io::{self, ErrorKind, IsTerminal};
+use std::path::Path;
 use std::process::ExitCode;
 use std::rt::Files;
 use std::sync::Wait;
 use std::thread::Threads;
 use std::time::Clock;
 use top_call::rseq_explained;
+
+/// The most bytes of a file that are kept for a message, where it can be read again.
+const MOST_KEPT: usize = 1_048_576;
+
+/// What is kept of the files of the system.
+#[derive(Drop)]
+struct SystemKeeping<R: Files>(R);
+
+impl<R: Files> Keeping for SystemKeeping<R> {
+    /// All of a file that isn't a regular one, as a pipe.
+    fn keep_of(&self, name: &str) -> Keep {
+        if Path::new(name).is_file(&self.0) {
+            Keep::UpTo(MOST_KEPT)
+        } else {
+            Keep::All
+        }
+    }
+}
 
 /// Where the words can't be taken, nothing is printed on standard output.
 fn main(rt: HostRuntime) -> ExitCode {
@@ -40,9 +59,12 @@ fn answer<R: Threads + Wait + Sync + Files + Print + Eprint + Clock + Copy>(
     words: &[String],
     meter: Meter<R>,
 ) -> u8 {
-    let mut shelf = KeepingShelf::new(alloc, FileShelf::new(*rt));
+    let mut shelf = KeepingShelf::new(alloc, FileShelf::new(*rt), SystemKeeping(*rt));
     let mut sink = MeteredSink::new(OutSink::new(io::writer(rt)), meter);
     let explained = rseq_explained(alloc, rt, words, &mut shelf, &mut sink, &OpenGate);
+    if is_of_script(&explained) {
+        shelf.keep_script();
+    }
     let at_hand = AtHand {
         words,
         script: shelf.kept(),
@@ -50,6 +72,12 @@ fn answer<R: Threads + Wait + Sync + Files + Print + Eprint + Clock + Copy>(
     say_reason(alloc, rt, &explained.untold, at_hand);
     say_reason(alloc, rt, &explained.reason, at_hand);
     explained.status
+}
+
+/// Whether a reason is of a line of the script.
+fn is_of_script(explained: &Explained) -> bool {
+    matches!(explained.reason, Some(Reason::Script { .. }))
+        || matches!(explained.untold, Some(Reason::Script { .. }))
 }
 
 /// Says a reason, if there is one.

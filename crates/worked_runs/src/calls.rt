@@ -9,7 +9,7 @@ use mach_types::Limits;
 use main_call::{rseq_main, sure_main, sure_quiet};
 use outcomes::{Explained, Reason};
 use outside::{MemShelf, MemSink, OpenGate};
-use reason_text::{AtHand, KeepingShelf, explain};
+use reason_text::{AtHand, Keep, Keeping, KeepingShelf, explain};
 use std::alloc::{AllocError, Global};
 use std::io;
 use std::sync::Wait;
@@ -23,6 +23,19 @@ const DONE: u64 = 0;
 const UNREAD: u64 = 5;
 
 const UNWRITTEN: u64 = 6;
+
+/// The most bytes of a file that are kept for a message: few, so that most scripts are read again.
+const MOST_KEPT: usize = 15;
+
+/// What is kept of files in memory: they can be read again.
+#[derive(Drop)]
+struct ShortKeeping;
+
+impl Keeping for ShortKeeping {
+    fn keep_of(&self, _name: &str) -> Keep {
+        Keep::UpTo(MOST_KEPT)
+    }
+}
 
 /// Whether a run differs from what is due of it: of `rseq_main` by workers that meet, where they are to; of
 /// `rseq_explained`, and of what it says; of `rseq_main`, and of its log, played again; of `rseq_quiet`; and of
@@ -78,12 +91,13 @@ fn explained_differs<R: Print + Threads + Wait + Sync>(
     rt: &R,
     run: &Run,
 ) -> io::Result<bool> {
-    let mut shelf = KeepingShelf::new(alloc, run.shelf(alloc)?);
+    let mut shelf = KeepingShelf::new(alloc, run.shelf(alloc)?, ShortKeeping);
     let mut sink = run.sink(alloc)?;
     let explained = rseq_explained(alloc, rt, run.words, &mut shelf, &mut sink, &OpenGate);
     if outcome_differs(rt, run, "rseq_explained", explained.status, sink.held())? {
         return Ok(true);
     }
+    shelf.keep_script();
     let at_hand = AtHand {
         words: run.words,
         script: shelf.kept(),

@@ -11,7 +11,7 @@ use std::str;
 /// The most bytes of a script's line that are shown.
 const MOST_SHOWN: usize = 80;
 
-/// Appends why a line of a script is refused, and the line.
+/// Appends why a line of a script is refused, and the line, where the script is there.
 pub(crate) fn push_line_fault(
     text: &mut String,
     name: &str,
@@ -20,10 +20,15 @@ pub(crate) fn push_line_fault(
     fault: LineFault,
 ) -> Result<(), AllocError> {
     let name = Shown(name);
+    let is_there = !script.is_empty();
     write!(text, "{name}, line {number}: ")?;
     match fault {
         LineFault::Malformed => {
-            let flaw = flaw_of(line_at(script, number));
+            let flaw = if is_there {
+                flaw_of(line_at(script, number))
+            } else {
+                ""
+            };
             write!(text, "this isn't a line of a script{flaw}")?;
         }
         LineFault::Refused(refused) => {
@@ -35,9 +40,13 @@ pub(crate) fn push_line_fault(
         }
         LineFault::Differs(entry) => push_difference(text, &entry)?,
     }
-    text.push_str("\n    ")?;
-    push_shown(text, line_at(script, number))?;
-    text.push_str("\n")
+    text.push_str("\n")?;
+    if is_there {
+        text.push_str("    ")?;
+        push_shown(text, line_at(script, number))?;
+        text.push_str("\n")?;
+    }
+    Ok(())
 }
 
 /// What is wrong with a line that can't be read, for the end of a sentence: the first of these that is the
