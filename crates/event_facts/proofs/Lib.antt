@@ -15,6 +15,7 @@ mod OwnRegisters
 mod PlainEffects
 mod PlainKinds
 mod PlainTraces
+mod SetRegisters
 mod SignalChanges
 mod ThreadChanges
 mod ToldFacts

@@ -5,6 +5,7 @@ use Rattle.mach_types.proofs.Laws.{eqb_same}
 use Rattle.mach_types.specs.Events.{choice_of}
 use Rattle.mach_types.specs.declared.events.Entry.{Entry}
 use Rattle.mach_types.specs.Kernel.Threads.{state_of}
+use Rattle.mach_types.specs.Registers.{register}
 use Rattle.mach_types.specs.declared.registers.Regs.{Regs}
 use Rattle.mach_types.specs.declared.threads.Saved.{Saved}
 use Rattle.mach_types.specs.declared.user_memory.Store.{Store}
@@ -13,7 +14,7 @@ use Rattle.block_model.specs.Deciding.{number_of, thread_in}
 use Rattle.block_model.specs.Events.{done_of}
 use Rattle.block_model.specs.Events.Exec.{outcome_of}
 use Rattle.block_model.specs.Footprints.{bytes_of_all, have_byte}
-use Rattle.block_model.specs.Here.{Done, Here, memory, runs, view}
+use Rattle.block_model.specs.Here.{Done, Here, memory, runs, view, view_of_all}
 use Rattle.block_model.specs.History.{Event, History, file, here_in_history}
 use Rattle.block_model.specs.PlainEvents.{is_plain}
 use Rattle.block_model.specs.Run.{IsBlockRun}
@@ -22,11 +23,11 @@ use Rattle.block_model.proofs.Laws.{history-append}
 use Rattle.block_model.proofs.Swaps.PlainDone.{as_done, plain_outcome}
 use Rattle.process.specs.Harts.{file_on}
 use Rattle.event_facts.specs.Deeds.{IsDeedOf, drained_in, entered_in, executed_in}
-use Rattle.event_facts.specs.Facts.{changed_registers, entered_facts, facts_by, facts_of, memory_facts, own_registers, reading_facts, register_facts}
+use Rattle.event_facts.specs.Facts.{changed_registers, entered_facts, facts_by, facts_of, memory_facts, own_registers, reading_facts, register_fact, register_facts}
 use Rattle.event_facts.specs.Lines.{line_behind, memory_source, next_line, numbered, waiting_on}
 use Rattle.event_facts.specs.Reservations.{all_lost, own_facts}
 use Rattle.event_facts.specs.Sources.{source_at, source_over}
-use Rattle.event_facts.specs.Telling.{IsDecided, changed_facts, effect_in, here_on, past_of, plain_event_of, registers_on}
+use Rattle.event_facts.specs.Telling.{IsDecided, changed_facts, effect_in, here_on, past_of, plain_event_of, register_by, register_set, registers_on}
 use Rattle.event_facts.specs.Tied.{AreLinesOf, kept_on, kept_source, line_in}
 use Rattle.event_facts.specs.declared.deeds.Deed.{Deed}
 use Rattle.event_facts.specs.declared.facts.Fact.{Fact}
@@ -38,6 +39,7 @@ use Rattle.event_facts.proofs.Due.{due, past_after, what_is_done}
 use Rattle.event_facts.proofs.Lists.{five_pieces}
 use Rattle.event_facts.proofs.OwnRegisters.{none_seen, seen_there}
 use Rattle.event_facts.proofs.PlainKinds.{Executes, drain_done, drains, executes, instruction_done}
+use Rattle.event_facts.proofs.SetRegisters.{many_on, one_told, others_stay}
 
 -- WHAT IS TOLD BEFORE THE EVENT IS MADE
 
@@ -151,6 +153,21 @@ module _ (m m' : Seen) (entry : Entry) (run : IsBlockRun m.setting m.log) (decid
       ≡ memory_facts m.setting before entry.hart.0 true (effect_in event) (executed_in deed) (drained_in deed) (entered_in deed) here.reserved ++ changed_facts entry event regs m'
   all_facts (Instruction e) deed regs is its same = instruction_facts e deed regs is its same
   all_facts (Drain w) deed regs is its same = drain_facts w deed regs is its
+
+  -- of the registers that one is told which the event sets
+  pub set_alone : (event : PlainEvent) → plain_event_of (choice_of entry) here ≡ Some event → IsBlockRun m'.setting m'.log
+      → changed_facts entry event (registers_on m entry.hart.0) m'
+      ≡ register_fact (registers_on m entry.hart.0) (registers_on m' entry.hart.0) (register_by event)
+  set_alone (Instruction e) is run' =
+      let x = executes (choice_of entry) here e is in
+      let f = here.file x.thread in
+      let earlier : registers_on m entry.hart.0 ≡ f.file = ap (λ q. (file_on here q).file) x.on in
+      one_told (registers_on m entry.hart.0) (registers_on m' entry.hart.0) (register_set e)
+      (many_on m entry.hart.0 run) (many_on m' entry.hart.0 run')
+      (λ k other. ap (λ (r : Regs). register r k) (registers_after e x)
+      ∙ others_stay (view_of_all here) f.file f.pc here.reserved e k other
+      ∙ ap (λ (r : Regs). register r k) (sym earlier))
+  set_alone (Drain w) is run' = refl
 
   -- THE LINES
 

@@ -9,6 +9,7 @@ use Rattle.mach_types.specs.declared.events.Entry.{Entry}
 use Rattle.mach_types.specs.declared.registers.Regs.{Regs}
 use Rattle.rv_inst.specs.Sizes.{HasAccessSizes}
 use Rattle.rv_inst.specs.declared.effects.Effect.{Effect}
+use Rattle.rv_inst.specs.declared.effects.Effect.TheVariants as effect
 use Rattle.block_model.specs.Deciding.{decide, history}
 use Rattle.process.specs.Harts.{file_on}
 use Rattle.block_model.specs.Here.{Here, runs, waiting_here}
@@ -49,6 +50,26 @@ effect_in (Drain w) = None
 abbrev pub HasSizes : PlainEvent → Type 0
 HasSizes (Instruction e) = HasAccessSizes e
 HasSizes (Drain w) = IsAccessSize w.size
+
+-- the register that an instruction with this effect sets (RISC-V Unprivileged ISA, chapters RV32I, RV64I and "A"); x0, which stays 0,
+-- where it sets none
+abbrev pub register_set : Effect → ℕ
+register_set (effect.Next rd value to) = rd
+register_set (effect.Load at size is_signed rd) = rd
+register_set (effect.Store at size value) = 0
+register_set (effect.Amo op at size value rd) = rd
+register_set (effect.Lr at size rd) = rd
+register_set (effect.Sc at size value rd) = rd
+register_set (effect.Fence full) = 0
+register_set effect.FenceI = 0
+register_set effect.Call = 0
+register_set effect.Break = 0
+register_set effect.Misaligned = 0
+
+-- that a plain event sets: a store that enters memory sets none
+abbrev pub register_by : PlainEvent → ℕ
+register_by (Instruction e) = register_set e
+register_by (Drain w) = 0
 
 -- the registers that a hart of a machine has; and which of them an event changed that was made, of one that had these before it
 abbrev pub registers_on : Seen → ℕ → Regs

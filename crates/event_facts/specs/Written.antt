@@ -1,10 +1,11 @@
 -- In which line each byte of memory was written last, as it is kept: by the aligned 8 bytes in which the byte stands; and writes of more
 -- than 8 bytes in a list.
-use Rattle.std.specs.Prelude.{ℕ, ◌/◌, ◌%◌, ◌==◌, ◌&&◌, Bool, List, [], ◌∷◌, if◌then◌else◌, nat_eq, nat_le, nat_lt, replicate, slice_index, unwrap_or}
+use Rattle.std.specs.Prelude.{ℕ, ◌≡◌, ◌/◌, ◌%◌, ◌==◌, ◌&&◌, Bool, List, [], ◌∷◌, if◌then◌else◌, length, nat_eq, nat_le, nat_lt, replicate, slice_index, unwrap_or}
 use Rattle.std.specs.HashMap.{get}
 use Rattle.rv_inst.specs.Accesses.{bytes}
 use Rattle.block_model.specs.Footprints.{has_byte}
 use Rattle.event_facts.specs.declared.long_writes.LongWrite.{LongWrite}
+use Rattle.event_facts.specs.declared.written.Word.{Word}
 use Rattle.event_facts.specs.declared.written.Written.{Written}
 
 -- the lines of the 8 bytes with this number; 0 for each that wasn't written
@@ -14,6 +15,11 @@ lines_at x word = unwrap_or (get nat_eq x.words word) (replicate 8 0)
 -- the line of a byte
 abbrev pub line_at : Written → ℕ → ℕ
 line_at x a = slice_index (lines_at x (a / 8)) (a % 8)
+
+-- these are the lines of the 8 bytes with their number
+pub record IsWordOf (x : Written) (known : Word) : Type 0 where
+  pub lines : known.lines ≡ lines_at x known.number
+  pub eight : length known.lines ≡ 8
 
 -- whether a number is from one on and below another
 abbrev pub is_from_to : ℕ → ℕ → ℕ → Bool

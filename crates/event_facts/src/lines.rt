@@ -8,11 +8,12 @@ ghost use Rattle.event_facts.specs.Deeds.{drained_in, entered_in, executed_in};
 ghost use Rattle.event_facts.specs.Lines.{line_behind, numbered};
 ghost use Rattle.event_facts.specs.Sources.{source_over};
 ghost use Rattle.event_facts.specs.Tied.{AreLinesOf, items_at, kept_on, kept_source, line_in};
+ghost use Rattle.event_facts.specs.Written.{IsWordOf};
 
 use crate::deeds::Deed;
 use crate::facts::Source;
 use crate::long_writes::{LongWrite, last_line};
-use crate::written::Written;
+use crate::written::{Word, Written};
 use mach_types::{Hart, Store, Write};
 use std::alloc::{AllocError, Global};
 
@@ -117,19 +118,31 @@ impl Lines {
         })
     }
 
-    /// The line in which the byte at an address was written last; 0 where it wasn't.
-    fn line_of(&self, at: u64) -> u32
-        ensures { result ≡ line_in self.now at }
+    /// The lines of the 8 bytes among which the byte at an address is.
+    pub(crate) fn word_of(&self, at: u64) -> Word
+        ensures { IsWordOf self.now.written result }
     {
-        self.written.line_at(at).max(last_line(&self.long, at))
+        self.written.word_of(at)
     }
 
-    /// Where the byte at an address comes from that a hart reads.
-    pub(crate) fn source(&self, hart: Hart, at: u64) -> Source
-        requires { hart.0 < length self.now.waiting.items }
+    /// The line in which the byte at an address was written last, where the lines of these 8 bytes are known; 0 where it
+    /// wasn't.
+    fn line_of(&self, known: &Word, at: u64) -> u32
+        requires { IsWordOf self.now.written known.now }
+        ensures { result ≡ line_in self.now at }
+    {
+        self.written
+            .line_at(known, at)
+            .max(last_line(&self.long, at))
+    }
+
+    /// Where the byte at an address comes from that a hart reads, where the lines of these 8 bytes are known.
+    pub(crate) fn source(&self, known: &Word, hart: Hart, at: u64) -> Source
+        requires known { IsWordOf self.now.written known.now }
+        requires hart { hart.0 < length self.now.waiting.items }
         ensures { result ≡ kept_source self.now hart.0 at }
     {
-        let below = Source::of_line(self.line_of(at));
+        let below = Source::of_line(self.line_of(known, at));
         source_over(&self.waiting[usize::from(hart.0)], at, below)
     }
 

@@ -6,26 +6,29 @@ ghost use Rattle.mach_types.specs.Bytes.{IsAccessSize};
 ghost use Rattle.rv_inst.specs.Execution.{word_seen};
 ghost use Rattle.block_model.specs.Here.{view};
 ghost use Rattle.event_facts.specs.Deeds.{bytes_of_read};
-ghost use Rattle.event_facts.specs.Facts.{byte_fact, is_of_one, read_fact, read_facts, reading_of};
+ghost use Rattle.event_facts.specs.Facts.{byte_fact, is_of_one, read_facts, reading_of};
 ghost use Rattle.event_facts.specs.Telling.{here_on};
 ghost use Rattle.event_facts.specs.Tied.{kept_source};
+ghost use Rattle.event_facts.specs.Written.{IsWordOf};
 
 use crate::deeds::Range;
-use crate::facts::Fact;
+use crate::facts::{Fact, Source};
 use crate::lines::Lines;
+use crate::written::Word;
 use mach_types::Hart;
 use machine_core::Machine;
 use std::alloc::AllocError;
 
-/// Whether so many bytes from an address on come from one place, as a hart reads them.
-fn are_of_one(lines: &Lines, hart: Hart, at: u64, size: u8) -> bool
-    requires { hart.0 < length lines.now.waiting.items }
+/// Whether so many bytes from an address on come from the place from which the first of them does, as a hart reads them.
+fn are_of_one(lines: &Lines, known: &Word, hart: Hart, at: u64, size: u8, first: Source) -> bool
+    requires known { IsWordOf lines.now.written known.now }
+    requires hart { hart.0 < length lines.now.waiting.items }
+    requires first { first ≡ kept_source lines.now hart.0 at }
     ensures { result ≡ is_of_one (kept_source lines.now hart.0) at size }
 {
-    let first = lines.source(hart, at);
     let mut one = true;
     for k in 0..size {
-        let source = lines.source(hart, at.wrapping_add(u64::from(k)));
+        let source = lines.source(known, hart, at.wrapping_add(u64::from(k)));
         one = source.is_same_if(one, first);
     }
     one
@@ -40,23 +43,21 @@ pub(crate) fn number_seen(machine: &Machine, hart: Hart, at: u64, size: u8) -> u
     machine.view(hart, at, size).unwrap_or(0)
 }
 
-/// Appends that so many bytes from an address on were read, which come from where the first of them does.
+/// Appends that so many bytes from an address on were read, which come from this place.
 fn push_read(
     facts: &mut Vec<Fact>,
     machine: &Machine,
-    lines: &Lines,
     hart: Hart,
     at: u64,
     size: u8,
+    source: Source,
 ) -> Result<(), AllocError>
     requires hart { hart.0 < machine.now.setting.limits.harts }
-    requires lines { hart.0 < length lines.now.waiting.items }
     requires size { IsAccessSize size }
     ensures { OnOk result (facts.new.items ≡ facts.old.items
-        ++ read_fact (view (here_on machine.now hart.0)) (kept_source lines.now hart.0) at size ∷ []) }
+        ++ Fact.Read at size (word_seen (view (here_on machine.now hart.0)) at size) source ∷ []) }
 {
     let value = number_seen(machine, hart, at, size);
-    let source = lines.source(hart, at);
     facts.push(Fact::Read {
         at,
         size,
@@ -71,10 +72,12 @@ fn push_each(
     facts: &mut Vec<Fact>,
     machine: &Machine,
     lines: &Lines,
+    known: &Word,
     hart: Hart,
     at: u64,
     size: u8,
 ) -> Result<(), AllocError>
+    requires known { IsWordOf lines.now.written known.now }
     requires hart { hart.0 < machine.now.setting.limits.harts }
     requires lines { hart.0 < length lines.now.waiting.items }
     ensures { OnOk result (facts.new.items ≡ facts.old.items
@@ -82,14 +85,9 @@ fn push_each(
         (range_with_len 0 size)) }
 {
     for k in 0..size {
-        push_read(
-            facts,
-            machine,
-            lines,
-            hart,
-            at.wrapping_add(u64::from(k)),
-            1,
-        )?;
+        let byte = at.wrapping_add(u64::from(k));
+        let source = lines.source(known, hart, byte);
+        push_read(facts, machine, hart, byte, 1, source)?;
     }
     Ok(())
 }
@@ -113,9 +111,11 @@ pub(crate) fn push_reading(
     let Some(Range { at, size }) = range else {
         return Ok(());
     };
-    if are_of_one(lines, hart, at, size) {
-        push_read(facts, machine, lines, hart, at, size)
+    let known = lines.word_of(at);
+    let first = lines.source(&known, hart, at);
+    if are_of_one(lines, &known, hart, at, size, first) {
+        push_read(facts, machine, hart, at, size, first)
     } else {
-        push_each(facts, machine, lines, hart, at, size)
+        push_each(facts, machine, lines, &known, hart, at, size)
     }
 }

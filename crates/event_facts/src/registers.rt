@@ -1,14 +1,47 @@
 //! The registers that an event changed.
 
-ghost use Rattle.std.specs.Prelude.{◌≡◌, ◌<◌, ◌++◌, OnOk};
+ghost use Rattle.std.specs.Prelude.{◌≡◌, ◌==◌, ◌++◌, ◌∷◌, [], OnOk, if◌then◌else◌};
 ghost use Rattle.event_facts.specs.Facts.{register_fact, register_facts};
+ghost use Rattle.event_facts.specs.Telling as spec;
 
 use crate::facts::Fact;
 use mach_types::Regs;
+use rv_inst::Effect;
 use std::alloc::AllocError;
 
 /// How many registers there are.
 const REGISTERS: u8 = 32;
+
+/// The register that an instruction with this effect sets; x0, which stays 0, where it sets none.
+pub(crate) fn register_set(effect: &Effect) -> u8
+    ensures { result ≡ spec.register_set effect.now }
+{
+    match *effect {
+        Effect::Next { rd, .. } => rd,
+        Effect::Load { rd, .. } => rd,
+        Effect::Amo { rd, .. } => rd,
+        Effect::Lr { rd, .. } => rd,
+        Effect::Sc { rd, .. } => rd,
+        Effect::Store { .. } | Effect::Fence { .. } | Effect::FenceI => 0,
+        Effect::Call | Effect::Break | Effect::Misaligned => 0,
+    }
+}
+
+/// Appends that register `number` of a thread has this value, where it had another one before.
+pub(crate) fn push_if_other(
+    facts: &mut Vec<Fact>,
+    number: u8,
+    before: u64,
+    value: u64,
+) -> Result<(), AllocError>
+    ensures { OnOk result (facts.new.items
+        ≡ facts.old.items ++ (if before == value then [] else Fact.Register number value ∷ [])) }
+{
+    if before != value {
+        facts.push(Fact::Register { number, value })?;
+    }
+    Ok(())
+}
 
 /// Appends register `number` of a thread, where its value is another one.
 fn push_register(
@@ -20,11 +53,7 @@ fn push_register(
     ensures { OnOk result (facts.new.items
         ≡ facts.old.items ++ register_fact before.now after.now number) }
 {
-    let value = after.get(number);
-    if before.get(number) != value {
-        facts.push(Fact::Register { number, value })?;
-    }
-    Ok(())
+    push_if_other(facts, number, before.get(number), after.get(number))
 }
 
 /// Appends each register of a thread that changed from one file to another.

@@ -4,6 +4,7 @@ ghost use Rattle.std.specs.Prelude.{◌≡◌, ◌<◌, ◌++◌, ◌&&◌, ◌�
 ghost use Rattle.mach_types.specs.Bytes.{IsAccessSize};
 ghost use Rattle.mach_types.specs.Events.{choice_of};
 ghost use Rattle.mach_types.specs.Limits.{InRange};
+ghost use Rattle.mach_types.specs.Registers.{register};
 ghost use Rattle.mach_types.specs.declared.events.Choice.TheVariants as asked;
 ghost use Rattle.rv_inst.specs.Class.{is_call};
 ghost use Rattle.rv_inst.specs.Execution.{word_seen};
@@ -15,16 +16,16 @@ ghost use Rattle.event_facts.specs.Deeds.{IsDeedOf, drained_in, entered_in, exec
 ghost use Rattle.event_facts.specs.Facts.{entered_facts, executed_by, facts_of, loaded_by, memory_facts, reading_facts};
 ghost use Rattle.event_facts.specs.Reservations.{own_facts};
 ghost use Rattle.event_facts.specs.Lines.{line_behind, next_line};
-ghost use Rattle.event_facts.specs.Telling.{HasSizes, IsDecided, changed_facts, effect_in, here_on, past_of, plain_event_of};
+ghost use Rattle.event_facts.specs.Telling.{HasSizes, IsDecided, effect_in, here_on, past_of, plain_event_of, register_by, registers_on};
 ghost use Rattle.event_facts.specs.Tied.{AreLinesOf, kept_on, kept_source};
 
 use crate::deeds::{Deed, read_by};
 use crate::facts::Fact;
 use crate::lines::Lines;
 use crate::reads::{number_seen, push_reading};
-use crate::registers::push_registers;
+use crate::registers::{push_if_other, register_set};
 use crate::reservations::{push_all_lost, push_reserving};
-use mach_types::{Entry, Hart, Kind, Regs, Store};
+use mach_types::{Entry, Hart, Kind, Store};
 use machine_core::Machine;
 use rv_inst::Effect;
 use std::alloc::AllocError;
@@ -212,24 +213,22 @@ pub(crate) fn make(machine: &mut Machine, entry: Entry)
     let _made = machine.step(entry.hart, entry.choice());
 }
 
-/// Appends which registers of its thread a plain event changed that was made: those of an instruction.
-fn push_changed(
-    facts: &mut Vec<Fact>,
-    machine: &Machine,
-    entry: Entry,
-    event: &PlainEvent,
-    before: &Regs,
-) -> Result<(), AllocError>
-    requires { entry.hart.0 < machine.now.setting.limits.harts }
-    ensures { OnOk result (facts.new.items ≡ facts.old.items
-        ++ changed_facts entry event.now before.now machine.now) }
+/// The register that a plain event sets; x0, which stays 0, where it sets none.
+fn register_of(event: &PlainEvent) -> u8
+    ensures { result ≡ register_by event.now }
 {
     match event {
-        PlainEvent::Instruction(_) => {
-            push_registers(facts, before, &machine.hart(entry.hart).file)
-        }
-        PlainEvent::Drain(_) => Ok(()),
+        PlainEvent::Instruction(effect) => register_set(effect),
+        PlainEvent::Drain(_) => 0,
     }
+}
+
+/// The value of a register of a hart's thread.
+fn register_on(machine: &Machine, hart: Hart, number: u8) -> u64
+    requires { hart.0 < machine.now.setting.limits.harts }
+    ensures { result ≡ register (registers_on machine.now hart.0) number }
+{
+    machine.hart(hart).file.get(number)
 }
 
 /// Makes a plain event that is due, and appends what came of it; the lines are then those of the longer log.
@@ -260,9 +259,10 @@ pub fn tell(
     let line = machine.log().len() as u32 + 1;
     let deed = deed_of(machine, entry, event);
     push_memory(facts, machine, lines, hart, event, &deed, line)?;
-    let before = machine.hart(hart).file;
+    let number = register_of(event);
+    let before = register_on(machine, hart, number);
     make(machine, entry);
-    push_changed(facts, machine, entry, event, &before)?;
+    push_if_other(facts, number, before, register_on(machine, hart, number))?;
     lines.note(hart, &deed, line)?;
     Ok(())
 }

@@ -3,7 +3,7 @@
 ghost use Rattle.std.specs.Prelude.{◌≡◌, ℕ, ◌≤◌, ◌<◌, OnOk, length, slice_index, if◌then◌else◌};
 ghost use Rattle.rv_inst.specs.Accesses.{bytes};
 ghost use Rattle.block_model.specs.Footprints.{has_byte};
-ghost use Rattle.event_facts.specs.Written.{is_among, is_from_to, line_at, lines_at};
+ghost use Rattle.event_facts.specs.Written.{IsWordOf, is_among, is_from_to, line_at, lines_at};
 
 use mach_types::Store;
 use std::alloc::{AllocError, Global};
@@ -15,6 +15,15 @@ pub(crate) struct Written {
     /// The lines of 8 bytes from an address on that is a multiple of 8, by this address over 8; 0 for each
     /// byte that wasn't written.
     pub(crate) words: HashMap<u64, [u32; 8]>,
+}
+
+/// The lines of 8 bytes from an address on that is a multiple of 8.
+#[derive(Clone, Copy, Drop)]
+pub(crate) struct Word {
+    /// This address over 8.
+    pub(crate) number: u64,
+    /// The line in which each of them was written last; 0 for each byte that wasn't.
+    pub(crate) lines: [u32; 8],
 }
 
 /// The lines of 8 bytes, where those from one on and before another are this.
@@ -49,12 +58,26 @@ impl Written {
         self.words.get(&word).copied().unwrap_or([0; 8])
     }
 
-    /// The line in which a byte was written last; 0 where it wasn't.
-    pub(crate) fn line_at(&self, at: u64) -> u32
+    /// The lines of the 8 bytes among which a byte is.
+    pub(crate) fn word_of(&self, at: u64) -> Word
+        ensures { IsWordOf self.now result }
+    {
+        let number = at / 8;
+        let lines = self.lines_at(number);
+        Word { number, lines }
+    }
+
+    /// The line in which a byte was written last, where the lines of these 8 bytes are known; 0 where it wasn't.
+    pub(crate) fn line_at(&self, known: &Word, at: u64) -> u32
+        requires { IsWordOf self.now known.now }
         ensures { result ≡ line_at self.now at }
     {
-        let lines = self.lines_at(at / 8);
-        lines[(at % 8) as usize]
+        let place = (at % 8) as usize;
+        if at / 8 == known.number {
+            known.lines[place]
+        } else {
+            self.lines_at(at / 8)[place]
+        }
     }
 
     /// Of the 8 bytes with this number those from one on and before another were written in a line.

@@ -11,5 +11,5 @@ loop-k-preserved c =
     let source = kept_source c.args.lines.now c.args.hart.0 in
     let next : c.source-source.result ≡ source (sum_64 c.args.at c.loop-k.k) = c.source-source.ensures ∙ ap (λ n. source (sum_64 c.args.at n)) from_is in
     c.is_same_if-one.ensures
-    ∙ (λ i. c.loop-k.one && same_source (next i) (c.source-first.ensures i))
+    ∙ (λ i. c.loop-k.one && same_source (next i) (c.requires.first i))
     ∙ all_more (λ k. same_source (source (sum_64 c.args.at k)) (source c.args.at)) c.loop-k.k c.loop-k.one c.loop-k.invariant

@@ -1,12 +1,14 @@
-use Rattle.std.proofs.Common.{◌+◌, ◌<◌, ◌++◌, ◌∙◌, List, ap, arith, length, subst, sym}
+use Rattle.std.proofs.Common.{ℕ, ◌+◌, ◌<◌, ◌∷◌, [], ◌++◌, ◌∙◌, List, ap, arith, cond, eqb, length, refl, subst, sym}
+use Rattle.mach_types.specs.Registers.{register}
 use Rattle.mach_types.specs.declared.events.Entry.{Entry}
 use Rattle.block_model.specs.Setting.{Seen}
-use Rattle.event_facts.specs.Telling.{past_of}
+use Rattle.event_facts.specs.Telling.{past_of, registers_on}
 use Rattle.event_facts.specs.declared.facts.Fact.{Fact}
+use Rattle.event_facts.specs.declared.facts.Fact.TheVariants.{Register}
 use Rattle.event_facts.proofs.Due.{due, few_lines, line_is}
 use Rattle.event_facts.proofs.LinesOfBytes.{is_latest}
 use Rattle.event_facts.proofs.Lists.{two_pieces}
-use Rattle.event_facts.proofs.ToldFacts.{all_facts, lines_after}
+use Rattle.event_facts.proofs.ToldFacts.{all_facts, lines_after, set_alone}
 use Rattle.event_facts.proofs.telling.tell.Goals as goal
 
 pub overflow_cast-line : goal.overflow_cast-line
@@ -28,11 +30,11 @@ push_memory-requires-clause-hart c = (due c.args.machine.now c.args.entry c.requ
 pub push_memory-requires-clause-line : goal.push_memory-requires-clause-line
 push_memory-requires-clause-line c = ap (λ (l : List Entry). length l + 1) c.log.ensures ∙ line_is c.args.machine.now
 
-pub hart-requires : goal.hart-requires
-hart-requires c = (due c.args.machine.now c.args.entry c.requires.run c.requires.decided).lt
+pub register_on-before-requires : goal.register_on-before-requires
+register_on-before-requires c = (due c.args.machine.now c.args.entry c.requires.run c.requires.decided).lt
 
-pub push_changed-requires : goal.push_changed-requires
-push_changed-requires c =
+pub register_on-requires : goal.register_on-requires
+register_on-requires c =
     subst (λ (m : Seen). c.args.entry.hart.0 < m.setting.limits.harts) (sym c.make.ensures.machine)
     (due c.args.machine.now c.args.entry c.requires.run c.requires.decided).lt
 
@@ -48,9 +50,18 @@ note-requires-clause-lines c =
 
 pub returns-clause-facts : goal.returns-clause-facts
 returns-clause-facts c =
-    let told = all_facts c.args.machine.now c.make.new.machine c.args.entry c.requires.run c.requires.decided c.make.ensures.machine c.args.event.now c.deed_of-deed.result
-    c.hart.result.now.file c.requires.event c.deed_of-deed.ensures.deed (λ i. (c.hart.ensures i).file) in
-    two_pieces _ _ _ _ _ c.in_ok-push_memory.ensures c.in_ok-push_changed.ensures
+    let m = c.args.machine.now in
+    let m' = c.make.new.machine in
+    let h = c.args.entry.hart.0 in
+    let told = all_facts m m' c.args.entry c.requires.run c.requires.decided c.make.ensures.machine c.args.event.now c.deed_of-deed.result
+    (registers_on m h) c.requires.event c.deed_of-deed.ensures.deed refl in
+    let alone = set_alone m m' c.args.entry c.requires.run c.requires.decided c.make.ensures.machine c.args.event.now c.requires.event c.make.ensures.run in
+    let number = c.register_of-number.ensures in
+    let before = c.register_on-before.ensures ∙ ap (register (registers_on m h)) number in
+    let value = c.register_on.ensures ∙ ap (register (registers_on m' h)) number in
+    let fact = λ (n v w : ℕ). let l : List Fact = cond (eqb v w) [] (Register n w ∷ []) in l in
+    two_pieces _ _ _ _ _ c.in_ok-push_memory.ensures
+    (c.in_ok-push_if_other.ensures ∙ ap (λ (l : List Fact). c.push_memory.new.facts.items ++ l) ((λ i. fact (number i) (before i) (value i)) ∙ sym alone))
     ∙ ap (λ (l : List Fact). c.args.facts.now.items ++ l) (sym told)
 
 pub returns-clause-lines : goal.returns-clause-lines
