@@ -3,4 +3,5 @@ pub mod HartSets
 pub mod HartStates
 pub mod Lists
 pub mod LiveThreads
+pub mod RestingThreads
 pub mod ToldThreads

@@ -8,7 +8,9 @@ use Rattle.std.proofs.lemmas.Bool.Decides.{nat_tests}
 use Rattle.std.proofs.lemmas.List.{map-append}
 use Rattle.mach_types.specs.Kernel.Threads.{Thread, Threads, IsThreads, is_thread, numbers, state_of}
 use Rattle.mach_types.specs.declared.threads.ThreadState.{ThreadState}
-use Rattle.place_text.specs.Live.{told, told_of}
+use Rattle.kernel_threads.specs.Table.{SavedList}
+use Rattle.place_text.specs.Live.{saved_pc, told, told_of}
+use Rattle.place_text.specs.Threads.{Told}
 use Rattle.place_text.specs.declared.threads.LiveThread.{LiveThread}
 
 -- whether a thread's number isn't past n
@@ -16,7 +18,7 @@ abbrev pub is_given : ℕ → Thread → Bool
 is_given n th = nat_le th.tid n
 
 -- each number is below all later ones
-abbrev Rises : List Thread → Type 0
+abbrev pub Rises : List Thread → Type 0
 Rises [] = Unit {0}
 Rises (x ∷ xs) = AllByRecursion (λ y. x.tid < y.tid) xs × Rises xs
 
@@ -29,7 +31,7 @@ later_rise x xs up k lt =
     let e : suc k + 1 ≡ suc (k + 1) = omega arith in
     rw e at (up (suc k) (omega arith))
 
-rises : (xs : List Thread) → IsStrictlyIncreasing (numbers xs) → Rises xs
+pub rises : (xs : List Thread) → IsStrictlyIncreasing (numbers xs) → Rises xs
 rises [] up = tt
 rises (x ∷ []) up = (tt, tt)
 rises (x ∷ y ∷ ys) up =
@@ -107,49 +109,55 @@ all_given given (x ∷ xs) all =
     let in_all : is_given given x ≡ true = grind (arith, nat_tests) in
     rw in_all (ap (λ ys. x ∷ ys) (all_given given xs (λ k d lt. all (suc k) d (omega arith))))
 
--- what is told of the threads with numbers up to n
-abbrev pub told_up_to : ℕ → List Thread → List (ℕ × ThreadState)
-told_up_to n live = map told_of (filter (is_given n) live)
+-- what is told of the threads with numbers up to n, where this was saved of those that don't run
+abbrev pub told_up_to : SavedList → ℕ → List Thread → List Told
+told_up_to saved n live = map (told_of saved) (filter (is_given n) live)
 
 -- what is told of a thread in a state, where there is one
-abbrev told_in : ℕ → Option ThreadState → List (ℕ × ThreadState)
-told_in t None = []
-told_in t (Some state) = (t, state) ∷ []
+abbrev told_in : SavedList → ℕ → Option ThreadState → List Told
+told_in saved t None = []
+told_in saved t (Some state) = record { tid = t; state = state; pc = saved_pc saved t } ∷ []
 
-told_found : (t : ℕ) (xs : List Thread) → map told_of (listed (find (is_thread t) xs)) ≡ told_in t (option_map (λ th. th.state) (find (is_thread t) xs))
-told_found t [] = refl
-told_found t (x ∷ xs) = elim (cases_eq x.tid t) [
+told_found : (saved : SavedList) (t : ℕ) (xs : List Thread)
+    → map (told_of saved) (listed (find (is_thread t) xs)) ≡ told_in saved t (option_map (λ th. th.state) (find (is_thread t) xs))
+told_found saved t [] = refl
+told_found saved t (x ∷ xs) = elim (cases_eq x.tid t) [
   | inl is ↦
       let same : is_thread t x ≡ true = grind (arith, nat_tests) in
-      rw same (ap (λ n. (n, x.state) ∷ []) is)
+      rw same (ap (λ (n : ℕ). told_in saved n (Some x.state)) is)
   | inr differs ↦
       let other : is_thread t x ≡ false = grind (arith, nat_tests) in
-      rw other (told_found t xs)
+      rw other (told_found saved t xs)
 ]
 
-told_more : (n : ℕ) (ts : Threads) → IsThreads ts → told_up_to (n + 1) ts.live ≡ told_up_to n ts.live ++ told_in (n + 1) (state_of (n + 1) ts)
-told_more n ts h =
-    ap (map told_of) (given_more n ts.live (rises ts.live h.rising))
-    ∙ map-append told_of (filter (is_given n) ts.live) (listed (find (is_thread (n + 1)) ts.live))
-    ∙ ap (λ l. told_up_to n ts.live ++ l) (told_found (n + 1) ts.live)
+told_more : (saved : SavedList) (n : ℕ) (ts : Threads) → IsThreads ts
+    → told_up_to saved (n + 1) ts.live ≡ told_up_to saved n ts.live ++ told_in saved (n + 1) (state_of (n + 1) ts)
+told_more saved n ts h =
+    ap (map (told_of saved)) (given_more n ts.live (rises ts.live h.rising))
+    ∙ map-append (told_of saved) (filter (is_given n) ts.live) (listed (find (is_thread (n + 1)) ts.live))
+    ∙ ap (λ l. told_up_to saved n ts.live ++ l) (told_found saved (n + 1) ts.live)
 
 -- at the start none, and at the last number all
-pub told_at_start : (ts : Threads) → IsThreads ts → told_up_to 0 ts.live ≡ []
-told_at_start ts h = ap (map told_of) (none_at_start ts.given ts.live h.given)
+pub told_at_start : (saved : SavedList) (ts : Threads) → IsThreads ts → told_up_to saved 0 ts.live ≡ []
+told_at_start saved ts h = ap (map (told_of saved)) (none_at_start ts.given ts.live h.given)
 
-pub told_at_end : (ts : Threads) → IsThreads ts → told_up_to ts.given ts.live ≡ map told_of ts.live
-told_at_end ts h = ap (map told_of) (all_given ts.given ts.live h.given)
+pub told_at_end : (saved : SavedList) (ts : Threads) → IsThreads ts → told_up_to saved ts.given ts.live ≡ map (told_of saved) ts.live
+told_at_end saved ts h = ap (map (told_of saved)) (all_given ts.given ts.live h.given)
 
 -- one number more: of a live thread, and of none
-pub live_more : (before after : List LiveThread) (x : LiveThread) (n : ℕ) (ts : Threads) → IsThreads ts → map told before ≡ told_up_to n ts.live
-    → x.tid.0 ≡ n + 1 → state_of (n + 1) ts ≡ Some x.state → after ≡ before ++ x ∷ [] → map told after ≡ told_up_to (n + 1) ts.live
-live_more before after x n ts h so_far number is pushed =
+pub live_more : (saved : SavedList) (before after : List LiveThread) (x : LiveThread) (n : ℕ) (ts : Threads) → IsThreads ts
+    → map told before ≡ told_up_to saved n ts.live → x.tid.0 ≡ n + 1 → state_of (n + 1) ts ≡ Some x.state
+    → x.pc ≡ saved_pc saved (n + 1) → after ≡ before ++ x ∷ [] → map told after ≡ told_up_to saved (n + 1) ts.live
+live_more saved before after x n ts h so_far number is rests pushed =
+    let this : told x ≡ record { tid = n + 1; state = x.state; pc = saved_pc saved (n + 1) } =
+    (λ i. record { tid = number i; state = x.state; pc = rests i }) in
     ap (map told) pushed ∙ map-append told before (x ∷ []) ∙ ap (λ l. l ++ told x ∷ []) so_far
-    ∙ ap (λ t. told_up_to n ts.live ++ (t, x.state) ∷ []) number
-    ∙ ap (λ o. told_up_to n ts.live ++ told_in (n + 1) o) (sym is)
-    ∙ sym (told_more n ts h)
+    ∙ ap (λ (one : Told). told_up_to saved n ts.live ++ one ∷ []) this
+    ∙ ap (λ o. told_up_to saved n ts.live ++ told_in saved (n + 1) o) (sym is)
+    ∙ sym (told_more saved n ts h)
 
-pub none_more : (before : List LiveThread) (n : ℕ) (ts : Threads) → IsThreads ts → map told before ≡ told_up_to n ts.live
-    → state_of (n + 1) ts ≡ None → map told before ≡ told_up_to (n + 1) ts.live
-none_more before n ts h so_far is =
-    so_far ∙ sym (append-nil (told_up_to n ts.live)) ∙ ap (λ o. told_up_to n ts.live ++ told_in (n + 1) o) (sym is) ∙ sym (told_more n ts h)
+pub none_more : (saved : SavedList) (before : List LiveThread) (n : ℕ) (ts : Threads) → IsThreads ts
+    → map told before ≡ told_up_to saved n ts.live → state_of (n + 1) ts ≡ None → map told before ≡ told_up_to saved (n + 1) ts.live
+none_more saved before n ts h so_far is =
+    so_far ∙ sym (append-nil (told_up_to saved n ts.live))
+    ∙ ap (λ o. told_up_to saved n ts.live ++ told_in saved (n + 1) o) (sym is) ∙ sym (told_more saved n ts h)

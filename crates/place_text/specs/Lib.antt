@@ -3,6 +3,7 @@ pub mod Ends
 pub mod Fields
 pub mod Harts
 pub mod Live
+pub mod Memory
 pub mod Place
 pub mod Registers
 pub mod Seen

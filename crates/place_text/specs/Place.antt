@@ -1,10 +1,11 @@
 -- The text of a place (own): what is seen of each hart and of each live thread at the end of a history, and what each hart may do there.
--- It isn't the whole state: memory, the console and the registers of threads that run on no hart, for example, aren't shown.
+-- It isn't the whole state: the console and the registers of threads that run on no hart, for example, aren't shown, and memory is shown
+-- only where it is asked for (specs/Memory.antt).
 use Rattle.std.specs.Prelude.{ℕ, List, ◌++◌, length, codes}
 use Rattle.std.specs.List.{flat_map, range_with_len}
 use Rattle.mach_types.specs.declared.events.Choice.{Choice}
 use Rattle.block_model.specs.Deciding.{end_of}
-use Rattle.block_model.specs.History.{History, here_in_history, kernel}
+use Rattle.block_model.specs.History.{History, file, here_in_history, kernel}
 use Rattle.block_model.specs.Setting.{Setting}
 use Rattle.place_text.specs.Choices.{choices_text, run_choices}
 use Rattle.place_text.specs.Ends.{end_line, number_line}
@@ -29,5 +30,5 @@ place_text s before =
     number_line (codes "place") (length before)
     ++ end_line (end_of s before)
     ++ harts_text s before
-    ++ threads_text (kernel s before).signals (kernel s before).threads.live
+    ++ threads_text (kernel s before) (λ t. file s t before)
     ++ choices_of_harts s before (run_choices (kernel s before).threads.live)

@@ -6,12 +6,14 @@ mod choices;
 mod ends;
 pub mod fields;
 mod harts;
+mod memory;
 mod place;
 mod registers;
 mod sequences;
 mod threads;
 
 pub use ends::{push_end, push_number_line};
+pub use memory::push_memory;
 pub use place::place_text;
 pub use registers::register_name;
 pub use sequences::bad_word;

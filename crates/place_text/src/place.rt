@@ -41,8 +41,8 @@ fn push_all_choices(
 }
 
 /// The text of the place that a machine has come to: how many entries its log has and how the run ends that stops here; what is seen of
-/// each hart and of each live thread; and for each hart what it may do next, or why it may not. It isn't the whole state: memory, the
-/// console and the registers of threads that run on no hart, for example, aren't shown.
+/// each hart and of each live thread; and for each hart what it may do next, or why it may not. It isn't the whole state: memory
+/// ([`push_memory`]), the console and the registers of threads that run on no hart, for example, aren't shown.
 pub fn place_text(alloc: Global, machine: &Machine) -> Result<Vec<u8>, AllocError>
     ensures { IfOk result (λ text. text.items
         ≡ spec.place_text machine.now.setting (history machine.now.setting machine.now.log)) }
@@ -53,7 +53,7 @@ pub fn place_text(alloc: Global, machine: &Machine) -> Result<Vec<u8>, AllocErro
     push_number_line(&mut text, b"place", machine.log().len())?;
     push_end(&mut text, machine.end())?;
     push_all_harts(&mut text, machine)?;
-    push_threads(&mut text, &kernel.signals, &live)?;
+    push_threads(&mut text, kernel, &live)?;
     push_all_choices(&mut text, machine, &live)?;
     Ok(text)
 }

@@ -53,7 +53,7 @@ fn push_registered(text: &mut Vec<u8>, area: Area) -> Result<(), AllocError>
 }
 
 /// Appends the fields of an area, if there is one.
-fn push_area_fields(text: &mut Vec<u8>, area: Option<Area>) -> Result<(), AllocError>
+pub fn push_area_fields(text: &mut Vec<u8>, area: Option<Area>) -> Result<(), AllocError>
     ensures { OnOk result (text.new.items ≡ text.old.items ++ behind (area_fields area)) }
 {
     match area {

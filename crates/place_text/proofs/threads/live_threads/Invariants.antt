@@ -5,4 +5,4 @@ use Rattle.place_text.proofs.threads.live_threads.Given as goal
 
 -- those of the numbers so far that are live
 abbrev pub invariant-loop-earlier : goal.invariant-loop-earlier
-invariant-loop-earlier l = map told l.live.items ≡ told_up_to l.earlier l.threads.threads.live
+invariant-loop-earlier l = map told l.live.items ≡ told_up_to l.threads.saved l.earlier l.threads.threads.live
