@@ -5,7 +5,7 @@ use Rattle.std.specs.List.{list_all, list_any}
 use Rattle.std.specs.Str.{bytes_eq}
 use Rattle.std.proofs.lemmas.Bool.{and_parts}
 use Rattle.std.proofs.lemmas.Slice.Eq.{bytes_eq-Decides}
-use Rattle.command_words.specs.Options.{OptionName, Harts, Frames, Steps, Seed, Policy, Calm, After, RunCount, Until, By, Jobs, From, To, all_options, long_name, option_named}
+use Rattle.command_words.specs.Options.{OptionName, Harts, Frames, Steps, Seed, Policy, Calm, After, RunCount, Until, By, Jobs, From, To, Memory, all_options, long_name, option_named}
 use Rattle.command_words.specs.Options.{option_word, same_option}
 
 -- an option is named by its word
@@ -23,6 +23,7 @@ named_back By = refl
 named_back Jobs = refl
 named_back From = refl
 named_back To = refl
+named_back Memory = refl
 
 -- and is among all options
 is_one : (o : OptionName) → list_any (λ x. same_option x o) all_options ≡ true
@@ -39,6 +40,7 @@ is_one By = refl
 is_one Jobs = refl
 is_one From = refl
 is_one To = refl
+is_one Memory = refl
 
 -- two options are told apart by their words
 pub same_self : (o : OptionName) → same_option o o ≡ true

@@ -1,3 +1,4 @@
+mod Addresses
 mod ClapEquals
 mod ClapGoes
 mod ClapLine
@@ -14,5 +15,6 @@ mod Gathering
 mod Lines
 mod Numbers
 mod Parts
+mod SpanTexts
 mod Suits
 mod WordExamples

@@ -20,7 +20,7 @@ use Rattle.command_words.specs.Commands.{Command, Source, Rule, Workers}
 use Rattle.command_words.specs.Grammar.{Arguments, all_suit, asked_by, asked_for, command_for, drawn_source, files_for, guest_for}
 use Rattle.mach_types.specs.declared.limits.Limits.{Limits}
 use Rattle.command_words.specs.Grammar.{guest_named, one_name, pair_for, program_for, settings_of, suits, two_names}
-use Rattle.command_words.specs.Options.{OptionName, After, number_of}
+use Rattle.command_words.specs.Options.{OptionName, After, Memory, number_of}
 use Rattle.command_words.specs.Table.{command_kind}
 use Rattle.command_words.specs.Takes.{Takes, takes_by, takes_kind, takes_of}
 use Rattle.command_words.specs.WordFaults.{kind_at}
@@ -172,24 +172,24 @@ mapped : {A B : Type 0} (f : A → B) (o : Option A) → is_some (option_map f o
 mapped f None = refl
 mapped f (Some x) = refl
 
-names_are : (kind : CommandKind) (settings : Settings) (after : Option (List ℕ)) (names : List (List ℕ))
-    → is_some (command_for kind settings after names) ≡ names_fit (takes_kind kind).names names
-names_are (Runs source shown) settings after names =
+names_are : (kind : CommandKind) (settings : Settings) (after memory : Option (List ℕ)) (names : List (List ℕ))
+    → is_some (command_for kind settings after memory names) ≡ names_fit (takes_kind kind).names names
+names_are (Runs source shown) settings after memory names =
     mapped _ (files_for source names settings after) ∙ files_are source names settings after
-names_are Makes settings after names = mapped _ (guest_for names) ∙ guests_are names
-names_are Tries settings after names = mapped _ (guest_for names) ∙ guests_are names
-names_are Explores settings after names = mapped _ (program_for names) ∙ program_is names
-names_are Pairs settings after names = mapped _ (pair_for settings.limits names) ∙ pair_is settings.limits names
+names_are Makes settings after memory names = mapped _ (guest_for names) ∙ guests_are names
+names_are Tries settings after memory names = mapped _ (guest_for names) ∙ guests_are names
+names_are Explores settings after memory names = mapped _ (program_for names) ∙ program_is names
+names_are Pairs settings after memory names = mapped _ (pair_for settings.limits names) ∙ pair_is settings.limits names
 
 -- so a command of a kind is asked for exactly where the arguments are its own
 kind_fits : (kind : CommandKind) (given : Arguments) → is_some (asked_for kind given) ≡ fits (takes_kind kind) given
 kind_fits kind given = by_suit (all_suit (takes_kind kind) given.values)
   where
     by_suit : (b : Bool)
-        → is_some (cond b (command_for kind (settings_of given.values) (given.values After) given.names) None)
+        → is_some (cond b (command_for kind (settings_of given.values) (given.values After) (given.values Memory) given.names) None)
         ≡ (names_fit (takes_kind kind).names given.names && b)
     by_suit true =
-        names_are kind (settings_of given.values) (given.values After) given.names
+        names_are kind (settings_of given.values) (given.values After) (given.values Memory) given.names
         ∙ sym (and_true (names_fit (takes_kind kind).names given.names))
     by_suit false = sym (and_false (names_fit (takes_kind kind).names given.names))
 

@@ -8,11 +8,12 @@ use Rattle.guest_names.specs.declared.names.Name.TheVariants.{Counter, Migrate}
 use Rattle.command_words.specs.Commands.{Command, Runs, Makes, Tries, Explores, Pairs, Source, Rule, Script, Workers, Drawn, DrawnAfter}
 use Rattle.command_words.specs.declared.commands.LineSpan.{LineSpan}
 use Rattle.command_words.specs.declared.commands.Settings.{Settings}
-use Rattle.command_words.specs.declared.commands.Shown.{Shown}
-use Rattle.command_words.specs.declared.commands.Shown.TheVariants.{Output, Summary, Place, Gathered, Trace}
 use Rattle.command_words.specs.declared.options.Apart.{Apart}
 use Rattle.command_words.specs.declared.options.Apart.TheVariants.{ByText, ByEnd}
+use Rattle.command_words.specs.declared.spans.MemorySpan.{MemorySpan}
 use Rattle.command_words.specs.Options.{number_of}
+use Rattle.command_words.specs.Shown.{Shown, Output, Summary, Place, Gathered, Trace}
+use Rattle.command_words.specs.Spans.{address_of, span_of}
 use Rattle.command_words.specs.Words.{arguments_of, command_of}
 
 abbrev limits : ℕ → ℕ → ℕ → Limits
@@ -36,7 +37,7 @@ abbrev blocks : List ℕ → List ℕ → Limits → Command
 blocks program script limits = asked program (Script script) Summary limits
 
 abbrev inspect : List ℕ → List ℕ → Limits → Command
-inspect program script limits = asked program (Script script) Place limits
+inspect program script limits = asked program (Script script) (Place []) limits
 
 abbrev gather : List ℕ → List ℕ → Limits → Command
 gather program script limits = asked program (Script script) Gathered limits
@@ -453,6 +454,61 @@ gather_options = refl
 gather_one_name : command_of (codes "gather" ∷ codes "F" ∷ []) ≡ None
 unfolding command_of arguments_of
 gather_one_name = refl
+
+-- `inspect F S` shows no memory, or the spans of a list
+abbrev bytes : ℕ → ℕ → MemorySpan
+bytes at count = record { at = at; length = count }
+
+inspect_memory : command_of (codes "inspect" ∷ codes "F" ∷ codes "--memory" ∷ codes "11440:16" ∷ codes "S" ∷ [])
+    ≡ Some (asked (codes "F") (Script (codes "S")) (Place (bytes 0x11440 16 ∷ [])) (limits 2 4096 200000))
+unfolding command_of arguments_of
+inspect_memory = refl
+
+inspect_two_spans : command_of (codes "inspect" ∷ codes "F" ∷ codes "S" ∷ codes "--memory=0000000000011a64:4,20000:65536" ∷ [])
+    ≡ Some (asked (codes "F") (Script (codes "S")) (Place (bytes 0x11A64 4 ∷ bytes 0x20000 65536 ∷ [])) (limits 2 4096 200000))
+unfolding command_of arguments_of
+inspect_two_spans = refl
+
+-- no other command shows memory, and a bad list is none
+play_memory : command_of (codes "play" ∷ codes "F" ∷ codes "S" ∷ codes "--memory=0:1" ∷ []) ≡ None
+unfolding command_of arguments_of
+play_memory = refl
+
+inspect_memory_nowhere : command_of (codes "inspect" ∷ codes "F" ∷ codes "S" ∷ codes "--memory=11440:16,11450" ∷ []) ≡ None
+unfolding command_of arguments_of
+inspect_memory_nowhere = refl
+
+-- spans: the last address may be in one, and nothing behind it
+span_at_the_end : span_of (codes "fffffffffffffff8:8") ≡ Some (bytes (2 ^ 64 - 8) 8)
+span_at_the_end = refl
+
+span_past_the_end : span_of (codes "fffffffffffffff8:9") ≡ None
+span_past_the_end = refl
+
+span_of_nothing : span_of (codes "11440:0") ≡ None
+span_of_nothing = refl
+
+span_too_long : span_of (codes "11440:65537") ≡ None
+span_too_long = refl
+
+span_with_two_colons : span_of (codes "11440:1:2") ≡ None
+span_with_two_colons = refl
+
+-- addresses: digits in lower case alone, 16 at most
+address_with_zeros : address_of (codes "0000000000010078") ≡ Some 0x10078
+address_with_zeros = refl
+
+address_too_long : address_of (codes "00000000000010078") ≡ None
+address_too_long = refl
+
+address_in_capitals : address_of (codes "11A64") ≡ None
+address_in_capitals = refl
+
+address_with_its_base : address_of (codes "0x11a64") ≡ None
+address_with_its_base = refl
+
+no_address : address_of [] ≡ None
+no_address = refl
 
 -- `trace F S` tells all lines, or those of a span
 abbrev trace : List ℕ → List ℕ → LineSpan → Limits → Command

@@ -6,8 +6,8 @@ use Rattle.mach_types.specs.Limits.{InRange}
 use Rattle.command_words.specs.declared.commands.Draws.{Draws}
 use Rattle.command_words.specs.declared.commands.Guest.{Guest}
 use Rattle.command_words.specs.declared.commands.Settings.{Settings}
-use Rattle.command_words.specs.declared.commands.Shown.{Shown}
 use Rattle.command_words.specs.declared.commands.Trial.{Trial}
+use Rattle.command_words.specs.Shown.{Shown}
 
 -- how the log of the run comes about: on one hart by the fixed rule; by the events of a script; by workers, one for
 -- each hart, that choose by a seed; by the events that a seed draws, by these policies; or by the events of a script and those drawn

@@ -18,8 +18,6 @@ use Rattle.step_log.specs.Script.{◌>>=◌}
 use Rattle.command_words.specs.declared.commands.Guest.{Guest}
 use Rattle.command_words.specs.declared.commands.LineSpan.{LineSpan}
 use Rattle.command_words.specs.declared.commands.Settings.{Settings}
-use Rattle.command_words.specs.declared.commands.Shown.{Shown}
-use Rattle.command_words.specs.declared.commands.Shown.TheVariants as shows
 use Rattle.command_words.specs.declared.commands.Trial.{Trial}
 use Rattle.command_words.specs.declared.options.Apart.{Apart}
 use Rattle.command_words.specs.declared.options.Apart.TheVariants.{ByText}
@@ -30,9 +28,12 @@ use Rattle.command_words.specs.declared.table.ShownKind.TheVariants as kinds
 use Rattle.command_words.specs.declared.table.SourceKind.{SourceKind}
 use Rattle.command_words.specs.declared.table.SourceKind.TheVariants.{ByRule, ByScript, ByWorkers, ByDraws}
 use Rattle.command_words.specs.Commands.{Command, PairRun, Run, Runs, Makes, Tries, Explores, Pairs, Source, Rule, Script, Workers, Drawn, DrawnAfter}
-use Rattle.command_words.specs.Options.{OptionName, Harts, Frames, Steps, Seed, Policy, Calm, After, RunCount, Until, By, Jobs, From, To}
+use Rattle.command_words.specs.Options.{OptionName, Harts, Frames, Steps, Seed, Policy, Calm, After, RunCount, Until, By, Jobs, From, To, Memory}
 use Rattle.command_words.specs.Options.{Range, all_options, apart_named, is_value}
 use Rattle.command_words.specs.Options.{number_in, number_of, option_word, range_of, same_option, values_of}
+use Rattle.command_words.specs.Shown.{Shown}
+use Rattle.command_words.specs.Shown as shows
+use Rattle.command_words.specs.Spans.{spans_given}
 use Rattle.command_words.specs.Table.{command_kind}
 use Rattle.command_words.specs.Takes.{Takes, has, takes_kind}
 
@@ -178,21 +179,21 @@ files_for ByScript names settings after = two_names names
 files_for ByWorkers names settings after = one_name (Workers settings.seed) names
 files_for ByDraws names settings after = one_name (drawn_source settings after) names
 
--- what is shown: of a trace the lines of this span
-abbrev pub shown_for : ShownKind → LineSpan → Shown
-shown_for kinds.Output span = shows.Output
-shown_for kinds.Summary span = shows.Summary
-shown_for kinds.Place span = shows.Place
-shown_for kinds.Acts span = shows.Acts
-shown_for kinds.Gathered span = shows.Gathered
-shown_for kinds.Trace span = shows.Trace span
+-- what is shown: of a place the spans of memory that a text writes, if one is given, and of a trace the lines of this span
+abbrev pub shown_for : ShownKind → LineSpan → Option (List ℕ) → Shown
+shown_for kinds.Output span memory = shows.Output
+shown_for kinds.Summary span memory = shows.Summary
+shown_for kinds.Place span memory = shows.Place (spans_given memory)
+shown_for kinds.Acts span memory = shows.Acts
+shown_for kinds.Gathered span memory = shows.Gathered
+shown_for kinds.Trace span memory = shows.Trace span
 
--- the run of these files with these settings
-abbrev pub run_for : SourceKind → ShownKind → Settings → List ℕ × Source → Run
-run_for source shown settings files = record {
+-- the run of these files with these settings, and with these spans of memory where they are given
+abbrev pub run_for : SourceKind → ShownKind → Settings → Option (List ℕ) → List ℕ × Source → Run
+run_for source shown settings memory files = record {
   program = files.0;
   source = files.1;
-  shown = shown_for shown settings.span;
+  shown = shown_for shown settings.span memory;
   limits = record settings.limits { harts = harts_for source settings.limits.harts };
 }
 
@@ -225,19 +226,21 @@ pair_for limits (first ∷ second ∷ script ∷ []) =
     Some (record { first = first; second = second; script = script; limits = limits })
 pair_for limits _ = None
 
--- the command of this kind with these settings, behind this script where one is named, and with these names
-abbrev pub command_for : CommandKind → Settings → Option (List ℕ) → List (List ℕ) → Option Command
-command_for (kind.Runs source shown) settings after names =
-    option_map (λ files. Runs (run_for source shown settings files)) (files_for source names settings after)
-command_for kind.Makes settings after names = option_map Makes (guest_for names)
-command_for kind.Tries settings after names = option_map (λ guest. Tries (trial_of settings guest)) (guest_for names)
-command_for kind.Explores settings after names = option_map (λ program. Explores program settings) (program_for names)
-command_for kind.Pairs settings after names = option_map Pairs (pair_for settings.limits names)
+-- the command of this kind with these settings, behind this script where one is named, with these spans of memory where they are
+-- given, and with these names
+abbrev pub command_for : CommandKind → Settings → Option (List ℕ) → Option (List ℕ) → List (List ℕ) → Option Command
+command_for (kind.Runs source shown) settings after memory names =
+    option_map (λ files. Runs (run_for source shown settings memory files)) (files_for source names settings after)
+command_for kind.Makes settings after memory names = option_map Makes (guest_for names)
+command_for kind.Tries settings after memory names = option_map (λ guest. Tries (trial_of settings guest)) (guest_for names)
+command_for kind.Explores settings after memory names = option_map (λ program. Explores program settings) (program_for names)
+command_for kind.Pairs settings after memory names = option_map Pairs (pair_for settings.limits names)
 
 -- what such a command asks for with these arguments: each value that is given suits it
 abbrev pub asked_for : CommandKind → Arguments → Option Command
 asked_for kind given =
-    if all_suit (takes_kind kind) given.values then command_for kind (settings_of given.values) (given.values After) given.names
+    if all_suit (takes_kind kind) given.values
+    then command_for kind (settings_of given.values) (given.values After) (given.values Memory) given.names
     else None
 
 -- what a command's word asks for with them

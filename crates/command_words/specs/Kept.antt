@@ -9,6 +9,8 @@ use Rattle.command_words.specs.declared.commands.Command.TheVariants as command
 use Rattle.command_words.specs.declared.commands.PairRun.{PairRun}
 use Rattle.command_words.specs.declared.commands.Run.{Run}
 use Rattle.command_words.specs.declared.commands.Source.{Source}
+use Rattle.command_words.specs.declared.commands.Shown.{Shown}
+use Rattle.command_words.specs.declared.commands.Shown.TheVariants as shown
 use Rattle.command_words.specs.declared.commands.Source.TheVariants as code
 use Rattle.command_words.specs.declared.options.Numbers.{Numbers}
 use Rattle.command_words.specs.declared.options.OptionName.{OptionName}
@@ -18,6 +20,8 @@ use Rattle.command_words.specs.declared.options.Values.TheVariants as values
 use Rattle.command_words.specs.declared.reader.Reader.{Reader}
 use Rattle.command_words.specs.declared.reader.Reading.{Reading}
 use Rattle.command_words.specs.declared.reader.Reading.TheVariants as reading
+use Rattle.command_words.specs.declared.spans.MemorySpan.{MemorySpan}
+use Rattle.command_words.specs.declared.spans.MemorySpans.{MemorySpans}
 use Rattle.command_words.specs.declared.takes.NameKind.{NameKind}
 use Rattle.command_words.specs.declared.takes.NameKinds.{NameKinds}
 use Rattle.command_words.specs.declared.takes.NameKinds.TheVariants as kinds
@@ -26,8 +30,11 @@ use Rattle.command_words.specs.declared.takes.Takes.{Takes}
 use Rattle.command_words.specs.Commands.{Command as Asked, PairRun as AskedPair, Run as AskedRun, Runs, Makes, Tries, Explores, Pairs}
 use Rattle.command_words.specs.Commands.{Source as FromSource, Rule, Script, Workers, Drawn, DrawnAfter}
 use Rattle.command_words.specs.Grammar.{Arguments as Stated}
-use Rattle.command_words.specs.Options.{OptionName as Named, Harts, Frames, Steps, Seed, Policy, Calm, After, RunCount, Until, By, Jobs, From, To, Range}
-use Rattle.command_words.specs.Options.{Values as ItsValues, Numbers as InRange, PolicyNames, ApartNames, FileNames}
+use Rattle.command_words.specs.Options.{OptionName as Named, Harts, Frames, Steps, Seed, Policy, Calm, After, RunCount, Until, By, Jobs, From, To, Memory, Range}
+use Rattle.command_words.specs.Options.{Values as ItsValues, Numbers as InRange, PolicyNames, ApartNames, FileNames, MemorySpans as SpansOfMemory}
+use Rattle.command_words.specs.Shown.{Shown as AskedShown}
+use Rattle.command_words.specs.Shown as shows
+use Rattle.command_words.specs.Spans.{spans_given}
 use Rattle.command_words.specs.Takes.{OptionSet as SomeOptions, Takes as Taken}
 use Rattle.command_words.specs.WordFaults.{SoFar}
 use Rattle.command_words.specs.Words.{Reading as Read, Options, Value, Names}
@@ -47,6 +54,7 @@ named option.By = By
 named option.Jobs = Jobs
 named option.From = From
 named option.To = To
+named option.Memory = Memory
 
 -- the numbers that an option takes
 abbrev pub range : Numbers → Range
@@ -58,6 +66,7 @@ values_kept (values.Numbers numbers) = InRange (range numbers)
 values_kept values.PolicyNames = PolicyNames
 values_kept values.ApartNames = ApartNames
 values_kept values.FileNames = FileNames
+values_kept values.MemorySpans = SpansOfMemory
 
 -- the names, as texts
 abbrev pub names_kept : KeptNames → List (List ℕ)
@@ -81,6 +90,7 @@ value_kept kept By = option_copied kept.by
 value_kept kept Jobs = option_copied kept.jobs
 value_kept kept From = option_copied kept.from
 value_kept kept To = option_copied kept.to
+value_kept kept Memory = option_copied kept.memory
 
 -- the arguments, with the texts of their words
 abbrev pub stated : Arguments → Stated
@@ -94,12 +104,25 @@ source_said (code.Workers seed) = Workers seed
 source_said (code.Drawn seed draws) = Drawn seed draws
 source_said (code.DrawnAfter script seed draws) = DrawnAfter script.now seed draws
 
+-- the spans of memory that are kept as a text
+abbrev pub spans_kept : MemorySpans → List MemorySpan
+spans_kept memory = spans_given (option_copied memory.text)
+
+-- what is shown, with its spans of memory
+abbrev pub shown_said : Shown → AskedShown
+shown_said shown.Output = shows.Output
+shown_said shown.Summary = shows.Summary
+shown_said (shown.Place memory) = shows.Place (spans_kept memory)
+shown_said shown.Acts = shows.Acts
+shown_said shown.Gathered = shows.Gathered
+shown_said (shown.Trace span) = shows.Trace span
+
 -- the run, with the texts of its names
 abbrev pub run_said : Run → AskedRun
 run_said run = record {
   program = run.program.now;
   source = source_said run.source;
-  shown = run.shown;
+  shown = shown_said run.shown;
   limits = run.limits;
 }
 
@@ -136,6 +159,7 @@ options_kept options = record {
   jobs = options.jobs;
   from = options.from;
   to = options.to;
+  memory = options.memory;
 }
 
 -- what the names of a command are

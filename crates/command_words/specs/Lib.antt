@@ -1,8 +1,11 @@
 pub mod Commands
+pub mod Decimals
 pub mod Grammar
 pub mod Kept
 pub mod Line
 pub mod Options
+pub mod Shown
+pub mod Spans
 pub mod Table
 pub mod Takes
 pub mod WordErrors

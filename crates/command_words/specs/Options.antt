@@ -1,20 +1,17 @@
 -- The options of a command line (own): their words, and the values that they take.
-use Rattle.std.specs.Prelude.{ℕ, ◌-◌, ◌^◌, Bool, ◌&&◌, not, List, [], ◌∷◌, ◌++◌, length, find, Option, Some, None}
-use Rattle.std.specs.Prelude.{if◌then◌else◌, nat_lt, nat_le, codes}
-use Rattle.std.specs.Char.{is_ascii_digit}
-use Rattle.std.specs.List.{list_all}
+use Rattle.std.specs.Prelude.{ℕ, ◌-◌, ◌^◌, Bool, not, List, [], ◌∷◌, ◌++◌, find, Option, Some, None, if◌then◌else◌, codes}
 use Rattle.std.specs.Option.{is_some}
 use Rattle.std.specs.Str.{bytes_eq}
-use Rattle.std.specs.Str.Parse.{digits_value}
 use Rattle.draw_policies.specs.Policies.{policies_of_word}
-use Rattle.step_log.specs.Script.{◌>>=◌}
 use Rattle.command_words.specs.declared.options.Apart.{Apart}
 use Rattle.command_words.specs.declared.options.Apart.TheVariants.{ByText, ByEnd}
+use Rattle.command_words.specs.Spans.{are_spans}
+pub use Rattle.command_words.specs.Decimals.{Range, number_in, number_of, range_of}
 
 -- the options that commands have: how many harts there are, how many frames of 4,096 bytes, how many lines
 -- the log may have, the seed of what is chosen, which policies draw, from how many events on a run goes on fairly, and the script
 -- behind which events are drawn; how many runs are explored, how many different outcomes are enough, by what they are told apart, and
--- how many host threads make the runs; from which line and to which line a log is told
+-- how many host threads make the runs; from which line and to which line a log is told; and which bytes of memory are shown
 pub data OptionName : Type 0 where
   Harts : OptionName
   Frames : OptionName
@@ -29,9 +26,10 @@ pub data OptionName : Type 0 where
   Jobs : OptionName
   From : OptionName
   To : OptionName
+  Memory : OptionName
 
 abbrev pub all_options : List OptionName
-all_options = Harts ∷ Frames ∷ Steps ∷ Seed ∷ Policy ∷ Calm ∷ After ∷ RunCount ∷ Until ∷ By ∷ Jobs ∷ From ∷ To ∷ []
+all_options = Harts ∷ Frames ∷ Steps ∷ Seed ∷ Policy ∷ Calm ∷ After ∷ RunCount ∷ Until ∷ By ∷ Jobs ∷ From ∷ To ∷ Memory ∷ []
 
 -- the name of an option
 abbrev pub long_name : OptionName → List ℕ
@@ -48,6 +46,7 @@ long_name By = codes "by"
 long_name Jobs = codes "jobs"
 long_name From = codes "from"
 long_name To = codes "to"
+long_name Memory = codes "memory"
 
 -- the word of an option
 abbrev pub option_word : OptionName → List ℕ
@@ -61,20 +60,13 @@ option_named word = find (λ option. bytes_eq word (option_word option)) all_opt
 abbrev pub same_option : OptionName → OptionName → Bool
 same_option one other = bytes_eq (option_word one) (option_word other)
 
--- some numbers: from the least to the most
-pub record Range : Type 0 where
-  pub least : ℕ
-  pub most : ℕ
-
-abbrev pub range_of : ℕ → ℕ → Range
-range_of least most = record { least = least; most = most }
-
--- the values of an option: numbers, the names of policies, by what outcomes are told apart, or the names of files
+-- the values of an option: numbers, the names of policies, by what outcomes are told apart, the names of files, or spans of memory
 pub data Values : Type 0 where
   Numbers : (range : Range) → Values
   PolicyNames : Values
   ApartNames : Values
   FileNames : Values
+  MemorySpans : Values
 
 abbrev pub values_of : OptionName → Values
 values_of Harts = Numbers (range_of 1 8)
@@ -90,22 +82,7 @@ values_of By = ApartNames
 values_of Jobs = Numbers (range_of 1 64)
 values_of From = Numbers (range_of 1 1000000)
 values_of To = Numbers (range_of 1 1000000)
-
--- a number is 1 to 20 decimal digits and nothing else, and is below 2 ^ 64
-abbrev pub is_number : List ℕ → Bool
-is_number text =
-    nat_lt 0 (length text) && nat_le (length text) 20 && list_all is_ascii_digit text
-    && nat_lt (digits_value 10 text) (2 ^ 64)
-
--- the number that a text writes, if it is one
-abbrev pub number_of : List ℕ → Option ℕ
-number_of text = if is_number text then Some (digits_value 10 text) else None
-
--- the number that a text writes, if it is one of these
-abbrev pub number_in : Range → List ℕ → Option ℕ
-number_in range text = do
-  number ← number_of text
-  if nat_le range.least number && nat_le number range.most then Some number else None
+values_of Memory = MemorySpans
 
 -- by what outcomes are told apart, as a word says it
 abbrev pub apart_named : List ℕ → Option Apart
@@ -118,3 +95,4 @@ is_value (Numbers range) text = is_some (number_in range text)
 is_value PolicyNames text = is_some (policies_of_word text)
 is_value ApartNames text = is_some (apart_named text)
 is_value FileNames text = not (bytes_eq text (codes "-"))
+is_value MemorySpans text = are_spans text

@@ -8,7 +8,7 @@ use Rattle.command_words.specs.declared.table.SourceKind.{SourceKind}
 use Rattle.command_words.specs.declared.table.SourceKind.TheVariants.{ByRule, ByScript, ByWorkers, ByDraws}
 use Rattle.command_words.specs.declared.takes.NameKind.{NameKind}
 use Rattle.command_words.specs.declared.takes.NameKind.TheVariants.{Program, SecondProgram, Script, Guest, Size}
-use Rattle.command_words.specs.Options.{OptionName, Harts, Frames, Steps, Seed, Policy, Calm, After, RunCount, Until, By, Jobs, From, To}
+use Rattle.command_words.specs.Options.{OptionName, Harts, Frames, Steps, Seed, Policy, Calm, After, RunCount, Until, By, Jobs, From, To, Memory}
 use Rattle.command_words.specs.Table.{command_kind}
 
 -- some of the options
@@ -26,6 +26,7 @@ pub record OptionSet : Type 0 where
   pub jobs : Bool
   pub from : Bool
   pub to : Bool
+  pub memory : Bool
 
 -- none of them
 abbrev pub no_options : OptionSet
@@ -43,6 +44,7 @@ no_options = record {
   jobs = false;
   from = false;
   to = false;
+  memory = false;
 }
 
 -- whether an option is among them
@@ -60,6 +62,7 @@ has options By = options.by
 has options Jobs = options.jobs
 has options From = options.from
 has options To = options.to
+has options Memory = options.memory
 
 -- these and one more
 abbrev pub with_option : OptionSet → OptionName → OptionSet
@@ -76,6 +79,7 @@ with_option options By = record options { by = true }
 with_option options Jobs = record options { jobs = true }
 with_option options From = record options { from = true }
 with_option options To = record options { to = true }
+with_option options Memory = record options { memory = true }
 
 -- what a command takes: these names in this order, and these options in any
 pub record Takes : Type 0 where
@@ -138,11 +142,12 @@ takes_by ByScript = taken_on_script
 takes_by ByWorkers = taken_by_workers
 takes_by ByDraws = taken_by_draws
 
--- the options of a run by what is shown of it: a trace takes the lines from which and to which it is told
+-- the options of a run by what is shown of it: a place takes which bytes of memory are shown, and a trace the lines from which and to
+-- which it is told
 abbrev pub options_for : ShownKind → OptionSet → OptionSet
 options_for shows.Output options = options
 options_for shows.Summary options = options
-options_for shows.Place options = options
+options_for shows.Place options = record options { memory = true }
 options_for shows.Acts options = options
 options_for shows.Gathered options = options
 options_for shows.Trace options = record options { from = true; to = true }

@@ -11,13 +11,13 @@ use Rattle.step_log.specs.Script.{◌>>=◌}
 use Rattle.command_words.specs.declared.faults.WordsFault.{WordsFault}
 use Rattle.command_words.specs.declared.faults.WordsFault.TheVariants.{NoCommand, UnknownCommand, UnknownOption}
 use Rattle.command_words.specs.declared.faults.WordsFault.TheVariants.{NotTaken, Twice, NoValue, OutOfRange, UnknownPolicy}
-use Rattle.command_words.specs.declared.faults.WordsFault.TheVariants.{NeitherTextNorEnd}
+use Rattle.command_words.specs.declared.faults.WordsFault.TheVariants.{NeitherTextNorEnd, NoSpans}
 use Rattle.command_words.specs.declared.faults.WordsFault.TheVariants.{OneNameTooMany, NoProgram, NoSecondProgram, NoScript}
 use Rattle.command_words.specs.declared.faults.WordsFault.TheVariants.{UnknownGuest, NoNumber, NoGuest, NoSize}
 use Rattle.command_words.specs.declared.takes.NameKind.{NameKind}
 use Rattle.command_words.specs.declared.takes.NameKind.TheVariants.{Program, SecondProgram, Script, Guest, Size}
 use Rattle.command_words.specs.Grammar.{Item, Name, Given, begins_with_dash, is_option}
-use Rattle.command_words.specs.Options.{OptionName, Values, Numbers, PolicyNames, ApartNames, FileNames, is_value, number_of, option_named, values_of}
+use Rattle.command_words.specs.Options.{OptionName, Values, Numbers, PolicyNames, ApartNames, FileNames, MemorySpans, is_value, number_of, option_named, values_of}
 use Rattle.command_words.specs.Takes.{OptionSet, Takes, has, no_options, takes_of, with_option}
 use Rattle.command_words.specs.Words.{Reading, Options, Value, Names, behind_equals, is_equals, word_read}
 
@@ -48,6 +48,7 @@ none_of (Numbers range) word = OutOfRange word range.least range.most
 none_of PolicyNames word = UnknownPolicy word
 none_of ApartNames word = NeitherTextNorEnd word
 none_of FileNames word = NoValue word
+none_of MemorySpans word = NoSpans word
 
 -- a value is one of those that its option takes
 abbrev pub value_fault : SoFar → OptionName → List ℕ → Option WordsFault
@@ -167,6 +168,7 @@ word_of (NoValue word) = Some word
 word_of (OutOfRange word least most) = Some word
 word_of (UnknownPolicy word) = Some word
 word_of (NeitherTextNorEnd word) = Some word
+word_of (NoSpans word) = Some word
 word_of (OneNameTooMany word) = Some word
 word_of (UnknownGuest word) = Some word
 word_of (NoNumber word) = Some word

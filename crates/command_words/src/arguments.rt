@@ -55,6 +55,8 @@ pub(crate) struct Arguments<'a> {
     pub(crate) from: Option<&'a str>,
     /// The value of `--to`.
     pub(crate) to: Option<&'a str>,
+    /// The value of `--memory`.
+    pub(crate) memory: Option<&'a str>,
 }
 
 /// An option of this name, which takes a value.
@@ -91,7 +93,8 @@ fn options<'a>(alloc: Global) -> Result<Parser<'a>, AllocError>
         .arg(option(alloc, "by"))?
         .arg(option(alloc, "jobs"))?
         .arg(option(alloc, "from"))?
-        .arg(option(alloc, "to"))
+        .arg(option(alloc, "to"))?
+        .arg(option(alloc, "memory"))
 }
 
 /// A parser of what may stand behind a command.
@@ -144,6 +147,7 @@ fn arguments_in<'a>(matches: &ArgMatches<'a>) -> Arguments<'a>
         jobs: matches.get_str("jobs"),
         from: matches.get_str("from"),
         to: matches.get_str("to"),
+        memory: matches.get_str("memory"),
     }
 }
 

@@ -3,7 +3,7 @@
 ghost use Rattle.std.specs.Prelude.{◌≡◌, ◌≤◌, IfOk, IfSome, option_copied, option_map};
 ghost use Rattle.mach_types.specs.Limits.{InRange};
 ghost use Rattle.command_words.specs.Commands.{AreInRange, HasHartsOf, HasItsHarts, HasLimits, trial_limits};
-ghost use Rattle.command_words.specs.Kept.{named, names_kept, pair_said, range, run_said, said, source_said, stated, takes_kept};
+ghost use Rattle.command_words.specs.Kept.{named, names_kept, pair_said, range, run_said, said, shown_said, source_said, spans_kept, stated, takes_kept};
 ghost use Rattle.command_words.specs.Grammar.{all_suit, apart_or_text, asked_by, asked_for, command_for, drawn_source, files_for, guest_for, guest_named};
 ghost use Rattle.command_words.specs.Grammar.{harts_for, one_name, policies_or_all, run_for, settings_of, shown_for, suits, trial_of};
 ghost use Rattle.command_words.specs.Grammar.{number_given, pair_for, program_for, two_names};
@@ -14,6 +14,7 @@ use crate::options::{
     Apart, CALM, FRAMES, HARTS, JOBS, LINES, Numbers, OUTCOMES, OptionName, RUNS, SEEDS, STEPS,
     number_of,
 };
+use crate::spans::MemorySpans;
 use crate::table::{CommandKind, ShownKind, SourceKind, command_kind};
 use crate::takes::Takes;
 use draw_policies::Policies;
@@ -71,13 +72,13 @@ pub struct LineSpan {
 
 /// What is shown of a run.
 #[derive(Clone, Copy, Drop)]
-pub enum Shown {
+pub enum Shown<'a> {
     /// Its output: its console, its log and its end.
     Output,
     /// Its summary: how many acts of each form each hart made.
     Summary,
-    /// The place that it comes to.
-    Place,
+    /// The place that it comes to, with these spans of memory.
+    Place(MemorySpans<'a>),
     /// Its acts, a line each.
     Acts,
     /// Its output with its gathered log: each private sequence, one that no other hart disturbed, put together.
@@ -94,7 +95,7 @@ pub struct Run<'a> {
     /// How the log of the run comes about.
     pub source: Source<'a>,
     /// What is shown of the run.
-    pub shown: Shown,
+    pub shown: Shown<'a>,
     /// The limits of the run.
     pub limits: Limits,
 }
@@ -198,10 +199,10 @@ impl Trial {
 /// What the words ask for; None exactly where they aren't of the grammar. It errs only for want of memory.
 ///
 /// The first word is the command: `solo FILE`, with `--frames` and `--steps`; `play FILE SCRIPT` and the other
-/// commands on a script, with `--harts` too, and `trace` with `--from` and `--to` besides; `run FILE`, with `--harts` and `--seed` too; `draw FILE`, with
-/// `--policy`, `--calm` and `--after` besides; `explore FILE`, with `--policy`, `--calm`, `--runs`, `--until`, `--by` and `--jobs`;
-/// `make NAME N`, with no option; `trial NAME N`, with `--harts`, `--steps` and `--seed`; or `pair FILE1 FILE2 SCRIPT`, with the options
-/// of `play`. Each limit is in its range.
+/// commands on a script, with `--harts` too, `inspect` with `--memory` besides, and `trace` with `--from` and `--to`;
+/// `run FILE`, with `--harts` and `--seed` too; `draw FILE`, with `--policy`, `--calm` and `--after` besides; `explore FILE`,
+/// with `--policy`, `--calm`, `--runs`, `--until`, `--by` and `--jobs`; `make NAME N`, with no option; `trial NAME N`, with
+/// `--harts`, `--steps` and `--seed`; or `pair FILE1 FILE2 SCRIPT`, with the options of `play`. Each limit is in its range.
 #[tactic(auto, unfolding(crate::specs::Words::command_of))]
 pub(crate) fn command_of<'a>(
     alloc: Global,
@@ -249,6 +250,7 @@ impl<'a> Arguments<'a> {
             OptionName::Jobs => self.jobs,
             OptionName::From => self.from,
             OptionName::To => self.to,
+            OptionName::Memory => self.memory,
         }
     }
 
@@ -279,6 +281,7 @@ impl<'a> Arguments<'a> {
             && self.suits(takes, OptionName::Jobs)
             && self.suits(takes, OptionName::From)
             && self.suits(takes, OptionName::To)
+            && self.suits(takes, OptionName::Memory)
     }
 
     /// The limits that the options come to.
@@ -384,29 +387,33 @@ fn asked_for<'a>(kind: CommandKind, arguments: Arguments<'a>) -> Option<Command<
 {
     if arguments.all_suit(kind.takes()) {
         let settings = arguments.settings();
-        command_for(kind, settings, arguments.after, arguments.names)
+        let Arguments { after, memory, .. } = arguments;
+        command_for(kind, settings, after, memory, arguments.names)
     } else {
         None
     }
 }
 
-/// The command of this kind with these settings, behind this script where one is named, and with these names; None where the names
-/// don't suit.
+/// The command of this kind with these settings, behind this script where one is named, with these spans of memory where they are given,
+/// and with these names; None where the names don't suit.
 fn command_for<'a>(
     kind: CommandKind,
     settings: Settings,
     after: Option<&'a str>,
+    memory: Option<&'a str>,
     names: FileNames<'a>,
 ) -> Option<Command<'a>>
     requires { AreInRange settings }
     ensures command { option_map said result
-        ≡ command_for kind settings (option_copied after.entry) (names_kept names.entry) }
+        ≡ command_for kind settings (option_copied after.entry) (option_copied memory.entry)
+        (names_kept names.entry) }
     ensures limits { IfSome result (λ command. HasLimits (said command)) }
     ensures harts { IfSome result (λ command. HasItsHarts (said command)) }
 {
     match kind {
         CommandKind::Runs { source, shown } => {
-            Some(Command::Runs(run_for(source, shown, settings, after, names)?))
+            let run = run_for(source, shown, settings, after, memory, names)?;
+            Some(Command::Runs(run))
         }
         CommandKind::Makes => Some(Command::Makes(guest_for(names)?)),
         CommandKind::Tries => Some(Command::Tries(trial_of(settings, guest_for(names)?))),
@@ -496,14 +503,14 @@ fn files_for<'a>(
 }
 
 impl ShownKind {
-    /// What is shown: of a trace the lines of this span.
-    fn shown(self, span: LineSpan) -> Shown
-        ensures { result ≡ shown_for self span }
+    /// What is shown: of a place the spans of memory that a text writes, if one is given, and of a trace the lines of this span.
+    fn shown(self, span: LineSpan, memory: Option<&str>) -> Shown<'_>
+        ensures { shown_said result ≡ shown_for self span (option_copied memory.entry) }
     {
         match self {
             ShownKind::Output => Shown::Output,
             ShownKind::Summary => Shown::Summary,
-            ShownKind::Place => Shown::Place,
+            ShownKind::Place => Shown::Place(MemorySpans { text: memory }),
             ShownKind::Acts => Shown::Acts,
             ShownKind::Gathered => Shown::Gathered,
             ShownKind::Trace => Shown::Trace(span),
@@ -511,18 +518,19 @@ impl ShownKind {
     }
 }
 
-/// The run of a program that names give, with these settings, behind this script where one is named; None where the names are too few
-/// or too many.
+/// The run of a program that names give, with these settings, behind this script where one is named, and with these spans of memory
+/// where they are given; None where the names are too few or too many.
 fn run_for<'a>(
     kind: SourceKind,
     shown: ShownKind,
     settings: Settings,
     after: Option<&'a str>,
+    memory: Option<&'a str>,
     names: FileNames<'a>,
 ) -> Option<Run<'a>>
     requires { InRange settings.limits }
     ensures run { option_map run_said result
-        ≡ option_map (run_for kind shown settings)
+        ≡ option_map (run_for kind shown settings (option_copied memory.entry))
         (files_for kind (names_kept names.entry) settings (option_copied after.entry)) }
     ensures limits { IfSome result (λ run. InRange run.limits) }
     ensures harts { IfSome result (λ run. HasHartsOf (source_said run.source) run.limits) }
@@ -541,7 +549,7 @@ fn run_for<'a>(
     Some(Run {
         program,
         source,
-        shown: shown.shown(settings.span),
+        shown: shown.shown(settings.span, memory),
         limits,
     })
 }

@@ -37,6 +37,9 @@ pub enum WordsFault {
     UnknownPolicy(usize),
     /// The value in this word is neither `text` nor `end`.
     NeitherTextNorEnd(usize),
+    /// The value in this word isn't spans of memory, `AT:LENGTH` one comma apart: each an address of 1 to 16 hexadecimal digits in
+    /// lower case and a number of bytes from 1 to 65,536, none past the end of addresses.
+    NoSpans(usize),
     /// This word is a name too many.
     OneNameTooMany(usize),
     /// This word is to name a guest, and names none.

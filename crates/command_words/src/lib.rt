@@ -7,6 +7,7 @@ mod faults;
 mod options;
 mod read;
 mod reader;
+mod spans;
 mod table;
 mod takes;
 mod theorems;
@@ -17,5 +18,6 @@ pub use commands::{
 pub use faults::{WordsFault, words_fault};
 pub use options::Apart;
 pub use read::{WordsError, read_words};
+pub use spans::{MemorySpan, MemorySpans};
 pub use table::{COMMANDS, CommandKind, ShownKind, SourceKind, command_kind};
 pub use theorems::words_are_wrong_or_name_a_command;

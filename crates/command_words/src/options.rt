@@ -7,6 +7,7 @@ ghost use Rattle.command_words.specs.Grammar.{number_given, number_or};
 ghost use Rattle.command_words.specs.Kept.{named, range, values_kept};
 ghost use Rattle.command_words.specs.Options.{apart_named, is_value, number_in, number_of, option_named, values_of};
 
+use crate::spans::are_spans;
 use draw_policies::Policies;
 
 /// The options that commands have.
@@ -38,6 +39,8 @@ pub(crate) enum OptionName {
     From,
     /// To which line a log is told.
     To,
+    /// Which bytes of memory are shown.
+    Memory,
 }
 
 /// By what outcomes are told apart.
@@ -127,6 +130,8 @@ pub(crate) enum Values {
     ApartNames,
     /// The names of files: any text but `-`.
     FileNames,
+    /// Spans of memory, one comma apart.
+    MemorySpans,
 }
 
 impl OptionName {
@@ -148,6 +153,7 @@ impl OptionName {
             "--jobs" => Some(OptionName::Jobs),
             "--from" => Some(OptionName::From),
             "--to" => Some(OptionName::To),
+            "--memory" => Some(OptionName::Memory),
             _ => None,
         }
     }
@@ -170,6 +176,7 @@ impl OptionName {
             OptionName::Jobs => Values::Numbers(JOBS),
             OptionName::From => Values::Numbers(LINES),
             OptionName::To => Values::Numbers(LINES),
+            OptionName::Memory => Values::MemorySpans,
         }
     }
 }
@@ -184,6 +191,7 @@ impl Values {
             Values::PolicyNames => Policies::of_word(text).is_some(),
             Values::ApartNames => Apart::of_word(text).is_some(),
             Values::FileNames => text != "-",
+            Values::MemorySpans => are_spans(text),
         }
     }
 }

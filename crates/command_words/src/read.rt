@@ -24,11 +24,11 @@ pub enum WordsError {
 /// may want it.
 ///
 /// The first word is the command: `solo FILE`, with `--frames` and `--steps`; `play FILE SCRIPT` and the other
-/// commands on the events of a script, with `--harts` too, and `trace` with `--from` and `--to` besides; `run FILE`, with `--harts` and `--seed` too; `draw FILE`,
-/// with `--policy`, `--calm` and `--after` besides; `explore FILE`, with `--policy`, `--calm`, `--runs`, `--until`, `--by` and
-/// `--jobs`;
-/// `make NAME N`, with no option; `trial NAME N`, with `--harts`, `--steps` and `--seed`; or `pair FILE1 FILE2 SCRIPT`, with the options
-/// of `play`. Each limit is in its range.
+/// commands on the events of a script, with `--harts` too, `inspect` with `--memory` besides, and `trace` with `--from` and
+/// `--to`; `run FILE`, with `--harts` and `--seed` too; `draw FILE`, with `--policy`, `--calm` and `--after` besides;
+/// `explore FILE`, with `--policy`, `--calm`, `--runs`, `--until`, `--by` and `--jobs`; `make NAME N`, with no option;
+/// `trial NAME N`, with `--harts`, `--steps` and `--seed`; or `pair FILE1 FILE2 SCRIPT`, with the options of `play`. Each limit
+/// is in its range.
 pub fn read_words<'a>(alloc: Global, words: &'a [String]) -> Result<Command<'a>, WordsError>
     ensures command { IfOk result (λ command. command_of (texts words.now) ≡ Some (said command)) }
     ensures limits { IfOk result (λ command. HasLimits (said command)) }

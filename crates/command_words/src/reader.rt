@@ -74,6 +74,7 @@ impl Values {
             Values::PolicyNames => WordsFault::UnknownPolicy(word),
             Values::ApartNames => WordsFault::NeitherTextNorEnd(word),
             Values::FileNames => WordsFault::NoValue(word),
+            Values::MemorySpans => WordsFault::NoSpans(word),
         }
     }
 }

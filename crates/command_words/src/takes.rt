@@ -25,6 +25,7 @@ pub(crate) struct OptionSet {
     jobs: bool,
     from: bool,
     to: bool,
+    memory: bool,
 }
 
 impl OptionSet {
@@ -53,6 +54,7 @@ impl OptionSet {
             OptionName::Jobs => self.jobs,
             OptionName::From => self.from,
             OptionName::To => self.to,
+            OptionName::Memory => self.memory,
         }
     }
 
@@ -75,6 +77,7 @@ impl OptionSet {
             OptionName::Jobs => all.jobs = true,
             OptionName::From => all.from = true,
             OptionName::To => all.to = true,
+            OptionName::Memory => all.memory = true,
         }
         all
     }
@@ -95,6 +98,7 @@ const NO_OPTIONS: OptionSet = OptionSet {
     jobs: false,
     from: false,
     to: false,
+    memory: false,
 };
 
 /// The options of a command that runs on one hart: it chooses nothing.
@@ -232,22 +236,24 @@ impl SourceKind {
 }
 
 impl ShownKind {
-    /// These options, and those that come with what is shown: of a trace the lines from which and to which it
-    /// is told.
+    /// These options, and those that come with what is shown: of a place which bytes of memory are shown, and of
+    /// a trace the lines from which and to which it is told.
     fn options(self, options: OptionSet) -> OptionSet
         ensures { options_kept result ≡ options_for self (options_kept options) }
     {
         match self {
+            ShownKind::Place => OptionSet {
+                memory: true,
+                ..options
+            },
             ShownKind::Trace => OptionSet {
                 from: true,
                 to: true,
                 ..options
             },
-            ShownKind::Output
-            | ShownKind::Summary
-            | ShownKind::Place
-            | ShownKind::Acts
-            | ShownKind::Gathered => options,
+            ShownKind::Output | ShownKind::Summary | ShownKind::Acts | ShownKind::Gathered => {
+                options
+            }
         }
     }
 }

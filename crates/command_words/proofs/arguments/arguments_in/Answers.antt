@@ -4,7 +4,7 @@ use Rattle.clap.proofs.WalkLemmas.{first_value-rows}
 use Rattle.clap.specs.Words.{Row, found_of, first_of, rows_of}
 use Rattle.command_words.specs.Kept.{names_kept, stated, value_kept}
 use Rattle.command_words.specs.Line.{arguments_found, names_found}
-use Rattle.command_words.specs.Options.{OptionName, Harts, Frames, Steps, Seed, Policy, Calm, After, RunCount, Until, By, Jobs, From, To, long_name}
+use Rattle.command_words.specs.Options.{OptionName, Harts, Frames, Steps, Seed, Policy, Calm, After, RunCount, Until, By, Jobs, From, To, Memory, long_name}
 use Rattle.command_words.specs.declared.arguments.Arguments.{Arguments}
 use Rattle.command_words.proofs.arguments.arguments_in.Goals as goal
 
@@ -28,20 +28,22 @@ values_are : (rows : List Row) (kept : Arguments) → option_copied kept.harts �
     → option_copied kept.jobs ≡ first_of (codes "jobs") rows
     → option_copied kept.from ≡ first_of (codes "from") rows
     → option_copied kept.to ≡ first_of (codes "to") rows
+    → option_copied kept.memory ≡ first_of (codes "memory") rows
     → (option : OptionName) → value_kept kept option ≡ first_of (long_name option) rows
-values_are rows kept harts frames steps seed policy calm after run_count until by jobs from to Harts = harts
-values_are rows kept harts frames steps seed policy calm after run_count until by jobs from to Frames = frames
-values_are rows kept harts frames steps seed policy calm after run_count until by jobs from to Steps = steps
-values_are rows kept harts frames steps seed policy calm after run_count until by jobs from to Seed = seed
-values_are rows kept harts frames steps seed policy calm after run_count until by jobs from to Policy = policy
-values_are rows kept harts frames steps seed policy calm after run_count until by jobs from to Calm = calm
-values_are rows kept harts frames steps seed policy calm after run_count until by jobs from to After = after
-values_are rows kept harts frames steps seed policy calm after run_count until by jobs from to RunCount = run_count
-values_are rows kept harts frames steps seed policy calm after run_count until by jobs from to Until = until
-values_are rows kept harts frames steps seed policy calm after run_count until by jobs from to By = by
-values_are rows kept harts frames steps seed policy calm after run_count until by jobs from to Jobs = jobs
-values_are rows kept harts frames steps seed policy calm after run_count until by jobs from to From = from
-values_are rows kept harts frames steps seed policy calm after run_count until by jobs from to To = to
+values_are rows kept harts frames steps seed policy calm after run_count until by jobs from to memory Harts = harts
+values_are rows kept harts frames steps seed policy calm after run_count until by jobs from to memory Frames = frames
+values_are rows kept harts frames steps seed policy calm after run_count until by jobs from to memory Steps = steps
+values_are rows kept harts frames steps seed policy calm after run_count until by jobs from to memory Seed = seed
+values_are rows kept harts frames steps seed policy calm after run_count until by jobs from to memory Policy = policy
+values_are rows kept harts frames steps seed policy calm after run_count until by jobs from to memory Calm = calm
+values_are rows kept harts frames steps seed policy calm after run_count until by jobs from to memory After = after
+values_are rows kept harts frames steps seed policy calm after run_count until by jobs from to memory RunCount = run_count
+values_are rows kept harts frames steps seed policy calm after run_count until by jobs from to memory Until = until
+values_are rows kept harts frames steps seed policy calm after run_count until by jobs from to memory By = by
+values_are rows kept harts frames steps seed policy calm after run_count until by jobs from to memory Jobs = jobs
+values_are rows kept harts frames steps seed policy calm after run_count until by jobs from to memory From = from
+values_are rows kept harts frames steps seed policy calm after run_count until by jobs from to memory To = to
+values_are rows kept harts frames steps seed policy calm after run_count until by jobs from to memory Memory = memory
 
 pub returns : goal.returns
 returns c =
@@ -62,6 +64,7 @@ returns c =
       jobs = c.get_str-14.result;
       from = c.get_str-15.result;
       to = c.get_str-16.result;
+      memory = c.get_str-17.result;
     } in
     let one = c.get_str.ensures ∙ at (codes "first") in
     let two = c.get_str-2.ensures ∙ at (codes "second") in
@@ -80,4 +83,5 @@ returns c =
     (c.get_str-13.ensures ∙ at (codes "by"))
     (c.get_str-14.ensures ∙ at (codes "jobs"))
     (c.get_str-15.ensures ∙ at (codes "from"))
-    (c.get_str-16.ensures ∙ at (codes "to")))
+    (c.get_str-16.ensures ∙ at (codes "to"))
+    (c.get_str-17.ensures ∙ at (codes "memory")))

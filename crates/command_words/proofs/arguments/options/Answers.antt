@@ -19,6 +19,7 @@ returns c =
     let ten = c.in_ok-arg-10.ensures.shape c.option-10.ensures.own ∙ ap₂ with_rule nine c.option-10.ensures.rule in
     let eleven = c.in_ok-arg-11.ensures.shape c.option-11.ensures.own ∙ ap₂ with_rule ten c.option-11.ensures.rule in
     let twelve = c.in_ok-arg-12.ensures.shape c.option-12.ensures.own ∙ ap₂ with_rule eleven c.option-12.ensures.rule in
-    IfOk-weaker c.arg-13.result _ _ (λ parser added. added.shape c.option-13.ensures.own
-    ∙ ap₂ with_rule twelve c.option-13.ensures.rule)
-    c.arg-13.ensures
+    let thirteen = c.in_ok-arg-13.ensures.shape c.option-13.ensures.own ∙ ap₂ with_rule twelve c.option-13.ensures.rule in
+    IfOk-weaker c.arg-14.result _ _ (λ parser added. added.shape c.option-14.ensures.own
+    ∙ ap₂ with_rule thirteen c.option-14.ensures.rule)
+    c.arg-14.ensures
