@@ -3,6 +3,7 @@
 
 mod acts;
 mod gather;
+mod inspecting;
 mod output;
 mod pairs;
 mod rounds;

@@ -5,12 +5,13 @@ ghost use Rattle.mach_types.specs.Limits.{InRange};
 ghost use Rattle.elf_load.specs.Images.{IsBootable};
 ghost use Rattle.block_model.specs.Run.{IsBlockRun};
 ghost use Rattle.block_model.specs.Setting.{setting_of};
-ghost use Rattle.command_words.specs.Kept.{run_said};
+ghost use Rattle.command_words.specs.Kept.{run_said, shown_said};
 ghost use Rattle.outcomes.specs.Guests.{tried_text};
 ghost use Rattle.outcomes.specs.Outputs.{setting_for, shown_text};
 
 use crate::acts::{acts_of_run, acts_text};
 use crate::gather::gathered_log;
+use crate::inspecting::inspected_text;
 use crate::output::{Output, output_with, push_console, run_output};
 use crate::summary::{push_summary, summary_text};
 use crate::tracing::trace_text;
@@ -18,7 +19,6 @@ use command_words::{Run, Shown};
 use elf_load::Image;
 use mach_types::Limits;
 use machine_core::Machine;
-use place_text::place_text;
 use std::alloc::{AllocError, Global};
 
 /// What is shown of a run that is asked for, at whose end a machine is.
@@ -32,7 +32,7 @@ pub fn shown_text(
     requires limits { InRange run.now.limits }
     requires setting { machine.setting ≡ setting_for (run_said run.now) image.now }
     requires run { IsBlockRun machine.setting machine.log }
-    ensures { IfOk result (λ output. output ≡ shown_text run.now.shown machine.setting machine.log) }
+    ensures { IfOk result (λ output. output ≡ shown_text (shown_said run.now.shown) machine.setting machine.log) }
 {
     match run.shown {
         Shown::Output => run_output(alloc, machine),
@@ -40,7 +40,10 @@ pub fn shown_text(
             let acts = acts_of_run(alloc, image, &run.limits, &machine)?;
             Ok(Output::whole(summary_text(alloc, &acts, &machine)?))
         }
-        Shown::Place => Ok(Output::whole(place_text(alloc, &machine)?)),
+        Shown::Place(memory) => {
+            let text = inspected_text(alloc, &memory, &machine)?;
+            Ok(Output::whole(text))
+        }
         Shown::Acts => {
             let acts = acts_of_run(alloc, image, &run.limits, &machine)?;
             Ok(Output::whole(acts_text(alloc, &acts)?))

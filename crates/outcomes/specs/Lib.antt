@@ -9,6 +9,7 @@ pub mod Outcome
 pub mod Outputs
 pub mod PairFiles
 pub mod PairText
+pub mod Places
 pub mod PlayedPairs
 pub mod Programs
 pub mod Reasons

@@ -15,15 +15,15 @@ use Rattle.drawn_runs.specs.Manners.{manner_behind, manner_for}
 use Rattle.drawn_runs.specs.WholeRuns.{IsDrawnRun}
 use Rattle.block_view.specs.Acts.{acts_of}
 use Rattle.log_gather.specs.Gathered.{gathered}
-use Rattle.place_text.specs.Place.{place_text}
 use Rattle.command_words.specs.declared.commands.Draws.{Draws}
-use Rattle.command_words.specs.declared.commands.Shown.{Shown}
-use Rattle.command_words.specs.declared.commands.Shown.TheVariants as shows
 use Rattle.command_words.specs.Commands.{Command, Run, Runs, Makes, Tries, Explores, Pairs, Source, Rule, Script, Workers, Drawn, DrawnAfter}
+use Rattle.command_words.specs.Shown.{Shown}
+use Rattle.command_words.specs.Shown as shows
 use Rattle.command_words.specs.Words.{command_of}
 use Rattle.outcomes.specs.Explorations.{IsExploreOutput}
 use Rattle.outcomes.specs.Guests.{IsGuestOutput, IsPlainTrialOutput, IsTrialOutput}
 use Rattle.outcomes.specs.PairFiles.{IsPairOutput}
+use Rattle.outcomes.specs.Places.{asked_place}
 use Rattle.outcomes.specs.Programs.{Files, IsProgram, IsScript, asks_of}
 use Rattle.outcomes.specs.Runs.{IsChosenRun, IsSoloRun, IsPlayedRun}
 use Rattle.outcomes.specs.Summary.{act_line, summary_text}
@@ -42,7 +42,7 @@ log_summary s log = summary_text s.limits.harts (acts_of s log) log (end_of s (h
 abbrev pub text_of : Shown → Setting → List ℕ → List Entry → End → List ℕ
 text_of shows.Output s bytes log end = output_text bytes log end
 text_of shows.Summary s bytes log end = summary_text s.limits.harts (acts_of s log) log end
-text_of shows.Place s bytes log end = place_text s (history s log)
+text_of (shows.Place memory) s bytes log end = asked_place memory s (history s log)
 text_of shows.Acts s bytes log end = flat_map act_line (acts_of s log)
 text_of shows.Gathered s bytes log end = output_text bytes (gathered s log) end
 text_of (shows.Trace span) s bytes log end = trace_text span s log

@@ -8,8 +8,7 @@ use Rattle.block_model.specs.Setting.{Setting}
 use Rattle.block_model.specs.Swaps.{IsEquivalentRun}
 use Rattle.log_gather.specs.Gathered.{gathered}
 use Rattle.log_gather.proofs.Laws.{gathered_run, same_console, same_end}
-use Rattle.command_words.specs.declared.commands.Shown.{Shown}
-use Rattle.command_words.specs.declared.commands.Shown.TheVariants.{Gathered}
+use Rattle.command_words.specs.Shown.{Shown, Gathered}
 use Rattle.command_words.specs.Commands.{Run}
 use Rattle.outcomes.specs.Outputs.{IsPlayOutput, IsRunOutput, log_output, setting_for, shown_text}
 use Rattle.outcomes.specs.Programs.{Files, IsReadAs}

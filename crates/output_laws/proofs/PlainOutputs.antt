@@ -9,7 +9,7 @@ use Rattle.block_model.specs.Setting.{Setting}
 use Rattle.block_model.proofs.Laws.{answers_itself, plain_makes, plain_solo_log, plain_solo_says, run_is_played}
 use Rattle.drawn_runs.specs.Manners.{manner_for}
 use Rattle.drawn_runs.specs.WholeRuns.{IsDrawnRun}
-use Rattle.command_words.specs.declared.commands.Shown.{Shown}
+use Rattle.command_words.specs.Shown.{Shown}
 use Rattle.command_words.specs.Commands.{Command, Runs, Makes, Tries, Explores, Pairs, Source, Rule, Script, Workers, Drawn, DrawnAfter}
 use Rattle.outcomes.specs.Outputs.{IsDrawnAfter, IsLogOf, IsOutputOf, IsPlainOutputOf, IsPlainRunOf, IsPlainRunOver, plain_text}
 use Rattle.outcomes.specs.Outputs.{setting_for, shown_text, text_of}

@@ -23,8 +23,7 @@ use Rattle.block_model.specs.Replay.{script_of}
 use Rattle.block_model.specs.Run.{IsBlockRun}
 use Rattle.block_model.specs.Setting.{Setting, setting_of}
 use Rattle.block_model.proofs.Laws.{HaveBytes, all_addresses, all_harts, all_threads, answers_itself, image_bytes, within_limit}
-use Rattle.command_words.specs.declared.commands.Shown.{Shown}
-use Rattle.command_words.specs.declared.commands.Shown.TheVariants.{Output}
+use Rattle.command_words.specs.Shown.{Shown, Output}
 use Rattle.command_words.specs.Commands.{Run, Source, Rule, Script, Workers, Drawn, DrawnAfter}
 use Rattle.outcomes.specs.Outputs.{IsLogOf, IsPlayOutput, IsRunOutput, log_output, setting_for, shown_text}
 use Rattle.outcomes.specs.Programs.{Files, IsProgram, IsReadAs, ask_in, ask_of, asks_of, most_script_bytes}

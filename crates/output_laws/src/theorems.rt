@@ -13,7 +13,7 @@ ghost use Rattle.outcomes.specs.Programs.{Files, IsReadAs};
 ghost use Rattle.outcomes.specs.Rounds.{IsRoundsRun};
 ghost use Rattle.outcomes.specs.Runs.{IsChosenRun};
 ghost use Rattle.outcomes.specs.Told.{AreTold, TellsGoodFiles};
-ghost use Rattle.command_words.specs.declared.commands.Shown.TheVariants.{Gathered, Output};
+ghost use Rattle.command_words.specs.Shown.{Gathered, Output};
 ghost use Rattle.command_words.specs.Commands.{Command, Run, hangs_on_turns};
 
 /// The log lines of the output of a run, read as a script by `play` with the same program and limits, are allowed at

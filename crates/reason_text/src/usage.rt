@@ -18,6 +18,7 @@ const OPTIONS: &str = "  --harts N   how many harts there are: 1 to 8 (default 2
   --jobs N    how many threads make the runs: 1 to 64 (default as many as there are processors)
   --from N    from which line the log is told: 1 to 1000000 (default 1)
   --to N      to which line the log is told: 1 to 1000000 (default its last)
+  --memory M  which bytes of memory are shown: AT:LENGTH, an address in hexadecimal and 1 to 65536; or several, one comma apart (default none)
 ";
 
 /// The version (own).
@@ -50,6 +51,10 @@ fn words_of_run(source: SourceKind) -> &'static str {
 /// What stands behind that, by what is shown of a run.
 fn words_of_shown(kind: CommandKind) -> &'static str {
     match kind {
+        CommandKind::Runs {
+            shown: ShownKind::Place,
+            ..
+        } => " [--memory M]",
         CommandKind::Runs {
             shown: ShownKind::Trace,
             ..

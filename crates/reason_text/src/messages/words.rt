@@ -12,6 +12,10 @@ const GUESTS: &str = "counter, list, pool, dekker, signals, migrate, ring and ur
 /// The names of policies.
 const POLICIES: &str = "all, one, long, short, pos, spread and rule";
 
+/// The spans of memory that an option takes.
+const SPANS: &str = "AT:LENGTH, or several of these one comma apart: an address of 1 to 16 hexadecimal digits in lower case, \
+    and a number of bytes from 1 to 65536, none of them past the last address";
+
 /// Appends what is wrong with the words, and the usage; where they ask for help, what each command does too.
 pub(crate) fn push_words_fault(
     text: &mut String,
@@ -54,7 +58,8 @@ fn push_word(text: &mut String, fault: WordsFault, words: &[String]) -> Result<(
         | WordsFault::NoNumber(number) => number,
         WordsFault::OutOfRange { word, .. }
         | WordsFault::UnknownPolicy(word)
-        | WordsFault::NeitherTextNorEnd(word) => {
+        | WordsFault::NeitherTextNorEnd(word)
+        | WordsFault::NoSpans(word) => {
             push_option(text, words, word)?;
             word
         }
@@ -92,6 +97,7 @@ fn push_complaint(text: &mut String, fault: WordsFault, command: &str) -> Result
         WordsFault::NeitherTextNorEnd(_) => {
             text.push_str("outcomes are told apart by text or by end\n")
         }
+        WordsFault::NoSpans(_) => writeln!(text, "the value isn't {SPANS}"),
         WordsFault::NoNumber(_) => {
             text.push_str("the size isn't a number, of 20 digits at most and below 2^64\n")
         }
