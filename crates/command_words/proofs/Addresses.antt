@@ -34,7 +34,7 @@ no_plus (c ∷ cs) all =
 fits : (ds : List ℕ) → list_all is_hex_digit ds ≡ true → length ds ≤ 16 → digits_value 16 ds < 2 ^ 64
 fits ds all few =
     let small = digits_value-lt 16 ds (all_digits ds all) in
-    let most : 16 ^ length ds ≤ 16 ^ 16 = pow-le-pow_right 16 (length ds) 16 (omega arith) few in
+    let most : 16 ^ length ds ≤ 16 ^ 16 = pow-le-pow_right (omega arith) few in
     omega arith
 
 -- some hexadecimal digits, but not too many, parse as the address that they write

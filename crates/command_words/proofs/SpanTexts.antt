@@ -20,17 +20,17 @@ all_pass p (x ∷ xs) all =
 one_fails : (p : List ℕ → Bool) (xs : List (List ℕ)) (k : ℕ) → k < length xs → p (get_or xs k []) ≡ false → list_all p xs ≡ false
 one_fails p [] k lt fails = absurd (omega arith)
 one_fails p (x ∷ xs) zero lt fails = rw fails refl
-one_fails p (x ∷ xs) (suc k) lt fails = by_first (p x)
+one_fails p (x ∷ xs) (suc k) lt fails = by_first (p x) (one_fails p xs k (omega arith) fails)
   where
-    by_first : (b : Bool) → cond b (list_all p xs) false ≡ false
-    by_first true = one_fails p xs k (omega arith) fails
-    by_first false = refl
+    by_first : (b : Bool) → list_all p xs ≡ false → cond b (list_all p xs) false ≡ false
+    by_first true later = later
+    by_first false later = refl
 
 pub test_of_all : (p : List ℕ → Bool) (xs : List (List ℕ)) (r : Bool)
     → MatchBool r (AllWithin (λ x. p x ≡ true) xs 0 (length xs)) ((k : ℕ) × (k < length xs) × HoldsAt (λ x. p x ≡ false) xs k)
     → r ≡ list_all p xs
 test_of_all p xs true all = sym (all_pass p xs all)
-test_of_all p xs false one = sym (one_fails p xs one.0 one.1.0 (one.1.1 []))
+test_of_all p xs false one = sym (one_fails p xs one.0 one.1 (one.2 []))
 
 -- what comes of a step that was taken
 taken : {A B : Type 0} (o : Option A) (f : A → Option B) (x : B) → (o >>= f) ≡ Some x → (a : A) × (f a ≡ Some x)

@@ -44,9 +44,13 @@ parts_of text = slice_split is_comma text
 abbrev pub are_spans : List ℕ → Bool
 are_spans text = list_all (λ part. is_some (span_of part)) (parts_of text)
 
--- the spans that a text writes, in their order
+-- the spans that texts write, in their order
+abbrev pub spans_of : List (List ℕ) → List MemorySpan
+spans_of parts = flat_map (λ part. option_to_list (span_of part)) parts
+
+-- those between whose texts commas stand
 abbrev pub spans_in : List ℕ → List MemorySpan
-spans_in text = flat_map (λ part. option_to_list (span_of part)) (parts_of text)
+spans_in text = spans_of (parts_of text)
 
 -- none, where there is no text
 abbrev pub spans_given : Option (List ℕ) → List MemorySpan

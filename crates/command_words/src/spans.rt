@@ -4,7 +4,7 @@ ghost use Rattle.std.specs.Prelude.{◌≡◌, ◌+◌, ◌≤◌, ◌^◌, map,
 ghost use Rattle.std.specs.List.{before_first, list_all};
 ghost use Rattle.step_log.specs.Script.{is_hex_digit};
 ghost use Rattle.command_words.specs.Kept.{spans_kept};
-ghost use Rattle.command_words.specs.Spans.{address_of, are_spans, behind_colon, is_colon, parts_of, span_from, span_of, spans_in};
+ghost use Rattle.command_words.specs.Spans.{address_of, are_spans, behind_colon, is_colon, parts_of, span_from, span_of, spans_in, spans_of};
 
 use crate::options::Numbers;
 use std::alloc::{AllocError, Global};
@@ -106,18 +106,25 @@ fn parts_of<'a>(alloc: Global, text: &'a str) -> Result<Vec<&'a str>, AllocError
     text.split(',').collect(alloc)
 }
 
-/// The spans that a text writes, in their order.
-fn spans_in(alloc: Global, text: &str) -> Result<Vec<MemorySpan>, AllocError>
-    ensures { IfOk result (λ spans. spans.items ≡ spans_in text.now) }
+/// The spans that these texts write, in their order; nothing of one that writes none.
+fn spans_of(alloc: Global, parts: &[&str]) -> Result<Vec<MemorySpan>, AllocError>
+    ensures { IfOk result (λ spans. spans.items ≡ spans_of (map (λ part. part.now) parts.now)) }
 {
-    let parts = parts_of(alloc, text)?;
     let mut spans = Vec::new(alloc);
-    for part in &parts {
+    for part in parts {
         if let Some(span) = MemorySpan::of_text(part) {
             spans.push(span)?;
         }
     }
     Ok(spans)
+}
+
+/// The spans that a text writes, in their order.
+fn spans_in(alloc: Global, text: &str) -> Result<Vec<MemorySpan>, AllocError>
+    ensures { IfOk result (λ spans. spans.items ≡ spans_in text.now) }
+{
+    let parts = parts_of(alloc, text)?;
+    spans_of(alloc, &parts)
 }
 
 impl MemorySpans<'_> {

@@ -1,3 +1,4 @@
 mod Examples
 pub mod PairLogs
+mod PlaceTexts
 mod TraceTexts
