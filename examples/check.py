@@ -19,7 +19,8 @@ For each example NAME:
   and from the middle on it is what `--from` gives;
 - `inspect` on the script, and on the first half of its lines, tells how many lines there are and the end; lines that it says may
   come next are played behind them, and lines that it says may not are refused there; where the script is refused, it says so of the
-  refused line, on the lines before that;
+  refused line, on the lines before that; and where stores wait, `--memory` tells of their bytes that each hart sees its own stores
+  over what memory has;
 - TAKE_SCRIPT, the README's line of sed, takes exactly the log lines from what `solo` and the scripts print, and from a text whose
   console looks like a log;
 - each NAME/*.session is what its commands print, one behind the other, in a copy of the example's folder. A line that begins with
@@ -177,17 +178,17 @@ def want(what, found, wanted):
         raise Difference(f'{what} differs: {where}')
 
 
-def on_script(program, command, elf, script, harts):
-    """The status and the text of a command on the bytes of a script."""
-    return on_programs(program, command, [elf], script, harts)
+def on_script(program, command, elf, script, harts, *options):
+    """The status and the text of a command on the bytes of a script, with further options."""
+    return on_programs(program, command, [elf], script, harts, *options)
 
 
-def on_programs(program, command, elves, script, harts):
+def on_programs(program, command, elves, script, harts, *options):
     """The same of a command that takes so many programs before its script."""
     with tempfile.NamedTemporaryFile(suffix='.script') as file:
         file.write(script)
         file.flush()
-        return run(program, command, *elves, file.name, '--harts', harts, '--steps', STEPS)
+        return run(program, command, *elves, file.name, '--harts', harts, '--steps', STEPS, *options)
 
 
 def expect_play(program, elf, script, harts, status, text):
@@ -322,6 +323,7 @@ def check_place(program, elf, lines, end):
     want('the status of its place', status, DONE)
     rows = text.splitlines(keepends=True)
     want('the head of its place', b''.join(rows[:2]), b'place %d\n' % len(lines) + end)
+    check_memory(program, elf, lines, rows)
     may = [row[len(b'may '):] for row in rows if row.startswith(b'may ')]
     may_not = [asked(row[len(b'not '):]) for row in rows if row.startswith(b'not ')]
     for line in ends(may):
@@ -331,6 +333,37 @@ def check_place(program, elf, lines, end):
     for fields in ends(may_not):
         expect_play(program, elf, b''.join([*lines, b' '.join(fields)]), '2', SCRIPT_REFUSED, b'fault script %d\n' % (len(lines) + 1))
     return may_not
+
+
+def check_memory(program, elf, lines, rows):
+    """`inspect --memory` after these lines, of the bytes of the stores that wait: behind the place each hart sees its own stores there,
+    the oldest first, over what memory has."""
+    stores = [row.split()[1:] for row in rows if b' store ' in row]
+    if not stores:
+        return
+    spans = b','.join(b'%s:%s' % (at, size) for _, _, at, size, _ in stores)
+    status, text = on_script(program, 'inspect', elf, b''.join(lines), '2', '--memory', spans.decode())
+    want('the status of its memory', status, DONE)
+    told = text.splitlines(keepends=True)
+    want('the place before its memory', told[:len(rows)], rows)
+    due = []
+    for row in told[len(rows):]:
+        if row.startswith(b'memory '):
+            at, held = (int(field, 16) for field in row.split()[1:])
+            due += [row, *(seen_row(hart, at, held, stores) for hart in (b'0', b'1'))]
+    want('what harts see of its memory', b''.join(told[len(rows):]), b''.join(due))
+
+
+def seen_row(hart, at, held, stores):
+    """The line of what a hart sees of 8 bytes where these stores wait; nothing where it sees what memory has."""
+    seen = bytearray(held.to_bytes(8, 'little'))
+    for owner, _, first, size, value in stores:
+        for k, byte in enumerate(int(value, 16).to_bytes(8, 'little')[:int(size)]):
+            place = int(first, 16) + k - at
+            if owner == hart and 0 <= place < 8:
+                seen[place] = byte
+    number = int.from_bytes(seen, 'little')
+    return b'' if number == held else b'hart %s sees %016x %016x\n' % (hart, at, number)
 
 
 def ends(rows):
