@@ -1,10 +1,11 @@
 -- Spans that a text writes.
-use Rattle.std.proofs.Common.{◌≡◌, ℕ, ◌+◌, ◌^◌, ◌<◌, ◌≤◌, zero, suc, Bool, true, false, cond, List, [], ◌∷◌, ◌++◌, length, Option, Some, None, get_or, nat_le, refl, sym, ap, ◌∙◌, arith}
+use Rattle.std.proofs.Common.{◌≡◌, ℕ, ◌+◌, ◌^◌, ◌<◌, ◌≤◌, suc, Bool, true, false, cond, List, [], ◌∷◌, ◌++◌, length, Option, Some, None, nat_le, refl, sym, ap, arith}
 use Rattle.std.specs.Bool.{MatchBool}
 use Rattle.std.specs.List.{All, AllWithin, HoldsAt, before_first, flat_map, list_all}
 use Rattle.std.specs.Option.{option_to_list}
 use Rattle.std.proofs.lemmas.Bool.Decides.{nat_tests}
 use Rattle.std.proofs.lemmas.List.Elements.{All-cons, All-nil}
+use Rattle.std.proofs.lemmas.List.Folds.{list_all_at}
 use Rattle.step_log.specs.Script.{◌>>=◌}
 use Rattle.command_words.specs.Decimals.{number_in, range_of}
 use Rattle.command_words.specs.Spans.{address_of, behind_colon, is_colon, span_from, span_of, spans_given, parts_of}
@@ -17,20 +18,11 @@ all_pass p (x ∷ xs) all =
     let here : p x ≡ true = all 0 x (omega arith) (omega arith) in
     rw here (all_pass p xs (λ k d low lt. all (suc k) d (omega arith) (omega arith)))
 
-one_fails : (p : List ℕ → Bool) (xs : List (List ℕ)) (k : ℕ) → k < length xs → p (get_or xs k []) ≡ false → list_all p xs ≡ false
-one_fails p [] k lt fails = absurd (omega arith)
-one_fails p (x ∷ xs) zero lt fails = rw fails refl
-one_fails p (x ∷ xs) (suc k) lt fails = by_first (p x) (one_fails p xs k (omega arith) fails)
-  where
-    by_first : (b : Bool) → list_all p xs ≡ false → cond b (list_all p xs) false ≡ false
-    by_first true later = later
-    by_first false later = refl
-
 pub test_of_all : (p : List ℕ → Bool) (xs : List (List ℕ)) (r : Bool)
     → MatchBool r (AllWithin (λ x. p x ≡ true) xs 0 (length xs)) ((k : ℕ) × (k < length xs) × HoldsAt (λ x. p x ≡ false) xs k)
     → r ≡ list_all p xs
 test_of_all p xs true all = sym (all_pass p xs all)
-test_of_all p xs false one = sym (one_fails p xs one.0 one.1 (one.2 []))
+test_of_all p xs false one = sym (list_all_at p xs one.0 [] one.1 (one.2 []))
 
 -- what comes of a step that was taken
 taken : {A B : Type 0} (o : Option A) (f : A → Option B) (x : B) → (o >>= f) ≡ Some x → (a : A) × (f a ≡ Some x)
