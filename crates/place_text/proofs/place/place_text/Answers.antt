@@ -1,5 +1,6 @@
-use Rattle.std.proofs.Common.{◌++◌, map, length, sym, ap, ◌∙◌, codes}
+use Rattle.std.proofs.Common.{ℕ, ◌++◌, map, length, sym, ap, ◌∙◌, codes}
 use Rattle.mach_types.specs.Kernel.Threads.{Threads}
+use Rattle.mach_types.specs.declared.threads.Saved.{Saved}
 use Rattle.sys_calls.specs.Registered.{areas_by_number}
 use Rattle.block_model.specs.Deciding.{history}
 use Rattle.block_model.specs.History.{file, kernel}
@@ -26,7 +27,7 @@ returns c =
     let v = c.args.machine.now in
     let before = history v.setting v.log in
     let k = kernel v.setting before in
-    let files = λ t. file v.setting t before in
+    let files : ℕ → Saved = λ t. file v.setting t before in
     let tables = c.kernel-kernel.result.now in
     let told_all =
     c.in_ok-live.ensures.live ∙ all_alike files tables.threads c.in_ok-live.ensures.table c.kernel-kernel.ensures.saved
