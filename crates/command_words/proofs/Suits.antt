@@ -16,7 +16,7 @@ use Rattle.command_words.specs.declared.table.SourceKind.{SourceKind}
 use Rattle.command_words.specs.declared.table.SourceKind.TheVariants.{ByRule, ByScript, ByWorkers, ByDraws}
 use Rattle.command_words.specs.declared.takes.NameKind.{NameKind}
 use Rattle.command_words.specs.declared.takes.NameKind.TheVariants.{Program, SecondProgram, Script, Guest, Size}
-use Rattle.command_words.specs.Commands.{Command, Source, Rule, Workers}
+use Rattle.command_words.specs.Commands.{Source, Rule, Workers}
 use Rattle.command_words.specs.Grammar.{Arguments, all_suit, asked_by, asked_for, command_for, drawn_source, files_for, guest_for}
 use Rattle.mach_types.specs.declared.limits.Limits.{Limits}
 use Rattle.command_words.specs.Grammar.{guest_named, one_name, pair_for, program_for, settings_of, suits, two_names}

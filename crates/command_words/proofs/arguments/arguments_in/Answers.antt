@@ -1,4 +1,4 @@
-use Rattle.std.proofs.Common.{◌≡◌, ◌∙◌, codes, List, ℕ, Option}
+use Rattle.std.proofs.Common.{◌≡◌, ◌∙◌, codes, List, ℕ}
 use Rattle.std.specs.Prelude.{option_copied}
 use Rattle.clap.proofs.WalkLemmas.{first_value-rows}
 use Rattle.clap.specs.Words.{Row, found_of, first_of, rows_of}
