@@ -1,3 +1,4 @@
+mod DigitValues
 mod FieldReads
 mod FirstPlace
 mod HexDigits
