@@ -4,7 +4,7 @@ use Rattle.std.specs.Result.{OnErr}
 use Rattle.std.specs.Prelude.{Result, Ok, Err}
 use Rattle.outside.specs.Counts.{NeverFalls}
 use Rattle.outside.specs.Told.{Gained, GainedPrefix}
-use Rattle.outside.proofs.Gains.{gained-then, prefix-then, prefix-longer, gained-same}
+use Rattle.outside.proofs.Gains.{gained-then, prefix-then, prefix-longer}
 use Rattle.outside.proofs.Rises.{falls-then}
 use Rattle.mach_types.specs.declared.events.Entry.{Entry}
 use Rattle.step_log.specs.Grammar.{log_text}

@@ -1,6 +1,7 @@
 //! The lines of a log as one text, and written to a sink in pieces.
 #![tactic(auto)]
 
+mod fronts;
 mod lines;
 mod pieces;
 

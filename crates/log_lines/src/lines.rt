@@ -10,7 +10,7 @@ use std::alloc::AllocError;
 use step_log::{exec_line, print_entry};
 
 /// The most bytes of a log's line.
-pub(crate) const LONGEST_LINE: usize = 38;
+const LONGEST_LINE: usize = 38;
 
 /// Appends the lines of a log.
 pub fn push_lines(text: &mut Vec<u8>, log: &[Entry]) -> Result<(), AllocError>
@@ -24,7 +24,7 @@ pub fn push_lines(text: &mut Vec<u8>, log: &[Entry]) -> Result<(), AllocError>
 }
 
 /// Appends the line of an entry. Most lines are those of an `exec` by a thread whose number is one digit.
-pub(crate) fn push_line(text: &mut Vec<u8>, entry: &Entry) -> Result<(), AllocError>
+fn push_line(text: &mut Vec<u8>, entry: &Entry) -> Result<(), AllocError>
     requires { entry.now.hart.0 < 8 }
     ensures line { OnOk result (text.new.items ≡ text.old.items ++ entry_text entry.now) }
     ensures length { vec_len text.new ≤ vec_len text.old + LONGEST_LINE }

@@ -1,30 +1,62 @@
 //! The lines of a log, written to a sink in pieces.
 
-ghost use Rattle.std.specs.Prelude.{◌≡◌, ◌*◌, ◌<◌, ◌≤◌, ◌++◌, All, OnErr, OnOk, length, vec_capacity};
+ghost use Rattle.std.specs.Prelude.{◌≡◌, ◌+◌, ◌*◌, ◌<◌, ◌≤◌, ◌++◌, All, OnErr, OnOk, length, vec_len, vec_capacity};
 ghost use Rattle.outside.specs.Counts.{NeverFalls, Rose};
 ghost use Rattle.outside.specs.Told.{Gained, GainedPrefix};
 ghost use Rattle.step_log.specs.Grammar.{log_text};
+ghost use Rattle.step_log.specs.Text.{entry_text};
 
-use crate::lines::{LONGEST_LINE, push_line};
-use mach_types::Entry;
+use crate::fronts::{FRONTS, Front, LINE_ROOM, extend, place_of};
+use mach_types::{Entry, Hart, Kind, Tid};
 use outside::{Failed, Sink, emit};
 use std::alloc::{AllocError, Global};
+use step_log::exec_line;
 
 /// The most lines of a piece.
 const LONGEST_PIECE: usize = 2_000;
 
-/// Room for the lines of a piece, which is taken once.
+/// An entry, with whose front each place begins.
+const FIRST: Entry = Entry {
+    hart: Hart(0),
+    kind: Kind::Exec,
+    tid: Tid(0),
+    pc: 0,
+};
+
+/// Room for the lines of a piece, which is taken once, and fronts of lines that were made last.
 #[derive(Drop)]
 pub struct LineBuffer {
     bytes: Vec<u8>,
-    ghost room: { 2000 * 38 ≤ vec_capacity bytes },
+    fronts: Vec<Front>,
+    ghost room: { 2000 * 40 ≤ vec_capacity bytes },
+    ghost places: { vec_len fronts ≡ 16 },
 }
 
 impl LineBuffer {
     /// Room for the lines of a piece.
     pub fn new(alloc: Global) -> Result<LineBuffer, AllocError> {
-        let bytes = Vec::with_capacity(alloc, LONGEST_PIECE * LONGEST_LINE)?;
-        Ok(LineBuffer { bytes })
+        let bytes = Vec::with_capacity(alloc, LONGEST_PIECE * LINE_ROOM)?;
+        let mut fronts = Vec::new(alloc);
+        for _ in 0..FRONTS {
+            fronts.push(Front::of(&FIRST))?;
+        }
+        Ok(LineBuffer { bytes, fronts })
+    }
+
+    /// Appends the line of an entry. Most are those of an `exec` by a thread whose number is one digit; others are found by their fronts.
+    fn push(&mut self, entry: &Entry)
+        requires hart { entry.now.hart.0 < 8 }
+        requires room { vec_len self.old.bytes + 40 ≤ vec_capacity self.old.bytes }
+        ensures line { self.new.bytes.items ≡ self.old.bytes.items ++ entry_text entry.now }
+        ensures length { vec_len self.new.bytes ≤ vec_len self.old.bytes + 40 }
+        ensures capacity { vec_capacity self.old.bytes ≤ vec_capacity self.new.bytes }
+    {
+        if entry.kind == Kind::Exec && entry.tid.0 < 10 {
+            extend(&mut self.bytes, &exec_line(entry.hart, entry.tid, entry.pc));
+            return;
+        }
+        let place = place_of(entry);
+        self.fronts[place].push_line(&mut self.bytes, entry);
     }
 
     /// Makes the lines of a log, in place of those before.
@@ -35,10 +67,7 @@ impl LineBuffer {
     {
         self.bytes.clear();
         for entry in log {
-            match push_line(&mut self.bytes, entry) {
-                Ok(()) => {}
-                Err(_) => unreachable!(),
-            }
+            self.push(entry);
         }
     }
 }

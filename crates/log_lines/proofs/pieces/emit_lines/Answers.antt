@@ -1,4 +1,4 @@
-use Rattle.std.proofs.Common.{◌≡◌, ◌-◌, take, drop, rules, ◌∙◌, arith}
+use Rattle.std.proofs.Common.{rules, ◌∙◌, arith}
 use Rattle.outside.specs.Told.{GainedPrefix}
 use Rattle.step_log.specs.Grammar.{log_text}
 use Rattle.log_lines.proofs.Writing.{writing_more, writing_cut}
