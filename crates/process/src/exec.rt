@@ -218,25 +218,9 @@ impl Parts {
         }
     }
 
-    /// `exec`, but for the count of its event: at first in the way of plain instructions, and then in that of all.
-    pub(crate) fn exec(&mut self, code: &Code, hart: Hart) -> Result<Entry, Why>
-        requires { HasCode code.now self.old hart.0 }
-        ensures answer { (v : Stand) → IsPlace v self.old hart.0 → IsAlone code.now v
-            → result ≡ answer_to v hart.0 Choice.Exec }
-        ensures made { (v : Stand) → IsPlace v self.old hart.0 → IsAlone code.now v
-            → IfOk result
-            (λ e. IsUncounted v hart.0 (done_of Choice.Exec (here_at v hart.0)) self.old self.new) }
-        ensures err { OnErr result (self.new ≡ self.old) }
-    {
-        match self.exec_plain(code, hart) {
-            Some(made) => Ok(made),
-            None => self.exec_any(code, hart),
-        }
-    }
-
-    /// [`Parts::exec`] of any instruction.
+    /// `exec` of any instruction, but for the count of its event.
     #[inline(never)]
-    fn exec_any(&mut self, code: &Code, hart: Hart) -> Result<Entry, Why>
+    pub(crate) fn exec_any(&mut self, code: &Code, hart: Hart) -> Result<Entry, Why>
         requires { HasCode code.now self.old hart.0 }
         ensures answer { (v : Stand) → IsPlace v self.old hart.0 → IsAlone code.now v
             → result ≡ answer_to v hart.0 Choice.Exec }

@@ -31,7 +31,8 @@ fn fetched(code: &Code, pc: u64) -> Option<u32>
 }
 
 /// The instruction at a pc, where a word is fetched there and has a row.
-fn instruction_at(code: &Code, pc: u64) -> Option<Inst>
+#[inline]
+pub(crate) fn instruction_at(code: &Code, pc: u64) -> Option<Inst>
     ensures { result ≡ instruction_of (word_fetched code.now pc) }
 {
     if pc % 4 == 0 {
@@ -80,24 +81,14 @@ pub fn is_free(state: &HartState, effect: Option<&Effect>) -> bool
 }
 
 /// What the instruction at a pc asks for, with these registers. None exactly where nothing can be executed
-/// there, or where the word there is no instruction. It stands in the loop of those who execute plain
-/// instructions, with the search of the page.
-#[inline(always)]
-pub(crate) fn asked_at(code: &Code, file: &Regs, pc: u64) -> Option<Effect>
-    ensures effect { result ≡ next_effect code.now (record { file = file.now; pc = pc }) }
-    ensures sizes { IfSome result HasAccessSizes }
-{
-    let inst = instruction_at(code, pc)?;
-    Some(effect(&inst, file, pc))
-}
-
-/// The same, as one function for all others who look at an instruction.
+/// there, or where the word there is no instruction.
 #[inline(never)]
 pub fn effect_at(code: &Code, file: &Regs, pc: u64) -> Option<Effect>
     ensures effect { result ≡ next_effect code.now (record { file = file.now; pc = pc }) }
     ensures sizes { IfSome result HasAccessSizes }
 {
-    asked_at(code, file, pc)
+    let inst = instruction_at(code, pc)?;
+    Some(effect(&inst, file, pc))
 }
 
 /// What the next instruction of the thread on a hart in this state asks for. None exactly where nothing can be executed at its

@@ -71,12 +71,40 @@ impl Parts {
             → IfOk result (λ e. IsAfter v hart.0 (done_of choice (here_at v hart.0)) self.old self.new) }
         ensures err { OnErr result (self.new ≡ self.old) }
     {
+        if let Choice::Exec = choice {
+            return self.make_exec(code, hart);
+        }
         match self.made(code, hart, choice) {
             Ok(entry) => {
                 self.count(hart);
                 Ok(entry)
             }
             Err(why) => Err(why),
+        }
+    }
+
+    /// [`Parts::make`] of `exec`: at first in the way of plain instructions, and then in that of all.
+    #[inline]
+    fn make_exec(&mut self, code: &Code, hart: Hart) -> Result<Entry, Why>
+        requires { HasCode code.now self.old hart.0 }
+        ensures answer { (v : Stand) → IsPlace v self.old hart.0 → IsAlone code.now v
+            → result ≡ answer_to v hart.0 Choice.Exec }
+        ensures after { (v : Stand) → IsPlace v self.old hart.0 → IsAlone code.now v
+            → IfOk result (λ e. IsAfter v hart.0 (done_of Choice.Exec (here_at v hart.0)) self.old self.new) }
+        ensures err { OnErr result (self.new ≡ self.old) }
+    {
+        match self.exec_plain(code, hart) {
+            Some(entry) => {
+                self.count(hart);
+                Ok(entry)
+            }
+            None => match self.exec_any(code, hart) {
+                Ok(entry) => {
+                    self.count(hart);
+                    Ok(entry)
+                }
+                Err(why) => Err(why),
+            },
         }
     }
 
@@ -94,19 +122,17 @@ impl Parts {
         state.events += 1;
     }
 
-    /// [`Parts::make`], but for the count of the event.
-    #[inline]
+    /// [`Parts::make`] of a choice other than `exec`, but for the count of the event.
+    #[inline(never)]
     fn made(&mut self, code: &Code, hart: Hart, choice: Choice) -> Result<Entry, Why>
-        requires { HasCode code.now self.old hart.0 }
+        requires code { HasCode code.now self.old hart.0 }
+        requires other { choice ≢ Choice.Exec }
         ensures answer { (v : Stand) → IsPlace v self.old hart.0 → IsAlone code.now v
             → result ≡ answer_to v hart.0 choice }
         ensures made { (v : Stand) → IsPlace v self.old hart.0 → IsAlone code.now v
             → IfOk result (λ e. IsUncounted v hart.0 (done_of choice (here_at v hart.0)) self.old self.new) }
         ensures err { OnErr result (self.new ≡ self.old) }
     {
-        if let Choice::Exec = choice {
-            return self.exec(code, hart);
-        }
         match self.refusal(code, hart, choice) {
             Some(why) => Err(why),
             None => {

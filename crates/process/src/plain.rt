@@ -2,7 +2,7 @@
 //! or a store begins to wait. They are executed with one look at memory.
 
 ghost use Rattle.std.specs.Prelude.{◌≡◌, Ok, IfNone, IfSome};
-ghost use Rattle.rv_inst.specs.Sizes.{HasAccessSizes};
+ghost use Rattle.rv_inst.specs.Meaning.{meaning};
 ghost use Rattle.block_model.specs.Events.{done_of};
 ghost use Rattle.block_model.specs.Stands.{Stand, here_at};
 ghost use Rattle.page_map.specs.Map.{byte_in, can_write_in};
@@ -10,13 +10,13 @@ ghost use Rattle.process.specs.PlainSteps.{Fits, IsPlainStep, stepped};
 ghost use Rattle.process.specs.Refinement.{HasCode, IsAlone, IsPlace, IsUncounted, answer_to};
 
 use crate::code::Code;
-use crate::next::asked_at;
+use crate::next::instruction_at;
 use crate::parts::{Parts, entry_of};
 use hart_state::HartState;
 use mach_types::{Choice, Entry, Hart, Kind, STORE_BUFFER_CAPACITY, Store, UserMem};
 use page_map::PageMap;
-use rv_exec::finish_load;
-use rv_inst::Effect;
+use rv_exec::{effect, finish_load};
+use rv_inst::{Effect, Inst};
 
 /// What a plain instruction does to its hart.
 #[derive(Clone, Copy, Drop)]
@@ -34,16 +34,15 @@ pub(crate) enum PlainStep {
     Store(Store),
 }
 
-/// What an instruction with this effect does on a hart on which a thread runs that waits in no barrier, where
+/// What an instruction does on a hart on which a thread runs that waits in no barrier, where
 /// it is a plain one: it sets a register and the pc alone, loads bytes that can be read, or stores to bytes
 /// that can be written while there is room for one more store to wait. None where it is another.
 #[inline]
-fn plain_step(state: &HartState, pages: &PageMap, effect: &Effect) -> Option<PlainStep>
-    requires { HasAccessSizes effect.now }
-    ensures { IfSome result
-        (IsPlainStep (byte_in pages.now) (can_write_in pages.now) effect.now state.now) }
+fn plain_step(state: &HartState, pages: &PageMap, inst: &Inst) -> Option<PlainStep>
+    ensures { IfSome result (IsPlainStep (byte_in pages.now) (can_write_in pages.now)
+        (meaning inst.now state.now.file state.now.pc) state.now) }
 {
-    match *effect {
+    match effect(inst, &state.file, state.pc) {
         Effect::Next { rd, value, pc } => Some(PlainStep::Value { rd, value, pc }),
         Effect::Load {
             at,
@@ -88,7 +87,7 @@ fn take_step(state: &mut HartState, step: PlainStep)
 }
 
 impl Parts {
-    /// [`Parts::exec`] where the next instruction of the thread on a hart is a plain one that may be executed;
+    /// [`Parts::exec_any`] where the next instruction of the thread on a hart is a plain one that may be executed;
     /// else None, and nothing changes.
     #[inline]
     pub(crate) fn exec_plain(&mut self, code: &Code, hart: Hart) -> Option<Entry>
@@ -104,10 +103,10 @@ impl Parts {
         if state.is_idle() || state.waits.is_some() {
             return None;
         }
-        let Some(effect) = asked_at(code, &state.file, state.pc) else {
+        let Some(inst) = instruction_at(code, state.pc) else {
             return None;
         };
-        let Some(step) = plain_step(state, &self.pages, &effect) else {
+        let Some(step) = plain_step(state, &self.pages, &inst) else {
             return None;
         };
         let made = entry_of(hart, Kind::Exec, state);

@@ -1,7 +1,7 @@
 -- A search among rising numbers finds the place, or that there is none.
 use Rattle.process.proofs.Common.{sym}
 use Rattle.process.proofs.Lookups.{missing, position-at, position-none, found_at}
-use Rattle.process.proofs.search.place_of.Goals as goal
+use Rattle.process.proofs.search.searched.Goals as goal
 
 pub returns-in-Ok : goal.returns-in-Ok
 returns-in-Ok c =

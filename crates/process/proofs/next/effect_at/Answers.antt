@@ -1,8 +1,10 @@
 -- The effect is what the instruction means. Every access of an instruction has 1, 2, 4 or 8 bytes.
-use Rattle.process.proofs.Common.{ap, ◌∙◌, Some, option_map, Inst}
+use Rattle.std.proofs.Common.{ap, ◌∙◌, Some}
+use Rattle.std.specs.Option.{option_map}
 use Rattle.rv_inst.proofs.Laws.{meaning-sized}
 use Rattle.rv_inst.specs.Meaning.{meaning}
-use Rattle.process.proofs.next.asked_at.Goals as goal
+use Rattle.rv_inst.specs.declared.instruction.Inst.{Inst}
+use Rattle.process.proofs.next.effect_at.Goals as goal
 
 pub returns-clause-effect : goal.returns-clause-effect
 returns-clause-effect c = ap Some c.effect.ensures ∙ ap (option_map (λ (inst : Inst). meaning inst c.args.file.now c.args.pc)) c.in_ok-inst.ensures

@@ -1,0 +1,58 @@
+use Rattle.std.proofs.Common.{sym, subst, ◌∙◌}
+use Rattle.std.specs.Prelude.{◌≡◌, IfSome, Ok}
+use Rattle.std.proofs.lemmas.Result.{IfOk-at_ok}
+use Rattle.process.proofs.Common.{IsPlace, IsUncounted, Parts, done_of, here_at}
+use Rattle.mach_types.specs.declared.events.Choice.TheVariants as asked
+use Rattle.process.specs.Refinement.{HasCode, answer_to}
+use Rattle.process.proofs.parts.Parts.make_exec.Goals as goal
+
+pub exec_any-requires : goal.exec_any-requires
+exec_any-requires c = subst (λ (m : Parts). HasCode c.args.code.now m c.args.hart.0) (sym c.in-None.ensures.none) c.requires
+
+pub count-requires : goal.count-requires
+count-requires c =
+    let v = c.requires.stand in
+    let h = c.args.hart.0 in
+    (subst (λ r. IfSome r (λ e. IsUncounted v h (done_of asked.Exec (here_at v h)) c.args.self.now c.exec_plain.new.self)) c.in-Some.is (c.exec_plain.ensures.made v c.requires.place c.requires.alone)).room
+
+pub returns-in-Some-clause-answer : goal.returns-in-Some-clause-answer
+returns-in-Some-clause-answer c v place alone =
+    subst (λ r. IfSome r (λ e. Ok e ≡ answer_to v c.args.hart.0 asked.Exec)) c.in-Some.is (c.exec_plain.ensures.answer v place alone)
+
+pub returns-in-Some-clause-after : goal.returns-in-Some-clause-after
+returns-in-Some-clause-after c v place alone =
+    let h = c.args.hart.0 in
+    (subst (λ r. IfSome r (λ e. IsUncounted v h (done_of asked.Exec (here_at v h)) c.args.self.now c.exec_plain.new.self)) c.in-Some.is (c.exec_plain.ensures.made v place alone)).after c.count.new.self (record {
+      harts = c.count.ensures.harts;
+      pages = c.count.ensures.pages;
+      kernel = c.count.ensures.kernel;
+      ended = c.count.ensures.ended;
+    })
+
+pub count-requires-in-Ok : goal.count-requires-in-Ok
+count-requires-in-Ok c =
+    let v = c.requires.stand in
+    let h = c.args.hart.0 in
+    let place = subst (λ (m : Parts). IsPlace v m h) (sym c.in-None.ensures.none) c.requires.place in
+    (IfOk-at_ok (λ e. IsUncounted v h (done_of asked.Exec (here_at v h)) c.exec_plain.new.self c.exec_any.new.self) c.in-Ok.is (c.exec_any.ensures.made v place c.requires.alone)).room
+
+pub returns-in-Ok-clause-answer : goal.returns-in-Ok-clause-answer
+returns-in-Ok-clause-answer c v place alone =
+    sym c.in-Ok.is ∙ c.exec_any.ensures.answer v (subst (λ (m : Parts). IsPlace v m c.args.hart.0) (sym c.in-None.ensures.none) place) alone
+
+pub returns-in-Ok-clause-after : goal.returns-in-Ok-clause-after
+returns-in-Ok-clause-after c v place alone =
+    let h = c.args.hart.0 in
+    let there = subst (λ (m : Parts). IsPlace v m h) (sym c.in-None.ensures.none) place in
+    let made = subst (λ (m : Parts). IsUncounted v h (done_of asked.Exec (here_at v h)) m c.exec_any.new.self) c.in-None.ensures.none
+    (IfOk-at_ok (λ e. IsUncounted v h (done_of asked.Exec (here_at v h)) c.exec_plain.new.self c.exec_any.new.self) c.in-Ok.is (c.exec_any.ensures.made v there alone)) in
+    made.after c.count-in-Ok.new.self (record {
+      harts = c.count-in-Ok.ensures.harts;
+      pages = c.count-in-Ok.ensures.pages;
+      kernel = c.count-in-Ok.ensures.kernel;
+      ended = c.count-in-Ok.ensures.ended;
+    })
+
+pub returns-in-Err-clause-answer : goal.returns-in-Err-clause-answer
+returns-in-Err-clause-answer c v place alone =
+    sym c.in-Err.is ∙ c.exec_any.ensures.answer v (subst (λ (m : Parts). IsPlace v m c.args.hart.0) (sym c.in-None.ensures.none) place) alone
