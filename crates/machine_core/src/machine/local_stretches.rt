@@ -24,8 +24,10 @@ use std::alloc::{AllocError, Global};
 fn stretch_on(code: &Code, hart: Hart, state: &HartState) -> Option<Stretch>
     ensures { option_map stretch_of result ≡ stretch_on code.now hart.0 state.now }
 {
-    let next = effect_of_next(code, state);
-    if state.is_idle() || state.waits.is_some() || state.credit == 0 || !is_local(next.as_ref()) {
+    if state.is_idle() || state.waits.is_some() || state.credit == 0 {
+        return None;
+    }
+    if !is_local(effect_of_next(code, state).as_ref()) {
         return None;
     }
     Some(Stretch {
