@@ -1,5 +1,5 @@
 -- The first of the kernel's writes that ends a reservation.
-use Rattle.std.proofs.Common.{◌≡◌, ℕ, List, [], ◌∷◌, refl, ap, Bool, true, false, cond, Option, Some, None, is_none}
+use Rattle.std.proofs.Common.{◌≡◌, ℕ, List, [], ◌∷◌, refl, ap, Bool, true, false, cond, Some, None, is_none}
 use Rattle.mach_types.specs.declared.user_memory.Write.{Write}
 use Rattle.mach_types.specs.declared.user_memory.Write.TheVariants.{Stored, Zeroed}
 use Rattle.rv_inst.specs.Execution.{has_reserved}

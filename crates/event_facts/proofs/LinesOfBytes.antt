@@ -4,7 +4,7 @@ use Rattle.rv_inst.specs.Accesses.{bytes}
 use Rattle.block_model.specs.Footprints.{has_byte}
 use Rattle.block_model.specs.History.{History}
 use Rattle.block_model.specs.Setting.{Setting}
-use Rattle.event_facts.specs.Lines.{next_line, written_in}
+use Rattle.event_facts.specs.Lines.{next_line}
 use Rattle.event_facts.specs.Tied.{AreLinesOf, line_in}
 use Rattle.event_facts.specs.Written.{last_line}
 use Rattle.event_facts.specs.declared.lines.Lines.{Lines}

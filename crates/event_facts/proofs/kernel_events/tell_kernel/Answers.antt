@@ -1,7 +1,7 @@
 use Rattle.std.proofs.Common.{◌+◌, ◌<◌, ◌++◌, ◌∙◌, List, ap, arith, length, subst, sym}
 use Rattle.mach_types.specs.Events.{choice_of}
 use Rattle.mach_types.specs.declared.events.Entry.{Entry}
-use Rattle.block_model.specs.Setting.{Seen, Setting}
+use Rattle.block_model.specs.Setting.{Seen}
 use Rattle.event_facts.specs.Telling.{here_on, past_of}
 use Rattle.event_facts.specs.Trace.{facts_after, trace_of}
 use Rattle.event_facts.specs.declared.facts.Fact.{Fact}

@@ -2,7 +2,6 @@ use Rattle.std.proofs.Common.{◌≡◌, ◌∙◌, Option, Some, ap, cond, fals
 use Rattle.mach_types.specs.Kernel.Threads.{Threads, state_of}
 use Rattle.mach_types.specs.declared.registers.Regs.{Regs}
 use Rattle.block_model.specs.Here.{runs}
-use Rattle.process.specs.Harts.{file_on}
 use Rattle.event_facts.specs.Calls.{is_it}
 use Rattle.event_facts.specs.OtherRegisters.{where_off}
 use Rattle.event_facts.specs.Telling.{here_on}

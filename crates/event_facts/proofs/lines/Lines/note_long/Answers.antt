@@ -1,4 +1,4 @@
-use Rattle.std.proofs.Common.{◌≡◌, ◌∙◌, List, ap, max}
+use Rattle.std.proofs.Common.{◌∙◌, List, ap, max}
 use Rattle.rv_inst.specs.Accesses.{bytes}
 use Rattle.block_model.specs.Footprints.{has_byte}
 use Rattle.event_facts.specs.Written.{last_line, line_at}
