@@ -7,12 +7,10 @@ ghost use Rattle.place_text.specs.Fields.{behind, harts_fields, value_or_none, v
 
 use mach_types::Hart;
 use std::alloc::AllocError;
+use step_log::hex_digits;
 
 /// How many harts there can be.
 const MOST_HARTS: u8 = 8;
-
-/// How many hexadecimal digits an address or a value has.
-const VALUE_DIGITS: u8 = 16;
 
 /// The character of a hexadecimal digit, in lower case.
 fn hex_digit(digit: u8) -> u8
@@ -74,7 +72,8 @@ pub fn push_hex(text: &mut Vec<u8>, places: u8, number: u64) -> Result<(), Alloc
 pub fn push_value(text: &mut Vec<u8>, value: u64) -> Result<(), AllocError>
     ensures { OnOk result (text.new.items ≡ text.old.items ++ space ∷ value_text value) }
 {
-    push_hex(text, VALUE_DIGITS, value)
+    text.push(b' ')?;
+    text.extend_from_slice(&hex_digits(value))
 }
 
 /// Begins a line: appends its first word, and the number of what it is about.

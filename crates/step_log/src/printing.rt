@@ -67,8 +67,8 @@ fn hex_pair(byte: u8) -> [u8; 2]
     [PAIRS[at], PAIRS[at + 1]]
 }
 
-/// A number as 16 hexadecimal digits.
-fn hex_digits(number: u64) -> [u8; 16]
+/// A number as 16 hexadecimal digits, in lower case.
+pub fn hex_digits(number: u64) -> [u8; 16]
     ensures { result ≡ hex_text 16 number }
 {
     let [b0, b1, b2, b3, b4, b5, b6, b7] = number.to_be_bytes();
