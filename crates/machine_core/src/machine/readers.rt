@@ -25,7 +25,7 @@ use crate::machine::Machine;
 use block_model::Refused;
 use hart_state::HartState;
 use mach_types::{Area, Choice, Entry, Hart, Named, Outcome, Sight, UserMem};
-use process::{KernelWrites, effect_of_next, is_all_taken, is_free, is_local, next_of};
+use process::{KernelWrites, Next, effect_of_next, is_all_taken, is_free, is_local, next_of};
 use rseq_area::Lookups;
 use rv_inst::Effect;
 use sys_calls::Kernel;
@@ -93,11 +93,26 @@ impl Machine {
         requires { hart.0 < self.now.setting.limits.harts }
         ensures { result ≡ fault_here (here_in_history self.now.setting (history self.now.setting self.now.log) hart.0) }
     {
+        self.next(hart).fault
+    }
+
+    /// The next instruction of a hart's thread: what it asks for ([`Machine::next_effect`]), and the signal of its fault
+    /// ([`Machine::next_fault`]), by one look.
+    pub fn next(&self, hart: Hart) -> Next
+        requires { hart.0 < self.now.setting.limits.harts }
+        ensures effect { result.effect
+            ≡ effect_here (here_in_history self.now.setting (history self.now.setting self.now.log) hart.0) }
+        ensures fault { result.fault
+            ≡ fault_here (here_in_history self.now.setting (history self.now.setting self.now.log) hart.0) }
+    {
         let state = self.hart(hart);
         if state.is_idle() {
-            None
+            Next {
+                effect: None,
+                fault: None,
+            }
         } else {
-            next_of(&self.code, &self.parts.pages, state).fault
+            next_of(&self.code, &self.parts.pages, state)
         }
     }
 
