@@ -56,8 +56,9 @@ fn plain_effect(machine: &Machine, hart: Hart) -> Option<Effect>
     ensures effect { result ≡ executed_by asked.Exec (here_on machine.now hart.0) }
     ensures sizes { IfSome result HasAccessSizes }
 {
-    let effect = machine.next_effect(hart)?;
-    unless_fault_or_call(effect, machine.next_fault(hart))
+    let next = machine.next(hart);
+    let effect = next.effect?;
+    unless_fault_or_call(effect, next.fault)
 }
 
 /// The event of an entry, where it is plain: the next of its hart on a machine. None exactly where it isn't
