@@ -71,13 +71,13 @@ is_run None = false
 is_run (Some command) = needs_workers command
 
 -- whether a text hangs on how workers take turns
-abbrev pub hangs_on_turns : Option Command → Bool
-hangs_on_turns None = false
-hangs_on_turns (Some (Runs run)) = is_by_workers run.source
-hangs_on_turns (Some (Makes guest)) = false
-hangs_on_turns (Some (Tries trial)) = false
-hangs_on_turns (Some (Explores program settings)) = false
-hangs_on_turns (Some (Pairs pair)) = false
+abbrev pub depends_on_turns : Option Command → Bool
+depends_on_turns None = false
+depends_on_turns (Some (Runs run)) = is_by_workers run.source
+depends_on_turns (Some (Makes guest)) = false
+depends_on_turns (Some (Tries trial)) = false
+depends_on_turns (Some (Explores program settings)) = false
+depends_on_turns (Some (Pairs pair)) = false
 
 -- what options come to is in their ranges
 pub record AreInRange (settings : Settings) : Type 0 where

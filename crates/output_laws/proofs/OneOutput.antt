@@ -132,7 +132,7 @@ one_pair files pair a b told first second =
     let setting = first.setting ∙ start ∙ sym second.setting in
     λ i. record { setting = setting i; log = log i }
 
-one_plain : (files : Files) (command : Option words.Command) (a b : List ℕ) → words.hangs_on_turns command ≡ false
+one_plain : (files : Files) (command : Option words.Command) (a b : List ℕ) → words.depends_on_turns command ≡ false
     → AreTold files (needs_of command)
     → IsPlainOutputOf files command a → IsPlainOutputOf files command b → a ≡ b
 one_plain files None a b quiet told first second = absurd first
@@ -154,7 +154,7 @@ one_plain files (Some (words.Runs asked)) a b quiet told first second =
     (subst (λ (s : Setting). IsPlainRunOf files asked.source s first.run) start first.made) second.made in
     first.text ∙ ap₂ (plain_text asked.shown) start run ∙ sym second.text
 
-pub one_output : (files : Files) (command : Option words.Command) (a b : List ℕ) → words.hangs_on_turns command ≡ false
+pub one_output : (files : Files) (command : Option words.Command) (a b : List ℕ) → words.depends_on_turns command ≡ false
     → AreTold files (needs_of command)
     → IsOutputOf files command a → IsOutputOf files command b → a ≡ b
 one_output files command a b no_run told first second =

@@ -14,7 +14,7 @@ ghost use Rattle.outcomes.specs.Rounds.{IsRoundsRun};
 ghost use Rattle.outcomes.specs.Runs.{IsChosenRun};
 ghost use Rattle.outcomes.specs.Told.{AreTold, TellsGoodFiles};
 ghost use Rattle.command_words.specs.Shown.{Gathered, Output};
-ghost use Rattle.command_words.specs.Commands.{Command, Run, hangs_on_turns};
+ghost use Rattle.command_words.specs.Commands.{Command, Run, depends_on_turns};
 
 /// The log lines of the output of a run, read as a script by `play` with the same program and limits, are allowed at
 /// every line and give the same output text. The shelf of the later call has the same program, and those
@@ -43,7 +43,7 @@ pub fn gathered_log_replays()
 /// of `run` hangs also on the order in which the harts take turns. And where there is an output, the files are good.
 pub fn told_files_have_one_output()
     ensures one { (files : Files) (command : Option Command) (written other : List ℕ)
-        → hangs_on_turns command ≡ false → AreTold files (needs_of command)
+        → depends_on_turns command ≡ false → AreTold files (needs_of command)
         → IsOutputOf files command written → IsOutputOf files command other → written ≡ other }
     ensures good { (files : Files) (command : Option Command) (written : List ℕ)
         → AreTold files (needs_of command)

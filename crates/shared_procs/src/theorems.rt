@@ -81,7 +81,7 @@ pub fn barriers_return_over_both()
 /// of the segment that its instructions read, whether its SC there succeed, and whether its calls of
 /// membarrier(2) wait. Nothing is said of pending requests, nor of reservations.
 #[tactic(auto, using(crate::proofs::OwnRuns::is_the_same, crate::proofs::OwnRuns::same_at_each))]
-pub fn process_hangs_on_what_it_learns()
+pub fn process_depends_on_what_it_learns()
     // Where these are the same in two pair runs, over the same image and limits, so is the process after them.
     ensures last { (s s2 : PairSetting) (log log2 : List Entry) (p : Bool) → AreOfImages s → AreOfImages s2
         → setting s p ≡ setting s2 p → IsPairRun s log → IsPairRun s2 log2
