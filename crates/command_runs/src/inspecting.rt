@@ -27,11 +27,7 @@ pub(crate) fn inspected_text(
 }
 
 /// Appends the lines of spans of memory.
-fn push_spans(
-    text: &mut Vec<u8>,
-    machine: &Machine,
-    spans: &[MemorySpan],
-) -> Result<(), AllocError>
+fn push_spans(text: &mut Vec<u8>, machine: &Machine, spans: &[MemorySpan]) -> Result<(), AllocError>
     requires { All (λ span. span.at + span.length ≤ 2 ^ 64) spans.now }
     ensures { OnOk result (text.new.items ≡ text.old.items
         ++ spans_text machine.now.setting (history machine.now.setting machine.now.log) spans.now) }

@@ -13,7 +13,8 @@ const GUESTS: &str = "counter, list, pool, dekker, signals, migrate, ring and ur
 const POLICIES: &str = "all, one, long, short, pos, spread and rule";
 
 /// The spans of memory that an option takes.
-const SPANS: &str = "AT:LENGTH, or several of these one comma apart: an address of 1 to 16 hexadecimal digits in lower case, \
+const SPANS: &str =
+    "AT:LENGTH, or several of these one comma apart: an address of 1 to 16 hexadecimal digits in lower case, \
     and a number of bytes from 1 to 65536, none of them past the last address";
 
 /// Appends what is wrong with the words, and the usage; where they ask for help, what each command does too.
