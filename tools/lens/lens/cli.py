@@ -3,7 +3,6 @@ from __future__ import annotations
 
 import argparse
 import gc
-import json
 import sys
 from collections.abc import Iterable
 from pathlib import Path
@@ -24,7 +23,7 @@ from .sequences import list_sequences
 from .shrinking import shrink
 from .steering import steer
 from .subjects import SEQUENCES, WORDS, steps_about
-from .trace import make_trace
+from .trace import trace_text
 from .traced_calls import list_traced_calls
 from .values import Values, read_values
 from .watching import watch
@@ -81,6 +80,7 @@ def add_list(commands) -> None:
 def add_trace(commands) -> None:
     command = commands.add_parser('trace', help='a trace for ui.perfetto.dev or chrome://tracing')
     add_run_and_elf(command)
+    add_values(command, 'what each step read and wrote, and which store a load saw')
     add_out(command, 'FILE.json')
     command.set_defaults(action=trace_command)
 
@@ -302,7 +302,9 @@ def check_step(output: Output, number: int | None) -> None:
 
 
 def trace_command(arguments: argparse.Namespace) -> None:
-    write_out(arguments.out, [json.dumps(make_trace(read_history(arguments)), indent=1), '\n'])
+    history = read_history(arguments)
+    values = read_values(history, machine_of(arguments)) if arguments.values else None
+    write_out(arguments.out, trace_text(history, values))
 
 
 def svg_command(arguments: argparse.Namespace) -> None:
