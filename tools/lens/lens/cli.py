@@ -3,9 +3,9 @@ from __future__ import annotations
 
 import argparse
 import gc
-import json
 import sys
 from collections.abc import Iterable
+from dataclasses import replace
 from pathlib import Path
 
 from .arguments import add_program, limits_of, positive
@@ -21,10 +21,11 @@ from .program import Program
 from .races import list_races
 from .scripts import Lines, first_unreadable, read_lines
 from .sequences import list_sequences
+from .shown_memory import asked, ranges_of, with_names
 from .shrinking import shrink
 from .steering import steer
 from .subjects import SEQUENCES, WORDS, steps_about
-from .trace import make_trace
+from .trace import trace_text
 from .traced_calls import list_traced_calls
 from .values import Values, read_values
 from .watching import watch
@@ -81,6 +82,7 @@ def add_list(commands) -> None:
 def add_trace(commands) -> None:
     command = commands.add_parser('trace', help='a trace for ui.perfetto.dev or chrome://tracing')
     add_run_and_elf(command)
+    add_values(command, 'what each step read and wrote, and which store a load saw')
     add_out(command, 'FILE.json')
     command.set_defaults(action=trace_command)
 
@@ -155,6 +157,13 @@ def add_play(commands) -> None:
 def add_inspect(commands) -> None:
     command = commands.add_parser('inspect', help='what the program\'s inspect prints, of an output text too')
     add_lines(command)
+    command.add_argument(
+        '--memory',
+        action='append',
+        default=[],
+        metavar='NAME[+OFF][:SIZE]',
+        help='what memory holds there, by name; several times for several places',
+    )
     command.set_defaults(action=inspect_command)
 
 
@@ -302,7 +311,9 @@ def check_step(output: Output, number: int | None) -> None:
 
 
 def trace_command(arguments: argparse.Namespace) -> None:
-    write_out(arguments.out, [json.dumps(make_trace(read_history(arguments)), indent=1), '\n'])
+    history = read_history(arguments)
+    values = read_values(history, machine_of(arguments)) if arguments.values else None
+    write_out(arguments.out, trace_text(history, values))
 
 
 def svg_command(arguments: argparse.Namespace) -> None:
@@ -325,18 +336,29 @@ def short_line(line: str) -> str:
 
 
 def play_command(arguments: argparse.Namespace) -> int:
-    return pass_on(arguments, 'play')
+    lines = lines_of(arguments)
+    return pass_on(lines, machine_of(arguments).call('play', lines.text(), lines.name))
 
 
 def inspect_command(arguments: argparse.Namespace) -> int:
-    return pass_on(arguments, 'inspect')
+    lines, machine = lines_of(arguments), machine_of(arguments)
+    if not arguments.memory:
+        return pass_on(lines, machine.call('inspect', lines.text(), lines.name))
+    program = Program(arguments.elf)
+    ranges = ranges_of(program, arguments.memory)
+    answer = machine.call('inspect', lines.text(), lines.name, (asked(ranges),))
+    named = with_names(program, ranges, answer.text.decode('ascii', 'replace'))
+    text = ''.join(f'{line}\n' for line in named).encode()
+    return pass_on(lines, replace(answer, text=text))
 
 
-def pass_on(arguments: argparse.Namespace, command: str) -> int:
-    """Gives the program the lines of a script or of an output text, and passes on what it prints, what it
-    says and its status."""
-    lines = read_lines(arguments.run).first(arguments.last)
-    answer: Answer = machine_of(arguments).call(command, lines.text(), lines.name)
+def lines_of(arguments: argparse.Namespace) -> Lines:
+    """The lines of a script, or of the log of an output text, up to the last that is wanted."""
+    return read_lines(arguments.run).first(arguments.last)
+
+
+def pass_on(lines: Lines, answer: Answer) -> int:
+    """Passes on what the program prints of some lines, what it says, and its status."""
     sys.stdout.buffer.write(answer.text)
     sys.stdout.flush()
     unreadable = first_unreadable(lines.lines) if answer.refused_line() else None

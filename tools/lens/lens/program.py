@@ -4,6 +4,7 @@ from __future__ import annotations
 import re
 import struct
 from bisect import bisect_right
+from collections.abc import Iterator
 from dataclasses import dataclass
 from functools import cache, cached_property
 
@@ -202,6 +203,22 @@ class Program:
         name = found and self.layout.name(found.name, found.address, address - found.address, size)
         is_all = found and (found.address, found.size) == (address, size)
         return name or f'{self.variable(address)}{"" if is_all else f":{size}"}'
+
+    def parts(self, start: int, end: int) -> Iterator[tuple[str, int, int]]:
+        """What the bytes from one address up to another belong to: each variable, or of one with members each
+        member that is a number or a pointer, by its name, its address and its size. Bytes of which none is
+        known have the name of their place."""
+        while start < end:
+            found = self.variable_at(start)
+            last = min(end, found.address + found.size if found else self.next_variable(start, end))
+            known = self.layout.parts(found.name, found.address, start, last) if found else []
+            yield from known or [(self.bytes_of(start, last - start), start, last - start)]
+            start = last
+
+    def next_variable(self, start: int, end: int) -> int:
+        """Where the first variable behind an address begins; `end` where none does."""
+        index = bisect_right([variable.address for variable in self.variables], start)
+        return self.variables[index].address if index < len(self.variables) else end
 
     def word(self, address: int) -> int | None:
         """The word of the code at an address."""

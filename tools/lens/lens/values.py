@@ -11,9 +11,21 @@ from .faults import LensFault
 from .history import History
 from .machine import Machine
 from .output import DRAIN, EXEC, Step
+from .program import Program
 from .trace_text import Record, Trace
 
 PAGE, WORD = 4_096, 8
+
+
+def number_words(program: Program, value: int, size: int) -> str:
+    """A value of so many bytes: a small one in decimal, with a sign where that makes it small; else in
+    hexadecimal, or the variable or the function whose address it is."""
+    if value < PAGE:
+        return str(value)
+    if value >= (1 << 8 * size) - PAGE and size > 1:
+        return str(value - (1 << 8 * size))
+    name = program.target(value) if size == WORD else ''
+    return f'{value:#x}' if name in ('', f'{value:#x}') else f'&{name}'
 
 
 @dataclass(frozen=True)
@@ -27,14 +39,8 @@ class Values:
         return self.trace.records[step.number - 1]
 
     def number(self, value: int, size: int) -> str:
-        """A value of so many bytes: a small one in decimal, with a sign where that makes it small; else in
-        hexadecimal, with the variable or the function whose address it is."""
-        if value < PAGE:
-            return str(value)
-        if value >= (1 << 8 * size) - PAGE and size > 1:
-            return str(value - (1 << 8 * size))
-        name = self.history.program.target(value) if size == WORD else ''
-        return f'{value:#x}' if name in ('', f'{value:#x}') else f'&{name}'
+        """A value of so many bytes, in words."""
+        return number_words(self.history.program, value, size)
 
     def place(self, at: int, size: int) -> str:
         """The variable, or the member of one, that has so many bytes: where none has just these, the bytes
