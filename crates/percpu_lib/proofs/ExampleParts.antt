@@ -2,11 +2,12 @@
 -- that is used as it should be where tests find so.
 use Rattle.std.proofs.Common.{◌≡◌, ◌≢◌, ℕ, suc, zero, ◌+◌, ◌*◌, ◌-◌, ◌%◌, ◌^◌, ◌<◌, ◌≤◌, List, [], ◌∷◌, refl}
 use Rattle.std.proofs.Common.{sym, ap, ◌∙◌, subst, arith, Bool, true, false, not, ◌&&◌, ◌||◌, ◌⊎◌, inl, inr}
-use Rattle.std.proofs.Common.{eqb, leb, ltb, Option, Some, None, slice_get, ◌++◌, replicate, unwrap_or}
+use Rattle.std.proofs.Common.{eqb, leb, ltb, Option, Some, None, slice_get, ◌++◌, take, drop, replicate, unwrap_or}
 use Rattle.std.specs.Option.{option_map_or}
 use Rattle.std.specs.Prelude.{Contains}
 use Rattle.std.proofs.lemmas.Bool.{and_parts, eqb-false, eqb-true, false≢true, le-ltb, leb-true, ltb-true}
 use Rattle.std.proofs.lemmas.Bool.{not-true}
+use Rattle.std.proofs.lemmas.List.{take-append-drop}
 use Rattle.mach_types.specs.Kernel.Areas.{is_inside}
 use Rattle.mach_types.specs.declared.events.Choice.{Choice}
 use Rattle.mach_types.specs.declared.events.Choice.TheVariants as asked
@@ -22,6 +23,7 @@ use Rattle.block_model.specs.History.{History, file}
 use Rattle.block_model.specs.Replay.{Ask}
 use Rattle.block_model.specs.Run.{IsBlockRun, IsRunHistory}
 use Rattle.block_model.specs.Setting.{Setting}
+use Rattle.block_model.proofs.Laws.{run_before}
 use Rattle.alone.specs.Temps.{is_scratch}
 use Rattle.alone_laws.specs.Entering.{IsIn}
 use Rattle.alone_laws.specs.Pointers.{LiesBeside}
@@ -236,65 +238,88 @@ each_beside b (x ∷ rest) is other (zero, lt, at) =
 each_beside b (x ∷ rest) is other (suc k, lt, at) =
     each_beside b rest (and_parts (stands_apart b x) (stand_apart b rest) is).1 other (k, omega arith, at)
 
+-- a block as the thread of a log uses it: its form and what is tested of that, where it stands, its area, the
+-- thread, the other blocks of the area, and what its last sequence has done
+pub record Use : Type 1 where
+  pub form : Form
+  pub tested : IsTested form
+  pub at : ℕ
+  pub area : Area
+  pub thread : ℕ
+  pub others : List Placed
+  pub fits : Sequence → Bool
+
+-- by thread 1, with the area that the programs register
+abbrev pub use_of : (form : Form) → IsTested form → ℕ → List Placed → (Sequence → Bool) → Use
+use_of form tested at others fits =
+    record { form = form; tested = tested; at = at; area = own_area; thread = 1; others = others; fits = fits }
+
 -- what is found of a log at once: the thread uses the block well, beside others, and its last sequence on
--- hart 0 has come to the post-commit address, and passes a test
-abbrev pub commits_so : Setting → Form → ℕ → ℕ → (Sequence → Bool) → Sequence → Bool
-commits_so s form at t fits q =
-    eqb q.thread t
-    && (is_inside (range_of form at) (file s t q.begun).pc
-    && (eqb (file s t q.reached).pc (at + 4 * committed form) && fits q))
+-- hart 0 has come to the post-commit address, and passes the test
+abbrev pub commits_so : Setting → Use → Sequence → Bool
+commits_so s u q =
+    eqb q.thread u.thread
+    && (is_inside (range_of u.form u.at) (file s u.thread q.begun).pc
+    && (eqb (file s u.thread q.reached).pc (u.at + 4 * committed u.form) && u.fits q))
 
-abbrev pub is_good : (s : Setting) (form : Form) → IsTested form → ℕ → Area → ℕ → List Placed
-    → (Sequence → Bool) → History
-    → Bool
-is_good s form tested at area t others fits before =
-    are_fine s form tested at area t before
-    && (always_begins_freely s form tested at area t before
-    && (shares_so s form tested at area t others before
-    && option_map_or (commits_so s form at t fits) (sequence_on s 0 before) false))
+abbrev pub is_good : Setting → Use → History → Bool
+is_good s u before =
+    are_fine s u.form u.tested u.at u.area u.thread before
+    && (always_begins_freely s u.form u.tested u.at u.area u.thread before
+    && (shares_so s u.form u.tested u.at u.area u.thread u.others before
+    && option_map_or (commits_so s u) (sequence_on s 0 before) false))
 
-pub record IsGood (s : Setting) (log : List Entry) (form : Form) (at : ℕ) (area : Area) (others : List Placed)
-    (fits : Sequence → Bool) : Type 0 where
+-- the first entries of a log are such
+pub record IsGood (s : Setting) (log : List Entry) (n : ℕ) (u : Use) : Type 0 where
   pub sequence : Sequence
-  pub used : IsWellUsed s log form at area others sequence
-  pub passes : fits sequence ≡ true
+  pub used : IsWellUsed s (take n log) u.form u.at u.area u.others sequence
+  pub passes : u.fits sequence ≡ true
 
-pub record IsUsedSo (s : Setting) (log : List Entry) (form : Form) (at : ℕ) (area : Area) (t : ℕ)
-    (others : List Placed)
-    : Type 0 where
+pub record IsUsedSo (s : Setting) (log : List Entry) (u : Use) : Type 0 where
   pub run : IsBlockRun s log
-  pub holds : HoldsBlock s (history s log) form at area t
-  pub begins : CanAlwaysBegin s (placed_of form at area) t (history s log)
-  pub shares : SharesAreaWith s (history s log) (placed_of form at area) t others
+  pub holds : HoldsBlock s (history s log) u.form u.at u.area u.thread
+  pub begins : CanAlwaysBegin s (placed_of u.form u.at u.area) u.thread (history s log)
+  pub shares : SharesAreaWith s (history s log) (placed_of u.form u.at u.area) u.thread u.others
 
-module _ (s : Setting) (log : List Entry) (form : Form) (tested : IsTested form) (at : ℕ) (area : Area)
-    (t : ℕ)
-    (others : List Placed) (fits : Sequence → Bool) (run : IsBlockRun s log)
-    (good : is_good s form tested at area t others fits (history s log) ≡ true)
-    (low : is_low s form at area ≡ true)
-    (there : AreThere (code_of s.program.pages) at form.words)
-    (apart : stand_apart (placed_of form at area) others ≡ true)
+-- the first entries of a run are one
+run_to : (s : Setting) (log : List Entry) (n : ℕ) → IsBlockRun s log → IsBlockRun s (take n log)
+run_to s log n run =
+    run_before s (take n log) (drop n log)
+    (subst (IsBlockRun s) (sym (take-append-drop n log)) run)
+
+module _ (s : Setting) (whole : List Entry) (is_run : IsBlockRun s whole) (n : ℕ) (u : Use)
+    (good : is_good s u (history s (take n whole)) ≡ true) (low : is_low s u.form u.at u.area ≡ true)
+    (there : AreThere (code_of s.program.pages) u.at u.form.words)
+    (apart : stand_apart (placed_of u.form u.at u.area) u.others ≡ true)
   where
+    open u use {form, tested, at, area, thread as t, others, fits}
+
+    abbrev log : List Entry
+    log = take n whole
+
+    run : IsBlockRun s log
+    run = run_to s whole n is_run
+
     abbrev past : History
     past = history s log
 
     one : (are_fine s form tested at area t past ≡ true)
         × (always_begins_freely s form tested at area t past
         && (shares_so s form tested at area t others past
-        && option_map_or (commits_so s form at t fits) (sequence_on s 0 past) false) ≡ true)
+        && option_map_or (commits_so s u) (sequence_on s 0 past) false) ≡ true)
     one = and_parts (are_fine s form tested at area t past) _ good
 
     two : (always_begins_freely s form tested at area t past ≡ true)
         × (shares_so s form tested at area t others past
-        && option_map_or (commits_so s form at t fits) (sequence_on s 0 past) false ≡ true)
+        && option_map_or (commits_so s u) (sequence_on s 0 past) false ≡ true)
     two = and_parts (always_begins_freely s form tested at area t past) _ one.1
 
     three : (shares_so s form tested at area t others past ≡ true)
-        × (option_map_or (commits_so s form at t fits) (sequence_on s 0 past) false ≡ true)
+        × (option_map_or (commits_so s u) (sequence_on s 0 past) false ≡ true)
     three = and_parts (shares_so s form tested at area t others past) _ two.1
 
     -- what holds of the thread, whichever its last sequence is
-    pub used_so : IsUsedSo s log form at area t others
+    pub used_so : IsUsedSo s log u
     used_so = record {
       run = run;
       holds = holds_so s form tested at area t past run.allowed one.0 low there;
@@ -304,8 +329,8 @@ module _ (s : Setting) (log : List Entry) (form : Form) (tested : IsTested form)
     }
 
     found : (o : Option Sequence) → sequence_on s 0 past ≡ o
-        → option_map_or (commits_so s form at t fits) o false ≡ true
-        → IsGood s log form at area others fits
+        → option_map_or (commits_so s u) o false ≡ true
+        → IsGood s whole n u
     found None is test = absurd (false≢true test)
     found (Some q) is test =
         let first = and_parts (eqb q.thread t) _ test in
@@ -327,7 +352,7 @@ module _ (s : Setting) (log : List Entry) (form : Form) (tested : IsTested form)
           passes = third.1;
         }
 
-    pub found_good : IsGood s log form at area others fits
+    pub found_good : IsGood s whole n u
     found_good = found (sequence_on s 0 past) refl three.1
 
 -- a last sequence on hart 0 that passes a test

@@ -1,19 +1,17 @@
 -- A worked log, by computation: a thread registers its area and pushes a node on the list of its processor by
 -- a push block. It is preempted inside, once the node is linked, begins anew at the abort handler, and pushes
 -- once. Then it pops the node off by a pop block, and finds the list empty by another sequence of that.
-use Rattle.std.proofs.Common.{◌≡◌, ℕ, List, [], ◌∷◌, ◌++◌, replicate, take, drop, refl}
-use Rattle.std.proofs.Common.{Bool, true, eqb, Ok}
+use Rattle.std.proofs.Common.{◌≡◌, ℕ, List, [], ◌∷◌, ◌++◌, replicate, refl}
+use Rattle.std.proofs.Common.{eqb, Ok}
 use Rattle.mach_types.specs.Registers.{register}
 use Rattle.mach_types.specs.declared.events.Choice.TheVariants as asked
 use Rattle.mach_types.specs.declared.events.Entry.{Entry}
 use Rattle.mach_types.specs.declared.events.Kind.TheVariants as kind
-use Rattle.block_model.specs.Acts.{Sequence}
-use Rattle.block_model.specs.Deciding.{history}
 use Rattle.block_model.specs.History.{file}
 use Rattle.block_model.specs.Replay.{Ask, played}
 use Rattle.block_model.specs.Run.{IsBlockRun}
 use Rattle.block_model.specs.Setting.{Setting}
-use Rattle.block_model.proofs.Laws.{played_is_run, run_before}
+use Rattle.block_model.proofs.Laws.{played_is_run}
 use Rattle.alone_laws.specs.Spans.{code_of}
 use Rattle.alone_laws.specs.Uses.{Placed}
 use Rattle.percpu_lib.specs.Forms.{placed_of}
@@ -23,7 +21,7 @@ use Rattle.percpu_lib.specs.Pushes.{push_block, push_form}
 use Rattle.percpu_lib.specs.Uses.{cells_of}
 use Rattle.percpu_lib.specs.declared.slots.Slots.{Slots}
 use Rattle.percpu_lib.proofs.Computing.{by_rules, by_table}
-use Rattle.percpu_lib.proofs.ExampleParts.{AreThere, IsGood, entry, found_good, is_good, line}
+use Rattle.percpu_lib.proofs.ExampleParts.{AreThere, IsGood, Use, entry, found_good, line, use_of}
 use Rattle.percpu_lib.proofs.ExampleParts.{data_at, setting_of, walk}
 use Rattle.percpu_lib.proofs.ExampleParts.{execs, slots_with}
 pub use Rattle.percpu_lib.proofs.ExampleParts.{own_area as area}
@@ -87,54 +85,23 @@ unfolding by_table
 pop_there = (refl, (refl, (refl, (refl, (refl, (refl, (refl, (refl, (refl, (refl, (refl, (refl, (refl, (refl, (refl, tt)))))))))))))))
 
 -- the push: the node is the head
-abbrev pub push_log : List Entry
-push_log = take 36 log
+abbrev pub push : Use
+push = use_of (push_form push_slots) (push_tested push_slots) push_at (the_pop ∷ [])
+    (λ q. is_just (cell_seen setting 0 (cells_of setting push_slots q.thread q.begun) q.reached) 0x20100)
 
-abbrev pub push_fits : Sequence → Bool
-push_fits q = is_just (cell_seen setting 0 (cells_of setting push_slots q.thread q.begun) q.reached) 0x20100
-
-push_good : is_good setting (push_form push_slots) (push_tested push_slots) push_at area 1 (the_pop ∷ [])
-    push_fits
-    (history setting push_log) ≡ true
+pub push_used : IsGood setting log 36 push
 unfolding by_rules
-push_good = refl
+push_used = found_good setting log is_run 36 push refl refl push_there refl
 
-pub push_used : IsGood setting push_log (push_form push_slots) push_at area (the_pop ∷ []) push_fits
-push_used =
-    found_good setting push_log (push_form push_slots) (push_tested push_slots) push_at area 1 (the_pop ∷ [])
-    push_fits (run_before setting (take 36 log) (drop 36 log) is_run) push_good refl push_there refl
+-- the pop: the value is the node; and the pop of an empty list: it is 0
+abbrev pub pop_of : ℕ → Use
+pop_of value = use_of (pop_form pop_slots) (pop_tested pop_slots) pop_at (the_push ∷ [])
+    (λ q. eqb (register (file setting q.thread q.reached).file 19) value)
 
--- the pop: the value is the node
-abbrev pub pop_log : List Entry
-pop_log = take 49 log
-
-abbrev pub pop_fits : Sequence → Bool
-pop_fits q = eqb (register (file setting q.thread q.reached).file 19) 0x20100
-
-pop_good : is_good setting (pop_form pop_slots) (pop_tested pop_slots) pop_at area 1 (the_push ∷ []) pop_fits
-    (history setting pop_log) ≡ true
+pub pop_used : IsGood setting log 49 (pop_of 0x20100)
 unfolding by_rules
-pop_good = refl
+pop_used = found_good setting log is_run 49 (pop_of 0x20100) refl refl pop_there refl
 
-pub pop_used : IsGood setting pop_log (pop_form pop_slots) pop_at area (the_push ∷ []) pop_fits
-pop_used =
-    found_good setting pop_log (pop_form pop_slots) (pop_tested pop_slots) pop_at area 1 (the_push ∷ [])
-    pop_fits (run_before setting (take 49 log) (drop 49 log) is_run) pop_good refl pop_there refl
-
--- the pop of an empty list: the value is 0
-abbrev pub empty_log : List Entry
-empty_log = log
-
-abbrev pub empty_fits : Sequence → Bool
-empty_fits q = eqb (register (file setting q.thread q.reached).file 19) 0
-
-empty_good : is_good setting (pop_form pop_slots) (pop_tested pop_slots) pop_at area 1 (the_push ∷ [])
-    empty_fits
-    (history setting empty_log) ≡ true
+pub empty_used : IsGood setting log 61 (pop_of 0)
 unfolding by_rules
-empty_good = refl
-
-pub empty_used : IsGood setting empty_log (pop_form pop_slots) pop_at area (the_push ∷ []) empty_fits
-empty_used =
-    found_good setting empty_log (pop_form pop_slots) (pop_tested pop_slots) pop_at area 1 (the_push ∷ [])
-    empty_fits is_run empty_good refl pop_there refl
+empty_used = found_good setting log is_run 61 (pop_of 0) refl refl pop_there refl

@@ -4,18 +4,17 @@
 -- another sequence of that. And a log of a pool that is full.
 use Rattle.std.proofs.Common.{◌≡◌, ℕ, ◌<◌, ◌^◌, List, [], ◌∷◌, ◌++◌, replicate, take, drop, refl, ltb}
 use Rattle.std.proofs.lemmas.Bool.{ltb-true}
-use Rattle.std.proofs.Common.{Bool, true, ◌&&◌, eqb, Ok}
+use Rattle.std.proofs.Common.{true, ◌&&◌, eqb, Ok}
 use Rattle.mach_types.specs.Registers.{register}
 use Rattle.mach_types.specs.declared.events.Choice.TheVariants as asked
 use Rattle.mach_types.specs.declared.events.Entry.{Entry}
 use Rattle.mach_types.specs.declared.events.Kind.TheVariants as kind
-use Rattle.block_model.specs.Acts.{Sequence}
 use Rattle.block_model.specs.Deciding.{history}
 use Rattle.block_model.specs.History.{file}
 use Rattle.block_model.specs.Replay.{Ask, played}
 use Rattle.block_model.specs.Run.{IsBlockRun}
 use Rattle.block_model.specs.Setting.{Setting}
-use Rattle.block_model.proofs.Laws.{played_is_run, run_before}
+use Rattle.block_model.proofs.Laws.{played_is_run}
 use Rattle.alone_laws.specs.Retries.{Retries}
 use Rattle.alone_laws.specs.Spans.{code_of}
 use Rattle.alone_laws.specs.Uses.{Placed}
@@ -27,8 +26,8 @@ use Rattle.percpu_lib.specs.Pushes.{word_seen}
 use Rattle.percpu_lib.specs.Uses.{cells_of}
 use Rattle.percpu_lib.specs.declared.slots.Slots.{Slots}
 use Rattle.percpu_lib.proofs.Computing.{by_rules, by_table}
-use Rattle.percpu_lib.proofs.ExampleParts.{AreThere, IsGood, IsUsedSo, entry, found_good, is_good, line}
-use Rattle.percpu_lib.proofs.ExampleParts.{used_so, data_at, setting_of, walk}
+use Rattle.percpu_lib.proofs.ExampleParts.{AreThere, IsGood, IsUsedSo, Use, entry, found_good, is_good, line}
+use Rattle.percpu_lib.proofs.ExampleParts.{data_at, setting_of, use_of, used_so, walk}
 use Rattle.percpu_lib.proofs.ExampleParts.{execs, slots_with}
 pub use Rattle.percpu_lib.proofs.ExampleParts.{own_area as area}
 use Rattle.percpu_lib.proofs.ExamplePrograms.{pool_code}
@@ -96,62 +95,30 @@ unfolding by_table
 alloc_there = (refl, (refl, (refl, (refl, (refl, (refl, (refl, (refl, (refl, (refl, (refl, (refl, (refl, (refl, (refl, (refl, (refl, (refl, (refl, tt)))))))))))))))))))
 
 -- the free: the first slot is 42
-abbrev pub free_log : List Entry
-free_log = take 51 log
+abbrev pub free : Use
+free = use_of (free_form free_slots) (free_tested free_slots) free_at (the_alloc ∷ [])
+    (λ q. is_just (word_seen setting 0 (slot_at (pool_at (cells_of setting free_slots q.thread q.begun) 0) 0)
+    q.reached) 42)
 
-abbrev pub free_fits : Sequence → Bool
-free_fits q = is_just (word_seen setting 0 (slot_at (pool_at (cells_of setting free_slots q.thread q.begun) 0)
-    0) q.reached) 42
-
-free_good : is_good setting (free_form free_slots) (free_tested free_slots) free_at area 1 (the_alloc ∷ [])
-    free_fits
-    (history setting free_log) ≡ true
+free_good : is_good setting free (history setting (take 51 log)) ≡ true
 unfolding by_rules
 free_good = refl
 
-pub free_used : IsGood setting free_log (free_form free_slots) free_at area (the_alloc ∷ []) free_fits
-free_used =
-    found_good setting free_log (free_form free_slots) (free_tested free_slots) free_at area 1
-    (the_alloc ∷ [])
-    free_fits (run_before setting (take 51 log) (drop 51 log) is_run) free_good refl free_there refl
+pub free_used : IsGood setting log 51 free
+free_used = found_good setting log is_run 51 free free_good refl free_there refl
 
--- the alloc: the value is 42
-abbrev pub alloc_log : List Entry
-alloc_log = take 68 log
+-- the alloc: the value is 42; and the alloc of an empty pool: it is 0
+abbrev pub alloc_of : ℕ → Use
+alloc_of value = use_of (alloc_form alloc_slots) (alloc_tested alloc_slots) alloc_at (the_free ∷ [])
+    (λ q. eqb (register (file setting q.thread q.reached).file 19) value)
 
-abbrev pub alloc_fits : Sequence → Bool
-alloc_fits q = eqb (register (file setting q.thread q.reached).file 19) 42
-
-alloc_good : is_good setting (alloc_form alloc_slots) (alloc_tested alloc_slots) alloc_at area 1
-    (the_free ∷ []) alloc_fits
-    (history setting alloc_log) ≡ true
+pub alloc_used : IsGood setting log 68 (alloc_of 42)
 unfolding by_rules
-alloc_good = refl
+alloc_used = found_good setting log is_run 68 (alloc_of 42) refl refl alloc_there refl
 
-pub alloc_used : IsGood setting alloc_log (alloc_form alloc_slots) alloc_at area (the_free ∷ []) alloc_fits
-alloc_used =
-    found_good setting alloc_log (alloc_form alloc_slots) (alloc_tested alloc_slots) alloc_at area 1
-    (the_free ∷ [])
-    alloc_fits (run_before setting (take 68 log) (drop 68 log) is_run) alloc_good refl alloc_there refl
-
--- the alloc of an empty pool: the value is 0
-abbrev pub none_log : List Entry
-none_log = log
-
-abbrev pub none_fits : Sequence → Bool
-none_fits q = eqb (register (file setting q.thread q.reached).file 19) 0
-
-none_good : is_good setting (alloc_form alloc_slots) (alloc_tested alloc_slots) alloc_at area 1
-    (the_free ∷ []) none_fits
-    (history setting none_log) ≡ true
+pub none_used : IsGood setting log 81 (alloc_of 0)
 unfolding by_rules
-none_good = refl
-
-pub none_used : IsGood setting none_log (alloc_form alloc_slots) alloc_at area (the_free ∷ []) none_fits
-none_used =
-    found_good setting none_log (alloc_form alloc_slots) (alloc_tested alloc_slots) alloc_at area 1
-    (the_free ∷ [])
-    none_fits is_run none_good refl alloc_there refl
+none_used = found_good setting log is_run 81 (alloc_of 0) refl refl alloc_there refl
 
 -- A RETRY
 
@@ -178,11 +145,8 @@ retried =
     (take 2 (drop 31 log))
     comes_back
 
-pub used_again : IsUsedSo setting free_log (free_form free_slots) free_at area 1 (the_alloc ∷ [])
-used_again =
-    used_so setting free_log (free_form free_slots) (free_tested free_slots) free_at area 1 (the_alloc ∷ [])
-    free_fits
-    (run_before setting (take 51 log) (drop 51 log) is_run) free_good refl free_there refl
+pub used_again : IsUsedSo setting (take 51 log) free
+used_again = used_so setting log is_run 51 free free_good refl free_there refl
 
 small_there : ltb (register (file setting 1 (history setting first_time)).file 18) (2 ^ 64) ≡ true
 unfolding by_rules
@@ -216,19 +180,13 @@ full_there : AreThere (code_of full_setting.program.pages) free_at (free_block f
 unfolding by_table
 full_there = (refl, (refl, (refl, (refl, (refl, (refl, (refl, (refl, (refl, (refl, (refl, (refl, (refl, (refl, (refl, (refl, (refl, (refl, (refl, (refl, (refl, (refl, tt))))))))))))))))))))))
 
-abbrev pub full_fits : Sequence → Bool
-full_fits q =
-    eqb (register (file full_setting q.thread q.reached).file 18) 42
-    && is_just (count_seen full_setting 0 (cells_of full_setting free_slots q.thread q.begun) q.reached) 512
+abbrev pub full : Use
+full = use_of (free_form free_slots) (free_tested free_slots) free_at (the_alloc ∷ [])
+    (λ q. eqb (register (file full_setting q.thread q.reached).file 18) 42
+    && is_just (count_seen full_setting 0 (cells_of full_setting free_slots q.thread q.begun) q.reached) 512)
 
-full_good : is_good full_setting (free_form free_slots) (free_tested free_slots) free_at area 1
-    (the_alloc ∷ []) full_fits
-    (history full_setting full_log) ≡ true
+pub full_used : IsGood full_setting full_log 22 full
 unfolding by_rules
-full_good = refl
-
-pub full_used : IsGood full_setting full_log (free_form free_slots) free_at area (the_alloc ∷ []) full_fits
 full_used =
-    found_good full_setting full_log (free_form free_slots) (free_tested free_slots) free_at area 1
-    (the_alloc ∷ [])
-    full_fits (played_is_run full_setting full_lines full_log full_played).0 full_good refl full_there refl
+    found_good full_setting full_log (played_is_run full_setting full_lines full_log full_played).0 22 full
+    refl refl full_there refl

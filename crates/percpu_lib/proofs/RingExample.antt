@@ -16,7 +16,7 @@ use Rattle.block_model.specs.History.{file, running, stores}
 use Rattle.block_model.specs.Replay.{Ask, played}
 use Rattle.block_model.specs.Run.{IsBlockRun}
 use Rattle.block_model.specs.Setting.{Setting}
-use Rattle.block_model.proofs.Laws.{played_is_run, run_before}
+use Rattle.block_model.proofs.Laws.{played_is_run}
 use Rattle.alone_laws.specs.Retries.{Retries}
 use Rattle.alone_laws.specs.Spans.{code_of}
 use Rattle.alone_laws.specs.Undisturbed.{IsUndisturbed, executed_on}
@@ -28,9 +28,9 @@ use Rattle.percpu_lib.specs.RingForms.{get_block, put_block, ring_at, ring_get_f
 use Rattle.percpu_lib.specs.Uses.{cells_of}
 use Rattle.percpu_lib.specs.declared.slots.Slots.{Slots}
 use Rattle.percpu_lib.proofs.Computing.{by_rules, by_table}
-use Rattle.percpu_lib.proofs.ExampleParts.{AreThere, IsFound, IsGood, IsUsedSo, entry, found_good, is_found}
+use Rattle.percpu_lib.proofs.ExampleParts.{AreThere, IsFound, IsGood, IsUsedSo, Use, entry, found_good, is_found}
 use Rattle.percpu_lib.proofs.ExampleParts.{data_at, setting_of, walk}
-use Rattle.percpu_lib.proofs.ExampleParts.{is_good, line, is_found, sequence_found, used_so}
+use Rattle.percpu_lib.proofs.ExampleParts.{is_good, line, sequence_found, use_of, used_so}
 use Rattle.percpu_lib.proofs.ExampleParts.{execs, slots_with}
 pub use Rattle.percpu_lib.proofs.ExampleParts.{own_area as area}
 use Rattle.percpu_lib.proofs.ExamplePrograms.{full_ring_code, ring_code}
@@ -102,7 +102,7 @@ lines =
     ++ (replicate 4 (line asked.Drain)
     ++ execs 18))))))
 
-abbrev log : List Entry
+abbrev pub log : List Entry
 log =
     entry kind.Run 1 0x100B0 ∷ walk 0x100B0 32 ++ entry kind.Drain 1 0x10130 ∷ entry kind.Drain 1 0x10130
     ∷ entry kind.Preempt 1 0x10130 ∷ entry kind.Run 1 0x10130 ∷ walk 0x10158 2 ++ walk 0x100D8 30
@@ -133,28 +133,19 @@ abbrev get_tested : IsTested get
 get_tested = ring_get_tested 2 get_slots
 
 -- the put: slots 511 and 0 are 7 and 9, and the tail is 1
-abbrev pub put_log : List Entry
-put_log = take 69 log
-
-abbrev pub put_fits : Sequence → Bool
-put_fits q =
-    eqb q.thread 1
+abbrev pub put_use : Use
+put_use = use_of put put_tested put_at (the_get ∷ [])
+    (λ q. eqb q.thread 1
     && (is_just (word_seen setting 0 (slot_of (ring_of setting put_slots q) 511) q.reached) 7
     && (is_just (word_seen setting 0 (slot_of (ring_of setting put_slots q) 0) q.reached) 9
-    && is_just (word_seen setting 0 (ring_of setting put_slots q + 8) q.reached) 1))
+    && is_just (word_seen setting 0 (ring_of setting put_slots q + 8) q.reached) 1)))
 
-put_good : is_good setting put put_tested put_at area 1 (the_get ∷ []) put_fits (history setting put_log)
-    ≡ true
+put_good : is_good setting put_use (history setting (take 69 log)) ≡ true
 unfolding by_rules
 put_good = refl
 
-put_run : IsBlockRun setting put_log
-put_run = run_before setting (take 69 log) (drop 69 log) is_run
-
-pub put_used : IsGood setting put_log put put_at area (the_get ∷ []) put_fits
-put_used =
-    found_good setting put_log put put_tested put_at area 1 (the_get ∷ []) put_fits put_run put_good refl
-    put_there refl
+pub put_used : IsGood setting log 69 put_use
+put_used = found_good setting log is_run 69 put_use put_good refl put_there refl
 
 -- its first sequence, which was cut: slot 511 is 7, and the tail is as it was
 abbrev pub cut : List Entry
@@ -179,41 +170,24 @@ pub was_cut : IsFound setting cut cut_fits
 was_cut = sequence_found setting cut cut_fits cut_found
 
 -- the get: the words at 0x21120 are 7 and 9, and the head is 1
-abbrev pub get_log : List Entry
-get_log = take 105 log
-
-abbrev pub get_fits : Sequence → Bool
-get_fits q =
-    is_just (word_seen setting 0 (value_of setting get_slots q.thread q.begun) q.reached) 7
+abbrev pub get_use : Use
+get_use = use_of get get_tested get_at (the_put ∷ [])
+    (λ q. is_just (word_seen setting 0 (value_of setting get_slots q.thread q.begun) q.reached) 7
     && (is_just (word_seen setting 0 (value_of setting get_slots q.thread q.begun + 8) q.reached) 9
-    && is_just (word_seen setting 0 (ring_of setting get_slots q) q.reached) 1)
+    && is_just (word_seen setting 0 (ring_of setting get_slots q) q.reached) 1))
 
-get_good : is_good setting get get_tested get_at area 1 (the_put ∷ []) get_fits (history setting get_log)
-    ≡ true
+pub get_used : IsGood setting log 105 get_use
 unfolding by_rules
-get_good = refl
-
-pub get_used : IsGood setting get_log get get_at area (the_put ∷ []) get_fits
-get_used =
-    found_good setting get_log get get_tested get_at area 1 (the_put ∷ []) get_fits
-    (run_before setting (take 105 log) (drop 105 log) is_run) get_good refl get_there refl
+get_used = found_good setting log is_run 105 get_use refl refl get_there refl
 
 -- the get from an empty ring: the value is 0, and no store was executed
-abbrev pub none_log : List Entry
-none_log = log
+abbrev pub none_use : Use
+none_use = use_of get get_tested get_at (the_put ∷ [])
+    (λ q. eqb (value_of setting get_slots q.thread q.reached) 0 && stores_none q)
 
-abbrev pub none_fits : Sequence → Bool
-none_fits q = eqb (value_of setting get_slots q.thread q.reached) 0 && stores_none q
-
-none_good : is_good setting get get_tested get_at area 1 (the_put ∷ []) none_fits (history setting none_log)
-    ≡ true
+pub none_used : IsGood setting log 127 none_use
 unfolding by_rules
-none_good = refl
-
-pub none_used : IsGood setting none_log get get_at area (the_put ∷ []) none_fits
-none_used =
-    found_good setting none_log get get_tested get_at area 1 (the_put ∷ []) none_fits is_run none_good refl
-    get_there refl
+none_used = found_good setting log is_run 127 none_use refl refl get_there refl
 
 -- A RETRY
 
@@ -239,11 +213,8 @@ retried =
     retried_so setting the_put 1 first_time (take 24 (drop 11 log)) (take 2 (drop 35 log))
     (take 2 (drop 37 log)) comes_back
 
-pub used_again : IsUsedSo setting put_log put put_at area 1 (the_get ∷ [])
-used_again =
-    used_so setting put_log put put_tested put_at area 1 (the_get ∷ []) put_fits put_run put_good refl
-    put_there
-    refl
+pub used_again : IsUsedSo setting (take 69 log) put_use
+used_again = used_so setting log is_run 69 put_use put_good refl put_there refl
 
 pub runs_anew : running setting 0 (history setting anew) ≡ Some 1
 unfolding by_rules
@@ -293,19 +264,15 @@ unfolding by_table
 full_there = (refl, (refl, (refl, (refl, (refl, (refl, (refl, (refl, (refl, (refl, (refl, (refl, (refl, (refl, (refl, (refl, (refl, (refl, (refl, (refl, (refl, (refl, (refl, (refl, (refl, (refl, (refl, (refl, tt))))))))))))))))))))))))))))
 
 -- the value is 0, head and tail are as they were, and no store was executed
-abbrev pub full_fits : Sequence → Bool
-full_fits q =
-    eqb (value_of full_setting full_slots q.thread q.reached) 0
+abbrev pub full_use : Use
+full_use = use_of full_put full_tested full_at []
+    (λ q. eqb (value_of full_setting full_slots q.thread q.reached) 0
     && (is_just (word_seen full_setting 0 (ring_of full_setting full_slots q) q.reached) (2 ^ 64 - 1)
     && (is_just (word_seen full_setting 0 (ring_of full_setting full_slots q + 8) q.reached) 511
-    && stores_none q))
+    && stores_none q)))
 
-full_good : is_good full_setting full_put full_tested full_at area 1 [] full_fits
-    (history full_setting full_log) ≡ true
+pub full_used : IsGood full_setting full_log 27 full_use
 unfolding by_rules
-full_good = refl
-
-pub full_used : IsGood full_setting full_log full_put full_at area [] full_fits
 full_used =
-    found_good full_setting full_log full_put full_tested full_at area 1 [] full_fits
-    (played_is_run full_setting full_lines full_log full_played).0 full_good refl full_there refl
+    found_good full_setting full_log (played_is_run full_setting full_lines full_log full_played).0 27 full_use
+    refl refl full_there refl

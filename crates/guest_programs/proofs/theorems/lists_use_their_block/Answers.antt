@@ -1,4 +1,4 @@
-use Rattle.std.proofs.Common.{[], ◌∷◌, eqb, refl}
+use Rattle.std.proofs.Common.{[], ◌∷◌, eqb, refl, take}
 use Rattle.std.proofs.lemmas.Bool.{and_parts, eqb-true}
 use Rattle.percpu_lib.specs.Adds.{cell_seen}
 use Rattle.percpu_lib.specs.Pushes.{node_of}
@@ -17,7 +17,7 @@ returns c = record {
         assembler_of Lists list_words,
         code_of_words list_words,
         example.listing,
-        example.push_log,
+        take 62 example.log,
         example.push_slots,
         example.push_at,
         example.push_area,
@@ -39,7 +39,7 @@ returns c = record {
         assembler_of Lists list_words,
         code_of_words list_words,
         example.listing,
-        example.log,
+        take 137 example.log,
         example.pop_slots,
         example.pop_at,
         example.pop_area,

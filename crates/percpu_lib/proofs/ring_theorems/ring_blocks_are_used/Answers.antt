@@ -1,4 +1,4 @@
-use Rattle.std.proofs.Common.{◌+◌, ◌-◌, ◌^◌, [], ◌∷◌, ◌∙◌, sym, eqb, refl, length}
+use Rattle.std.proofs.Common.{◌+◌, ◌-◌, ◌^◌, [], ◌∷◌, ◌∙◌, sym, eqb, refl, length, take}
 use Rattle.std.proofs.lemmas.Bool.{and_parts, eqb-true}
 use Rattle.mach_types.specs.Kernel.Areas.{is_inside}
 use Rattle.block_model.specs.History.{file, stores}
@@ -57,7 +57,7 @@ returns c = record {
       let one = and_parts (is_just (word_seen example.setting 0 at q.reached) 7) _ its.passes in
       let two = and_parts (is_just (word_seen example.setting 0 (at + 8) q.reached) 9) _ one.1 in (
         example.setting,
-        example.get_log,
+        take 105 example.log,
         example.get_slots,
         example.get_at,
         example.area,
@@ -75,7 +75,7 @@ returns c = record {
       let one = and_parts (eqb (value_of example.setting example.get_slots q.thread q.reached) 0) _
       its.passes in (
         example.setting,
-        example.none_log,
+        take 127 example.log,
         example.get_slots,
         example.get_at,
         example.area,
@@ -96,7 +96,7 @@ returns c = record {
       let three = and_parts (is_just (word_seen example.full_setting 0 (ring + 8) q.reached) 511) _
       two.1 in (
         example.full_setting,
-        example.full_log,
+        take 27 example.full_log,
         example.full_slots,
         example.full_at,
         example.area,

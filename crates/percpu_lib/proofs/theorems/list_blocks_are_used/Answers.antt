@@ -1,4 +1,4 @@
-use Rattle.std.proofs.Common.{[], ◌∷◌}
+use Rattle.std.proofs.Common.{[], ◌∷◌, take}
 use Rattle.std.proofs.lemmas.Bool.{eqb-true}
 use Rattle.mach_types.specs.Registers.{register}
 use Rattle.block_model.specs.History.{file}
@@ -12,7 +12,7 @@ pub returns : goal.returns
 returns c = record {
   push = (
     example.setting,
-    example.push_log,
+    take 36 example.log,
     example.push_slots,
     example.push_at,
     example.area,
@@ -25,7 +25,7 @@ returns c = record {
   );
   pop = (
     example.setting,
-    example.pop_log,
+    take 49 example.log,
     example.pop_slots,
     example.pop_at,
     example.area,
@@ -37,7 +37,7 @@ returns c = record {
   );
   empty = (
     example.setting,
-    example.empty_log,
+    take 61 example.log,
     example.pop_slots,
     example.pop_at,
     example.area,

@@ -1,4 +1,4 @@
-use Rattle.std.proofs.Common.{[], ◌∷◌, eqb}
+use Rattle.std.proofs.Common.{[], ◌∷◌, eqb, take}
 use Rattle.std.proofs.lemmas.Bool.{and_parts, eqb-true}
 use Rattle.mach_types.specs.Registers.{register}
 use Rattle.block_model.specs.History.{file}
@@ -13,7 +13,7 @@ pub returns : goal.returns
 returns c = record {
   free = (
     example.setting,
-    example.free_log,
+    take 51 example.log,
     example.free_slots,
     example.free_at,
     example.area,
@@ -27,7 +27,7 @@ returns c = record {
   );
   alloc = (
     example.setting,
-    example.alloc_log,
+    take 68 example.log,
     example.alloc_slots,
     example.alloc_at,
     example.area,
@@ -39,7 +39,7 @@ returns c = record {
   );
   none = (
     example.setting,
-    example.none_log,
+    take 81 example.log,
     example.alloc_slots,
     example.alloc_at,
     example.area,
@@ -55,7 +55,7 @@ returns c = record {
       let both = and_parts (eqb (register (file example.full_setting its.sequence.thread its.sequence.reached).file 18) 42) _
       its.passes in (
         example.full_setting,
-        example.full_log,
+        take 22 example.full_log,
         example.free_slots,
         example.free_at,
         example.area,
