@@ -77,10 +77,10 @@ def loads_by_writer(values: Values) -> tuple[dict[int, list[Step]], dict[int, li
     """The steps that saw a store while it waited, by the number of the store's step; and those that saw a
     write in memory, by the number of the step in which it entered."""
     early, late = defaultdict(list), defaultdict(list)
-    for step, facts in values.trace.records:
-        sources = {(fact.source, fact.line) for fact in facts if type(fact) is Read and fact.source != START}
+    for record in values.trace.records:
+        sources = {(fact.source, fact.line) for fact in record.of_kind(Read) if fact.source != START}
         for source, line in sorted(sources):
-            (late if source == MEMORY else early)[line].append(step)
+            (late if source == MEMORY else early)[line].append(record.step)
     return early, late
 
 

@@ -3,6 +3,7 @@ from __future__ import annotations
 
 import argparse
 import gc
+import itertools
 import sys
 from collections.abc import Iterable
 from dataclasses import replace
@@ -31,6 +32,7 @@ from .values import Values, read_values
 from .watching import watch
 
 FAULT_STATUS = 2
+ROWS_AT_ONCE = 1_000
 
 
 def make_parser() -> argparse.ArgumentParser:
@@ -279,6 +281,13 @@ def write_out(path: str | None, parts: Iterable[str]) -> None:
         raise LensFault(f'{path or "standard output"}: {error.strerror}') from None
 
 
+def write_rows(rows: Iterable[str]) -> None:
+    """Writes lines, some at once."""
+    left = iter(rows)
+    pieces = iter(lambda: list(itertools.islice(left, ROWS_AT_ONCE)), [])
+    write_out(None, ('\n'.join([*piece, '']) for piece in pieces))
+
+
 def list_command(arguments: argparse.Namespace) -> None:
     history = read_history(arguments)
     for number in (arguments.around, arguments.first, arguments.last):
@@ -293,7 +302,7 @@ def list_command(arguments: argparse.Namespace) -> None:
         chosen_steps(history, arguments),
     )
     values = read_values(history, machine_of(arguments)) if arguments.values else None
-    write_out(None, (f'{line}\n' for line in list_run(history, chosen, values)))
+    write_rows(list_run(history, chosen, values))
 
 
 def chosen_steps(history: History, arguments: argparse.Namespace) -> set[int] | None:
@@ -375,12 +384,12 @@ def calls_command(arguments: argparse.Namespace) -> None:
         rows = list_traced_calls(read_values(history, machine), arguments.thread)
     else:
         rows = list_calls(history, machine, arguments.thread)
-    write_out(None, (f'{row}\n' for row in rows))
+    write_rows(rows)
 
 
 def sequences_command(arguments: argparse.Namespace) -> None:
     rows = list_sequences(values_of(arguments), arguments.thread, arguments.values)
-    write_out(None, (f'{row}\n' for row in rows))
+    write_rows(rows)
 
 
 def watch_command(arguments: argparse.Namespace) -> None:
@@ -391,16 +400,16 @@ def watch_command(arguments: argparse.Namespace) -> None:
         hart=arguments.hart, thread=arguments.thread, first=arguments.first, last=arguments.last
     )
     rows = watch(values, arguments.variable, chosen)
-    write_out(None, (f'{row}\n' for row in rows))
+    write_rows(rows)
 
 
 def races_command(arguments: argparse.Namespace) -> None:
-    write_out(None, (f'{row}\n' for row in list_races(values_of(arguments))))
+    write_rows(list_races(values_of(arguments)))
 
 
 def why_command(arguments: argparse.Namespace) -> None:
     history = read_history(arguments)
-    write_out(None, (f'{line}\n' for line in explain(history, machine_of(arguments))))
+    write_rows(explain(history, machine_of(arguments)))
 
 
 def shrink_command(arguments: argparse.Namespace) -> None:
@@ -425,7 +434,9 @@ def main() -> int:
     gc.disable()  # (a run is read as a whole, and nothing of it goes before the end)
     try:
         arguments = make_parser().parse_args()
-        return arguments.action(arguments) or 0
+        status = arguments.action(arguments) or 0
+        sys.stdout.flush()
+        return status
     except LensFault as fault:
         print(f'lens: {fault}', file=sys.stderr)
         return FAULT_STATUS

@@ -2,6 +2,7 @@
 """
 from __future__ import annotations
 
+import re
 from collections.abc import Iterator
 from dataclasses import dataclass
 
@@ -15,6 +16,10 @@ from .program import Program
 from .trace_text import Record, Trace
 
 PAGE, WORD = 4_096, 8
+TOLD = {Read, Waits, Wrote, Zeroed, Reservation}
+"""The facts of which a listing says something."""
+ACCESS = re.compile(r'^  (?:read|waits|wrote|zeroed|failed) ', re.MULTILINE)
+"""A line of one of these; most events have none."""
 
 
 def number_words(program: Program, value: int, size: int) -> str:
@@ -22,10 +27,11 @@ def number_words(program: Program, value: int, size: int) -> str:
     hexadecimal, or the variable or the function whose address it is."""
     if value < PAGE:
         return str(value)
-    if value >= (1 << 8 * size) - PAGE and size > 1:
+    if size > 1 and value >= (1 << 8 * size) - PAGE:
         return str(value - (1 << 8 * size))
+    shown = f'{value:#x}'
     name = program.target(value) if size == WORD else ''
-    return f'{value:#x}' if name in ('', f'{value:#x}') else f'&{name}'
+    return shown if name in ('', shown) else f'&{name}'
 
 
 @dataclass(frozen=True)
@@ -78,30 +84,45 @@ class Values:
             return 'since the start'
         return self.writer(read.line) if read.source == MEMORY else f'own store of step {read.line}'
 
+    def sources(self, reads: list[Read]) -> str:
+        """Where the bytes of one access came from."""
+        if len(reads) == 1:
+            return self.source(reads[0])
+        return ' and '.join(dict.fromkeys(map(self.source, reads)))
+
     def words(self, step: Step) -> str:
         """What a step read and wrote, in a few words; empty where that is nothing."""
-        return '; '.join(self.parts(step))
-
-    def parts(self, step: Step) -> Iterator[str]:
-        record = self.record(step)
-        reads = list(record.of_kind(Read))
-        if reads:
-            whole = joined(reads)
-            sources = ' and '.join(dict.fromkeys(map(self.source, reads)))
-            yield f'{self.place(whole.at, whole.size)} = {self.number(whole.value, whole.size)}, {sources}'
-        written = [words for fact in record.facts if (words := self.of_fact(fact, bool(reads)))]
+        record = self.trace.records[step.number - 1]
+        if not (record.lines and ACCESS.search(record.lines)):
+            return ''
+        told = [fact for fact in record.facts if type(fact) in TOLD]
+        reads = [fact for fact in told if type(fact) is Read]
+        written = [words for fact in told if (words := self.of_fact(fact, bool(reads)))]
+        parts = [self.of_reads(reads)] if reads else []
         if written:
-            yield ('' if self.is_own(step) else 'kernel: ') + ', '.join(written)
+            parts.append(('' if self.is_own(step) else 'kernel: ') + ', '.join(written))
+        return '; '.join(parts)
+
+    def of_reads(self, reads: list[Read]) -> str:
+        """What one access read, which may be bytes from several places."""
+        whole = joined(reads)
+        return f'{self.put(whole.at, whole.size, whole.value)}, {self.sources(reads)}'
+
+    def put(self, at: int, size: int, value: int) -> str:
+        """What stands in some bytes."""
+        program = self.history.program
+        return f'{program.bytes_of(at, size)} = {number_words(program, value, size)}'
 
     def of_fact(self, fact: Fact, is_read: bool) -> str:
         """A write, or an SC that failed. Behind a read the place of a write isn't named again."""
         match fact:
-            case Waits(at, size, value):
-                return f'{self.place(at, size)} = {self.number(value, size)}, waits'
-            case Wrote(at, size, value, old, _):
-                put = f'{self.place(at, size)} = {self.number(value, size)}'
+            case Waits():
+                return f'{self.put(*fact)}, waits'
+            case Wrote():
+                at, size, value, old, _ = fact
                 if is_read:
                     return f'then {self.number(value, size)}'
+                put = self.put(at, size, value)
                 return put if old is None else f'{put} in place of {self.number(old, size)}'
             case Zeroed(at, length):
                 return f'{length} bytes of 0 at {self.history.program.variable(at)}'
@@ -113,6 +134,8 @@ class Values:
 def joined(reads: list[Read]) -> Read:
     """The facts of one read as one, which are bytes that stand side by side."""
     first = reads[0]
+    if len(reads) == 1:
+        return first
     value = sum(read.value << 8 * (read.at - first.at) for read in reads)
     return first._replace(size=sum(read.size for read in reads), value=value)
 
