@@ -3,7 +3,7 @@
 ghost use Rattle.std.specs.Prelude.{◌≡◌, ◌<◌, ◌≤◌, None, true, slice_index_or};
 ghost use Rattle.draw_policies.specs.Turns.{turn};
 ghost use Rattle.drawings.specs.Drawings as drawings;
-ghost use Rattle.drawings.specs.Scenes.{is_able};
+ghost use Rattle.drawings.specs.Scenes.{is_able, startable};
 
 use crate::harts::{Harts, able_by_word};
 use crate::priorities::Lots;
@@ -109,11 +109,23 @@ impl Drawing {
         prove!(count <= 8);
         let sight = harts.look(Hart(hart), self.opened);
         if sight.idle {
-            let threads = harts.startable(Hart(hart), self.opened);
-            self.turn_with(hart, &sight, &threads, word)
+            self.idle_turn_at(harts, hart, &sight, word)
         } else {
             self.turn_with(hart, &sight, &[], word)
         }
+    }
+
+    /// What an idle hart of which this is seen does in its turn. In a function of its own, so that no other turn has a list of threads.
+    #[inline(never)]
+    fn idle_turn_at<H: Harts>(&self, harts: &H, hart: u8, sight: &Sight, word: Word) -> Option<Turn>
+        requires hart { hart < 8 }
+        requires opened { self.now.opened ≤ 8 }
+        ensures { result ≡ turn (drawings.current self.now) sight.now
+            (startable self.now.opened hart (H.scene harts.now).scheduling)
+            (slice_index_or self.now.ran hart None) (slice_index_or self.now.aims hart None) word.0 }
+    {
+        let threads = harts.startable(Hart(hart), self.opened);
+        self.turn_with(hart, sight, &threads, word)
     }
 
     /// What a hart of which this is seen does in its turn where these threads may begin to run there.

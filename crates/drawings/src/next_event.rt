@@ -48,6 +48,7 @@ impl Drawing {
     }
 
     /// The next event by a word.
+    #[inline(never)]
     fn next_by_word<H: Harts>(&mut self, harts: &H) -> Option<DrawnEvent>
         requires { drawings.IsFor (H.scene harts.now).harts self.old }
         ensures event { result
@@ -63,6 +64,7 @@ impl Drawing {
     }
 
     /// The next event by priorities.
+    #[inline(never)]
     fn next_by_priority<H: Harts>(&mut self, harts: &H) -> Option<DrawnEvent>
         requires { drawings.IsFor (H.scene harts.now).harts self.old }
         ensures event { result

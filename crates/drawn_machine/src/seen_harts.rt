@@ -1,9 +1,10 @@
 //! The harts of a machine, as a policy sees them.
 
-ghost use Rattle.std.specs.Prelude.{◌≡◌, ◌<◌, ◌≤◌, true, length, nat_lt};
-ghost use Rattle.block_model.specs.Sights.{is_all_taken};
+ghost use Rattle.std.specs.Prelude.{◌≡◌, ◌<◌, ◌≤◌, ℕ, [], true, length, nat_lt};
+ghost use Rattle.std.specs.Bool.{OnTrue};
+ghost use Rattle.block_model.specs.{Deciding.history, History.waiting, Sights.is_all_taken};
 ghost use Rattle.drawings.specs.Scenes.{is_able, startable};
-ghost use Rattle.drawn_machine.specs.Scenes.{scene_of};
+ghost use Rattle.drawn_machine.specs.Scenes.{NoneBegins, scene_of};
 
 use crate::starting_threads::{has_startable_thread, startable_threads};
 use arrayvec::ArrayVec;
@@ -18,6 +19,7 @@ pub struct SeenHarts<'a> {
     /// The machine.
     pub machine: &'a Machine,
     ghost few: { machine.now.setting.limits.harts ≤ 8 },
+    ghost starts: { NoneBegins machine.now },
 }
 
 /// Whether no hart is left in a set of harts.
@@ -38,7 +40,32 @@ impl SeenHarts<'_> {
             ≡ nat_lt 0 (length (startable opened hart.0 (scene_of self.now.machine.now).scheduling)) }
     {
         let kernel = self.machine.kernel();
-        has_startable_thread(&kernel.threads, &kernel.ready, hart, opened)
+        kernel.ready.first_for(hart).is_some()
+            && has_startable_thread(&kernel.threads, &kernel.ready, hart, opened)
+    }
+
+    /// Whether the thread on a hart is inside the sequence that its area names.
+    fn is_inside_named(&self, hart: Hart) -> bool
+        requires { hart.0 < self.now.machine.now.setting.limits.harts }
+        ensures { result ≡ (scene_of self.now.machine.now).is_inside hart.0 }
+    {
+        match self.machine.named(hart) {
+            Named::Good(sequence) => sequence.is_inside(self.machine.hart(hart).pc),
+            Named::Nothing | Named::Bad(_) => false,
+        }
+    }
+
+    /// Whether no store waits on any hart: then each thread that waits in no barrier may execute its next instruction.
+    fn is_drained(&self) -> bool
+        ensures { OnTrue result ((k : ℕ) → k < self.now.machine.now.setting.limits.harts
+            → waiting k (history self.now.machine.now.setting self.now.machine.now.log) ≡ []) }
+    {
+        for number in 0..self.machine.harts() {
+            if self.machine.hart(Hart(number)).buffer.len() != 0 {
+                return false;
+            }
+        }
+        true
     }
 
     /// Whether the thread on a hart may execute its next instruction.
@@ -46,7 +73,11 @@ impl SeenHarts<'_> {
         requires { hart.0 < self.now.machine.now.setting.limits.harts }
         ensures { result ≡ ((scene_of self.now.machine.now).sight hart.0).exec_enabled }
     {
-        self.machine.sight(hart).exec_enabled
+        let state = self.machine.hart(hart);
+        if state.is_idle() || state.waits.is_some() {
+            return false;
+        }
+        self.is_drained() || self.machine.sight(hart).exec_enabled
     }
 
     /// The same of a hart that can make an event, where the first so many harts are open: if no store of it waits, that is an
@@ -108,10 +139,7 @@ impl Harts for SeenHarts<'_> {
     }
 
     fn is_inside(&self, hart: Hart) -> bool {
-        match self.machine.named(hart) {
-            Named::Good(sequence) => sequence.is_inside(self.machine.hart(hart).pc),
-            Named::Nothing | Named::Bad(_) => false,
-        }
+        !self.machine.kernel().areas.is_empty() && self.is_inside_named(hart)
     }
 
     fn next_access(&self, hart: Hart) -> Option<Access> {

@@ -10,6 +10,6 @@ returns-else-sight g c =
     let scene = g.H.Harts.scene c.args.harts.now in
     let d = c.args.self.now in
     let h = c.args.hart in
-    c.turn_with-else-sight.ensures
+    c.turn_with.ensures
     ∙ same_turn (current d) c.look-sight.result (scene.sight h) [] (startable d.opened h scene.scheduling) (slice_index_or d.ran h None)
     (slice_index_or d.aims h None) c.args.word.0 c.look-sight.ensures c.if-sight.false
