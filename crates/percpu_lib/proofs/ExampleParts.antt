@@ -48,6 +48,17 @@ entry k t pc = record { hart = record { 0 = 0 }; kind = k; tid = record { 0 = t 
 abbrev pub execs : ℕ → List Ask
 execs n = replicate n (line asked.Exec)
 
+-- a thread runs, executes so many instructions, whose stores then enter memory, is preempted, runs again and
+-- executes so many more
+abbrev pub cut_after : ℕ → ℕ → ℕ → List Ask
+cut_after n stores rest =
+    line (asked.Run (record { 0 = 1 }))
+    ∷ (execs n
+    ++ (replicate stores (line asked.Drain)
+    ++ line asked.Preempt
+    ∷ line (asked.Run (record { 0 = 1 }))
+    ∷ execs rest))
+
 -- so many instructions of a thread, one word behind the other, from an address on; and of thread 1
 abbrev pub walk_of : ℕ → ℕ → ℕ → List Entry
 walk_of t pc zero = []
@@ -238,48 +249,49 @@ each_beside b (x ∷ rest) is other (zero, lt, at) =
 each_beside b (x ∷ rest) is other (suc k, lt, at) =
     each_beside b rest (and_parts (stands_apart b x) (stand_apart b rest) is).1 other (k, omega arith, at)
 
--- a block as the thread of a log uses it: its form and what is tested of that, where it stands, its area, the
--- thread, the other blocks of the area, and what its last sequence has done
+-- a block as the thread of a log uses it: its form and what is tested of that, where it stands, its area and the
+-- thread
 pub record Use : Type 1 where
   pub form : Form
   pub tested : IsTested form
   pub at : ℕ
   pub area : Area
   pub thread : ℕ
-  pub others : List Placed
-  pub fits : Sequence → Bool
 
 -- by thread 1, with the area that the programs register
-abbrev pub use_of : (form : Form) → IsTested form → ℕ → List Placed → (Sequence → Bool) → Use
-use_of form tested at others fits =
-    record { form = form; tested = tested; at = at; area = own_area; thread = 1; others = others; fits = fits }
+abbrev pub use_of : (form : Slots → Form) → ((p : Slots) → IsTested (form p)) → Slots → ℕ → Use
+use_of form tested p at = record { form = form p; tested = tested p; at = at; area = own_area; thread = 1 }
+
+abbrev pub place_of : Use → Placed
+place_of u = placed_of u.form u.at u.area
 
 -- what is found of a log at once: the thread uses the block well, beside others, and its last sequence on
--- hart 0 has come to the post-commit address, and passes the test
-abbrev pub commits_so : Setting → Use → Sequence → Bool
-commits_so s u q =
+-- hart 0 has come to the post-commit address, and passes a test
+abbrev pub commits_so : Setting → Use → (Sequence → Bool) → Sequence → Bool
+commits_so s u fits q =
     eqb q.thread u.thread
     && (is_inside (range_of u.form u.at) (file s u.thread q.begun).pc
-    && (eqb (file s u.thread q.reached).pc (u.at + 4 * committed u.form) && u.fits q))
+    && (eqb (file s u.thread q.reached).pc (u.at + 4 * committed u.form) && fits q))
 
-abbrev pub is_good : Setting → Use → History → Bool
-is_good s u before =
+abbrev pub is_good : Setting → Use → List Placed → (Sequence → Bool) → History → Bool
+is_good s u others fits before =
     are_fine s u.form u.tested u.at u.area u.thread before
     && (always_begins_freely s u.form u.tested u.at u.area u.thread before
-    && (shares_so s u.form u.tested u.at u.area u.thread u.others before
-    && option_map_or (commits_so s u) (sequence_on s 0 before) false))
+    && (shares_so s u.form u.tested u.at u.area u.thread others before
+    && option_map_or (commits_so s u fits) (sequence_on s 0 before) false))
 
 -- the first entries of a log are such
-pub record IsGood (s : Setting) (log : List Entry) (n : ℕ) (u : Use) : Type 0 where
+pub record IsGood (s : Setting) (log : List Entry) (n : ℕ) (u : Use) (others : List Placed) (fits : Sequence → Bool)
+    : Type 0 where
   pub sequence : Sequence
-  pub used : IsWellUsed s (take n log) u.form u.at u.area u.others sequence
-  pub passes : u.fits sequence ≡ true
+  pub used : IsWellUsed s (take n log) u.form u.at u.area others sequence
+  pub passes : fits sequence ≡ true
 
-pub record IsUsedSo (s : Setting) (log : List Entry) (u : Use) : Type 0 where
+pub record IsUsedSo (s : Setting) (log : List Entry) (u : Use) (others : List Placed) : Type 0 where
   pub run : IsBlockRun s log
   pub holds : HoldsBlock s (history s log) u.form u.at u.area u.thread
-  pub begins : CanAlwaysBegin s (placed_of u.form u.at u.area) u.thread (history s log)
-  pub shares : SharesAreaWith s (history s log) (placed_of u.form u.at u.area) u.thread u.others
+  pub begins : CanAlwaysBegin s (place_of u) u.thread (history s log)
+  pub shares : SharesAreaWith s (history s log) (place_of u) u.thread others
 
 -- the first entries of a run are one
 run_to : (s : Setting) (log : List Entry) (n : ℕ) → IsBlockRun s log → IsBlockRun s (take n log)
@@ -288,11 +300,12 @@ run_to s log n run =
     (subst (IsBlockRun s) (sym (take-append-drop n log)) run)
 
 module _ (s : Setting) (whole : List Entry) (is_run : IsBlockRun s whole) (n : ℕ) (u : Use)
-    (good : is_good s u (history s (take n whole)) ≡ true) (low : is_low s u.form u.at u.area ≡ true)
+    (others : List Placed) (fits : Sequence → Bool)
+    (good : is_good s u others fits (history s (take n whole)) ≡ true) (low : is_low s u.form u.at u.area ≡ true)
     (there : AreThere (code_of s.program.pages) u.at u.form.words)
-    (apart : stand_apart (placed_of u.form u.at u.area) u.others ≡ true)
+    (apart : stand_apart (place_of u) others ≡ true)
   where
-    open u use {form, tested, at, area, thread as t, others, fits}
+    open u use {form, tested, at, area, thread as t}
 
     abbrev log : List Entry
     log = take n whole
@@ -306,20 +319,20 @@ module _ (s : Setting) (whole : List Entry) (is_run : IsBlockRun s whole) (n : �
     one : (are_fine s form tested at area t past ≡ true)
         × (always_begins_freely s form tested at area t past
         && (shares_so s form tested at area t others past
-        && option_map_or (commits_so s u) (sequence_on s 0 past) false) ≡ true)
+        && option_map_or (commits_so s u fits) (sequence_on s 0 past) false) ≡ true)
     one = and_parts (are_fine s form tested at area t past) _ good
 
     two : (always_begins_freely s form tested at area t past ≡ true)
         × (shares_so s form tested at area t others past
-        && option_map_or (commits_so s u) (sequence_on s 0 past) false ≡ true)
+        && option_map_or (commits_so s u fits) (sequence_on s 0 past) false ≡ true)
     two = and_parts (always_begins_freely s form tested at area t past) _ one.1
 
     three : (shares_so s form tested at area t others past ≡ true)
-        × (option_map_or (commits_so s u) (sequence_on s 0 past) false ≡ true)
+        × (option_map_or (commits_so s u fits) (sequence_on s 0 past) false ≡ true)
     three = and_parts (shares_so s form tested at area t others past) _ two.1
 
     -- what holds of the thread, whichever its last sequence is
-    pub used_so : IsUsedSo s log u
+    pub used_so : IsUsedSo s log u others
     used_so = record {
       run = run;
       holds = holds_so s form tested at area t past run.allowed one.0 low there;
@@ -329,8 +342,8 @@ module _ (s : Setting) (whole : List Entry) (is_run : IsBlockRun s whole) (n : �
     }
 
     found : (o : Option Sequence) → sequence_on s 0 past ≡ o
-        → option_map_or (commits_so s u) o false ≡ true
-        → IsGood s whole n u
+        → option_map_or (commits_so s u fits) o false ≡ true
+        → IsGood s whole n u others fits
     found None is test = absurd (false≢true test)
     found (Some q) is test =
         let first = and_parts (eqb q.thread t) _ test in
@@ -352,7 +365,7 @@ module _ (s : Setting) (whole : List Entry) (is_run : IsBlockRun s whole) (n : �
           passes = third.1;
         }
 
-    pub found_good : IsGood s whole n u
+    pub found_good : IsGood s whole n u others fits
     found_good = found (sequence_on s 0 past) refl three.1
 
 -- a last sequence on hart 0 that passes a test
@@ -372,3 +385,13 @@ sequence_found s log fits there = by_what (sequence_on s 0 (history s log)) refl
         → IsFound s log fits
     by_what None is test = absurd (false≢true test)
     by_what (Some q) is test = record { sequence = q; is = is; passes = test }
+
+-- a use of which a fact is known, as the laws ask for one
+pub is_shown : (form : Slots → Form) (tested : (p : Slots) → IsTested (form p))
+    (Fact : Setting → Slots → Sequence → Type 0) (s : Setting) (log : List Entry) (n : ℕ) (p : Slots) (at : ℕ)
+    (others : List Placed) (fits : Sequence → Bool) → IsGood s log n (use_of form tested p at) others fits
+    → ((q : Sequence) → fits q ≡ true → Fact s p q)
+    → (s : Setting) × (log : List Entry) × (p : Slots) × (at : ℕ) × (area : Area) × (others : List Placed)
+    × (q : Sequence) × IsWellUsed s log (form p) at area others q × Fact s p q
+is_shown form tested Fact s log n p at others fits good so =
+    (s, take n log, p, at, own_area, others, good.sequence, good.used, so good.sequence good.passes)

@@ -15,7 +15,7 @@ returns c =
       example.counting,
       take 66 example.log,
       example.slots,
-      example.at,
+      example.add.at,
       example.area,
       0,
       its.sequence,
