@@ -5,7 +5,6 @@ from collections.abc import Iterator
 
 from .faults import LensFault
 from .program import Program
-from .values import number_words
 from .watching import Range, watched
 
 WORD = 8
@@ -54,7 +53,7 @@ def words_of(program: Program, ranges: list[Range], at: int, value: str) -> Iter
             yield name
         else:
             number = int(value, 16) >> 8 * (start - at) & ((1 << 8 * size) - 1)
-            yield f'{name} = {number_words(program, number, size)}'
+            yield f'{name} = {program.number(number, size)}'
 
 
 def parts_of(program: Program, ranges: list[Range], at: int) -> Iterator[tuple[str, int, int]]:

@@ -12,7 +12,9 @@ from .faults import LensFault
 from .output import Step, fields_of
 
 END = 'end '
+BETWEEN = '\n  line \n'
 RECORD = re.compile(r'(.*)\n  line ([0-9]+)\n((?:  .*\n)*)')
+"""A log line, its number, and the lines below that, with BETWEEN between them."""
 SLEEPER = re.compile(r'thread (?P<thread>[0-9]+) waiting (?P<at>[0-9a-f]{16})')
 
 
@@ -56,7 +58,7 @@ def parse_trace(name: str, text: bytes) -> Trace:
     if not shown.endswith('\n') or not last.startswith(END):
         raise NotATrace(f'{name}: it is no whole text of `trace`: a line "end REASON" is due where it ends')
     told, waiting = without_sleepers(lines)
-    return Trace(list(records(name, told)), waiting, last.removeprefix(END))
+    return Trace(records(name, told), waiting, last.removeprefix(END))
 
 
 def without_sleepers(lines: str) -> tuple[str, dict[int, int]]:
@@ -70,18 +72,16 @@ def without_sleepers(lines: str) -> tuple[str, dict[int, int]]:
     return lines, dict(reversed(waiting.items()))
 
 
-def records(name: str, text: str) -> Iterator[Record]:
+def records(name: str, text: str) -> list[Record]:
     """One for each log line, with the lines up to the next. The last has no newline."""
-    end = 0
-    for found in RECORD.finditer(f'{text}\n' if text else ''):
-        line, number, lines = found.groups()
-        fields = of_line(line)
-        if fields is None or found.start() != end:
-            break
-        end = found.end()
-        yield Record(Step(int(number), *fields), lines)
-    if end < len(text):
-        raise fault(name, text, end)
+    whole = f'{text}\n' if text else ''
+    found = RECORD.findall(whole)
+    fields = [of_line(line) for line, _, _ in found]
+    told = sum([len(line) + len(number) + len(lines) for line, number, lines in found])
+    if None in fields or told + len(BETWEEN) * len(found) < len(whole):
+        raise fault(name, whole)
+    steps = [Step(int(number), *words) for (_, number, _), words in zip(found, fields)]
+    return [Record(step, lines) for step, (_, _, lines) in zip(steps, found)]
 
 
 @cache
@@ -96,12 +96,15 @@ def facts_of(lines: str) -> tuple[Fact, ...]:
     return tuple([fact_of(line[2:]) for line in lines.splitlines()])
 
 
-def fault(name: str, text: str, end: int) -> NotATrace:
-    """What is wrong behind the records that could be read."""
+def fault(name: str, text: str) -> NotATrace:
+    """What is wrong behind the records that can be read."""
+    end = 0
+    while (found := RECORD.match(text, end)) and of_line(found[1]):
+        end = found.end()
     number, lines = text.count('\n', 0, end) + 1, text[end:].split('\n')
     due = 'a log line "HART KIND THREAD PC"'
     if of_line(lines[0]):
-        number, lines, due = number + 1, [*lines[1:], ''], 'a line "  line N"'
+        number, lines, due = number + 1, lines[1:], 'a line "  line N"'
     return NotATrace(
         f'{name}: it is no text of `trace`: {due} is due in line {number}, and {lines[0][:40]!r} came'
     )

@@ -2,9 +2,7 @@
 """
 from __future__ import annotations
 
-import re
-from collections.abc import Iterator
-from dataclasses import dataclass
+from functools import cache
 
 from .calls import name_of
 from .facts import MEMORY, START, Called, Fact, Read, Reservation, Waits, Wrote, Zeroed
@@ -15,45 +13,35 @@ from .output import DRAIN, EXEC, Step
 from .program import Program
 from .trace_text import Record, Trace
 
-PAGE, WORD = 4_096, 8
-TOLD = {Read, Waits, Wrote, Zeroed, Reservation}
-"""The facts of which a listing says something."""
-ACCESS = re.compile(r'^  (?:read|waits|wrote|zeroed|failed) ', re.MULTILINE)
-"""A line of one of these; most events have none."""
+TOLD = {Waits, Wrote, Zeroed, Reservation}
+"""The facts beside reads of which a listing says something."""
+BEHIND = '  x'
+"""How the line of a register begins. Accesses are told before registers, so an event that begins with one has
+none."""
 
 
-def number_words(program: Program, value: int, size: int) -> str:
-    """A value of so many bytes: a small one in decimal, with a sign where that makes it small; else in
-    hexadecimal, or the variable or the function whose address it is."""
-    if value < PAGE:
-        return str(value)
-    if size > 1 and value >= (1 << 8 * size) - PAGE:
-        return str(value - (1 << 8 * size))
-    shown = f'{value:#x}'
-    name = program.target(value) if size == WORD else ''
-    return shown if name in ('', shown) else f'&{name}'
-
-
-@dataclass(frozen=True)
 class Values:
     """A run, and what its events read and wrote."""
 
-    history: History
-    trace: Trace
+    def __init__(self, history: History, trace: Trace):
+        self.history = history
+        self.trace = trace
+        # (loads see the same write again and again)
+        self.writer = cache(self.find_writer)
 
     def record(self, step: Step) -> Record:
         return self.trace.records[step.number - 1]
 
     def number(self, value: int, size: int) -> str:
         """A value of so many bytes, in words."""
-        return number_words(self.history.program, value, size)
+        return self.history.program.number(value, size)
 
     def place(self, at: int, size: int) -> str:
         """The variable, or the member of one, that has so many bytes: where none has just these, the bytes
         of a variable."""
         return self.history.program.bytes_of(at, size)
 
-    def writer(self, line: int) -> str:
+    def find_writer(self, line: int) -> str:
         """The event of a line that wrote into memory."""
         step = self.history.output.steps[line - 1]
         if step.kind == DRAIN:
@@ -93,15 +81,17 @@ class Values:
     def words(self, step: Step) -> str:
         """What a step read and wrote, in a few words; empty where that is nothing."""
         record = self.trace.records[step.number - 1]
-        if not (record.lines and ACCESS.search(record.lines)):
+        if record.lines.startswith(BEHIND) or not record.lines:
             return ''
-        told = [fact for fact in record.facts if type(fact) in TOLD]
-        reads = [fact for fact in told if type(fact) is Read]
-        written = [words for fact in told if (words := self.of_fact(fact, bool(reads)))]
-        parts = [self.of_reads(reads)] if reads else []
-        if written:
-            parts.append(('' if self.is_own(step) else 'kernel: ') + ', '.join(written))
-        return '; '.join(parts)
+        facts = record.facts
+        reads = [fact for fact in facts if type(fact) is Read]
+        others = [fact for fact in facts if type(fact) in TOLD]
+        written = [words for fact in others if (words := self.of_fact(fact, bool(reads)))]
+        read = self.of_reads(reads) if reads else ''
+        if not written:
+            return read
+        put = ('' if self.is_own(step) else 'kernel: ') + ', '.join(written)
+        return f'{read}; {put}' if read else put
 
     def of_reads(self, reads: list[Read]) -> str:
         """What one access read, which may be bytes from several places."""
@@ -111,7 +101,7 @@ class Values:
     def put(self, at: int, size: int, value: int) -> str:
         """What stands in some bytes."""
         program = self.history.program
-        return f'{program.bytes_of(at, size)} = {number_words(program, value, size)}'
+        return f'{program.bytes_of(at, size)} = {program.number(value, size)}'
 
     def of_fact(self, fact: Fact, is_read: bool) -> str:
         """A write, or an SC that failed. Behind a read the place of a write isn't named again."""
