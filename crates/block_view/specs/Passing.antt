@@ -37,10 +37,13 @@ inside_at s h before = sequence_inside (named_at s h before) (pc_at s h before)
 -- whether an event of this kind interrupts a thread on its hart, where a request there asks for a restart or doesn't, and the hart is
 -- idle or isn't
 abbrev pub would_interrupt : Kind → Bool → Bool → Bool
+would_interrupt kind.Exec restart idle = false
+would_interrupt kind.Drain restart idle = false
 would_interrupt kind.Take restart idle = restart && not idle
+would_interrupt kind.Done restart idle = false
+would_interrupt kind.Preempt restart idle = false
 would_interrupt kind.Run restart idle = true
 would_interrupt kind.Signal restart idle = true
-would_interrupt other restart idle = false
 
 -- whether a signal ended the process
 abbrev pub is_by_signal : End → Bool

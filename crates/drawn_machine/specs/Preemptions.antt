@@ -10,8 +10,13 @@ use Rattle.drawn_runs.specs.DrawnRuns.{scene_at}
 
 -- whether a thread leaves its hart by an event of this kind
 abbrev pub is_preempt : Kind → Bool
+is_preempt kind.Exec = false
+is_preempt kind.Drain = false
+is_preempt kind.Take = false
+is_preempt kind.Done = false
 is_preempt kind.Preempt = true
-is_preempt other = false
+is_preempt kind.Run = false
+is_preempt kind.Signal = false
 
 -- whether it leaves inside a sequence by an event of hart h at this place
 abbrev pub leaves_inside : Setting → History → ℕ → Kind → Bool

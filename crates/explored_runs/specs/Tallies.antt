@@ -13,8 +13,13 @@ use Rattle.explored_runs.specs.declared.tallies.Tally.{Tally}
 
 -- whether a thread begins to run by an event of this kind
 abbrev pub is_run : Kind → Bool
+is_run kind.Exec = false
+is_run kind.Drain = false
+is_run kind.Take = false
+is_run kind.Done = false
+is_run kind.Preempt = false
 is_run kind.Run = true
-is_run other = false
+is_run kind.Signal = false
 
 -- whether a thread began to run on hart h
 abbrev pub ran_on : ℕ → List Entry → Bool

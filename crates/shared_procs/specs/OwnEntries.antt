@@ -26,7 +26,12 @@ use Rattle.shared_procs.specs.ReturningBarriers.{is_of_process}
 -- the hart before the entry. Any other entry of an idle hart belongs to none
 abbrev pub belongs_by : Pair → Bool → Entry → Kind → Bool
 belongs_by m p e kind.Run = is_of_process p (is_of_second e.tid.0)
-belongs_by m p e other = is_some (runs_in m p e.hart.0)
+belongs_by m p e kind.Exec = is_some (runs_in m p e.hart.0)
+belongs_by m p e kind.Drain = is_some (runs_in m p e.hart.0)
+belongs_by m p e kind.Take = is_some (runs_in m p e.hart.0)
+belongs_by m p e kind.Done = is_some (runs_in m p e.hart.0)
+belongs_by m p e kind.Preempt = is_some (runs_in m p e.hart.0)
+belongs_by m p e kind.Signal = is_some (runs_in m p e.hart.0)
 
 abbrev pub belongs : Pair → Bool → Entry → Bool
 belongs m p e = belongs_by m p e e.kind
@@ -44,12 +49,28 @@ abbrev pub reads : (ℕ → Option ℕ) → Effect → List (Option ℕ)
 reads view (effect.Load at size is_signed rd) = read_in_segment view at size
 reads view (effect.Amo op at size value rd) = read_in_segment view at size
 reads view (effect.Lr at size rd) = read_in_segment view at size
-reads view other = []
+reads view (effect.Next rd value to) = []
+reads view (effect.Store at size value) = []
+reads view (effect.Sc at size value rd) = []
+reads view (effect.Fence full) = []
+reads view effect.FenceI = []
+reads view effect.Call = []
+reads view effect.Break = []
+reads view effect.Misaligned = []
 
 -- whether it succeeds, where it is an SC in the segment
 abbrev pub succeeds : Option ℕ → Effect → Option Bool
 succeeds reserved (effect.Sc at size value rd) = if is_in_segment at then Some (is_reserved reserved at) else None
-succeeds reserved other = None
+succeeds reserved (effect.Next rd value to) = None
+succeeds reserved (effect.Load at size is_signed rd) = None
+succeeds reserved (effect.Store at size value) = None
+succeeds reserved (effect.Amo op at size value rd) = None
+succeeds reserved (effect.Lr at size rd) = None
+succeeds reserved (effect.Fence full) = None
+succeeds reserved effect.FenceI = None
+succeeds reserved effect.Call = None
+succeeds reserved effect.Break = None
+succeeds reserved effect.Misaligned = None
 
 -- what an instruction learns; one that faults learns nothing, and so does an event that is none
 pub record Learnt : Type 0 where
@@ -70,7 +91,12 @@ learnt_exec here (Some t) = learnt_by here (next_fault here t) (next_effect here
 
 abbrev pub learnt_of : Kind → Here → Learnt
 learnt_of kind.Exec here = learnt_exec here (runs here)
-learnt_of other here = nothing_learnt
+learnt_of kind.Drain here = nothing_learnt
+learnt_of kind.Take here = nothing_learnt
+learnt_of kind.Done here = nothing_learnt
+learnt_of kind.Preempt here = nothing_learnt
+learnt_of kind.Run here = nothing_learnt
+learnt_of kind.Signal here = nothing_learnt
 
 -- an own entry with what it learnt, and whether its call began a barrier: one that returns at once begins
 -- none
