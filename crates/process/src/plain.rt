@@ -10,7 +10,7 @@ ghost use Rattle.process.specs.PlainSteps.{Fits, IsPlainStep, stepped};
 ghost use Rattle.process.specs.Refinement.{HasCode, IsAlone, IsPlace, IsUncounted, answer_to};
 
 use crate::code::Code;
-use crate::next::instruction_at;
+use crate::next::kept_instruction;
 use crate::parts::{Parts, entry_of};
 use hart_state::HartState;
 use mach_types::{Choice, Entry, Hart, Kind, STORE_BUFFER_CAPACITY, Store, UserMem};
@@ -87,8 +87,8 @@ fn take_step(state: &mut HartState, step: PlainStep)
 }
 
 impl Parts {
-    /// [`Parts::exec_any`] where the next instruction of the thread on a hart is a plain one that may be executed;
-    /// else None, and nothing changes.
+    /// [`Parts::exec_any`] where the next instruction of the thread on a hart is one that the code keeps, a plain one that may be
+    /// executed; else None, and nothing changes.
     #[inline]
     pub(crate) fn exec_plain(&mut self, code: &Code, hart: Hart) -> Option<Entry>
         requires { HasCode code.now self.old hart.0 }
@@ -103,10 +103,10 @@ impl Parts {
         if state.is_idle() || state.waits.is_some() {
             return None;
         }
-        let Some(inst) = instruction_at(code, state.pc) else {
+        let Some(inst) = kept_instruction(code, state.pc) else {
             return None;
         };
-        let Some(step) = plain_step(state, &self.pages, &inst) else {
+        let Some(step) = plain_step(state, &self.pages, inst) else {
             return None;
         };
         let made = entry_of(hart, Kind::Exec, state);
