@@ -89,7 +89,7 @@ pub fn is_free(state: &HartState, effect: Option<&Effect>) -> bool
 
 /// What the instruction at a pc asks for, with these registers. None exactly where nothing can be executed
 /// there, or where the word there is no instruction.
-#[inline]
+#[inline(always)]
 pub fn effect_at(code: &Code, file: &Regs, pc: u64) -> Option<Effect>
     ensures effect { result ≡ next_effect code.now (record { file = file.now; pc = pc }) }
     ensures sizes { IfSome result HasAccessSizes }

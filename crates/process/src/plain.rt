@@ -37,7 +37,7 @@ pub(crate) enum PlainStep {
 /// What an instruction does on a hart on which a thread runs that waits in no barrier, where
 /// it is a plain one: it sets a register and the pc alone, loads bytes that can be read, or stores to bytes
 /// that can be written while there is room for one more store to wait. None where it is another.
-#[inline]
+#[inline(always)]
 fn plain_step(state: &HartState, pages: &PageMap, inst: &Inst) -> Option<PlainStep>
     ensures { IfSome result (IsPlainStep (byte_in pages.now) (can_write_in pages.now)
         (meaning inst.now state.now.file state.now.pc) state.now) }
@@ -69,7 +69,7 @@ fn plain_step(state: &HartState, pages: &PageMap, inst: &Inst) -> Option<PlainSt
 }
 
 /// Does to a hart what a plain instruction does.
-#[inline]
+#[inline(always)]
 fn take_step(state: &mut HartState, step: PlainStep)
     requires { Fits step state.old }
     ensures { state.new ≡ stepped step state.old }
@@ -89,7 +89,7 @@ fn take_step(state: &mut HartState, step: PlainStep)
 impl Parts {
     /// [`Parts::exec_any`] where the next instruction of the thread on a hart is one that the code keeps, a plain one that may be
     /// executed; else None, and nothing changes.
-    #[inline]
+    #[inline(always)]
     pub(crate) fn exec_plain(&mut self, code: &Code, hart: Hart) -> Option<Entry>
         requires { HasCode code.now self.old hart.0 }
         ensures answer { (v : Stand) → IsPlace v self.old hart.0 → IsAlone code.now v
