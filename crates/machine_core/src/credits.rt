@@ -57,7 +57,8 @@ fn give_credit(harts: &mut Vec<HartState>, hart: Hart, choice: Choice, picked: O
 }
 
 /// The same for an event of a hart of which this was seen before it, with a word of its generator where one decides.
-pub fn follow(
+#[inline(never)]
+fn follow(
     harts: &mut Vec<HartState>,
     chooser: &mut Chooser,
     hart: Hart,
@@ -72,4 +73,26 @@ pub fn follow(
         ≡ option_map (followed (Some sight.now) chooser.old hart.0 choice k) (slice_get harts.old.items k) }
 {
     give_credit(harts, hart, choice, chooser.next(hart, sight))
+}
+
+/// The same where it is known what was seen before the event; else it wasn't picked, and the credits and generators stay.
+#[inline(always)]
+pub fn follow_seen(
+    harts: &mut Vec<HartState>,
+    chooser: &mut Chooser,
+    hart: Hart,
+    choice: Choice,
+    sight: Option<Sight>,
+) -> bool
+    requires hart { hart.0 < 8 }
+    requires held { hart.0 < length harts.old.items }
+    ensures followed { result ≡ is_followed sight chooser.old hart.0 choice }
+    ensures generators { chooser.new ≡ generators_after sight hart.0 chooser.old }
+    ensures harts { (k : ℕ) → slice_get harts.new.items k
+        ≡ option_map (followed sight chooser.old hart.0 choice k) (slice_get harts.old.items k) }
+{
+    match sight {
+        Some(sight) => follow(harts, chooser, hart, choice, &sight),
+        None => false,
+    }
 }

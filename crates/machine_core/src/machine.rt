@@ -21,6 +21,7 @@ mod on_credit;
 mod readers;
 mod run_choices;
 
+use crate::credits::follow_seen;
 use block_model::Refused;
 use chooser::Chooser;
 use elf_load::Image;
@@ -183,16 +184,8 @@ impl Machine {
         if let Some(refused) = self.common_refusal(hart) {
             return Err(refused);
         }
-        if self.is_chosen() {
-            return self.step_chosen(hart, choice);
-        }
-        match self.parts.make(&self.code, hart, choice) {
-            Ok(entry) => {
-                append(&mut self.log, entry);
-                Ok(entry)
-            }
-            Err(why) => Err(Refused::NotEnabled(why)),
-        }
+        let seen = self.seen_if_chosen(hart);
+        self.step_seen(hart, choice, seen)
     }
 
     /// [`Machine::step`] of a hart whose `exec` is allowed ([`Machine::answer`]) and is a call that makes no fault
@@ -212,11 +205,16 @@ impl Machine {
         ensures written { result.1.items ≡ (done_of Choice.Exec
             (here_in_history self.old.setting (history self.old.setting self.old.log) hart.0)).entered }
     {
-        if self.is_chosen() {
-            return self.step_call_chosen(hart);
-        }
+        let seen = self.seen_if_chosen(hart);
         let made = self.parts.make_call(hart);
         append(&mut self.log, made.0);
+        self.chosen = follow_seen(
+            &mut self.parts.harts,
+            &mut self.chooser,
+            hart,
+            Choice::Exec,
+            seen,
+        );
         made
     }
 }

@@ -2,6 +2,7 @@
 use Rattle.std.specs.Prelude.{ℕ, ◌≡◌, ◌+◌, ◌*◌, Bool, List, filter, if◌then◌else◌, Option, Some, None, slice_index}
 use Rattle.std.specs.List.{slice_get}
 use Rattle.mach_types.specs.Kernel.Pages.{can_execute}
+use Rattle.elf_load.specs.Start.{code_word}
 use Rattle.elf_load.specs.declared.image.ImagePage.{ImagePage}
 use Rattle.rv_inst.specs.declared.instruction.Inst.{Inst}
 use Rattle.block_model.specs.Instruction.{instruction_of}
@@ -18,10 +19,10 @@ abbrev pub word_of_page : Option ImagePage → ℕ → Option ℕ
 word_of_page None k = None
 word_of_page (Some p) k = if can_execute (Some p.perm) then Some (word_in p.bytes k) else None
 
--- the instructions of the first words of a page: each that is given is that of the word at its place
-abbrev pub AreDecoded : ImagePage → List (Option Inst) → Type 0
-AreDecoded page insts =
-    (k : ℕ) (inst : Option Inst) → slice_get insts k ≡ Some inst → inst ≡ instruction_of (word_of_page (Some page) (4 * k))
+-- the instructions of the words of a program from an address on: each that is given is that of the word at its place
+abbrev pub AreDecoded : List ImagePage → ℕ → List (Option Inst) → Type 0
+AreDecoded pages first insts =
+    (k : ℕ) (inst : Option Inst) → slice_get insts k ≡ Some inst → inst ≡ instruction_of (code_word pages (first + 4 * k))
 
 -- the pages of a program that may be executed, in their order
 abbrev pub is_executable : ImagePage → Bool

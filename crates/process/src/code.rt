@@ -1,41 +1,47 @@
-//! Pages of a loaded program, and the instruction words in them.
+//! The instructions of a loaded program: its pages, and the instructions of its first words.
 
-ghost use Rattle.std.specs.Prelude.{◌≡◌, ◌≢◌, ℕ, ◌<◌, ◌≤◌, ◌+◌, ◌%◌, Some, IfOk, IfSome, IfNone, map};
-ghost use Rattle.std.specs.Option.{option_copied};
+ghost use Rattle.std.specs.Prelude.{◌≡◌, ℕ, ◌<◌, ◌≤◌, ◌+◌, ◌*◌, ◌%◌, ◌/◌, ◌^◌, Some, IfOk, IfSome, length, map};
 ghost use Rattle.std.specs.List.Sorted.{IsStrictlyIncreasing};
-ghost use Rattle.elf_load.specs.Start.{code_word, page_of, return_byte};
+ghost use Rattle.elf_load.specs.Start.{code_word};
 ghost use Rattle.block_model.specs.Instruction.{instruction_of};
-ghost use Rattle.process.specs.Pages.{code_of, word_of, word_of_page};
+ghost use Rattle.process.specs.Pages.{AreDecoded, code_of};
 
-use crate::code_page::{CodePage, decoded};
-use crate::search::place_of;
+use crate::code_pages::CodePages;
 use elf_load::ImagePage;
-use mach_types::address_space::{FIRST_STACK_PAGE, RETURN_PAGE, STACK_PAGES};
+use rv_decode::decode;
 use rv_inst::Inst;
 use std::alloc::{AllocError, Global};
 use std::marker::Model;
 
-/// The instructions of so many pages are kept, the first ones of a program, and those of others are decoded at each look.
+/// The instructions of so many pages are kept at most, from the first one of a program on, and those of others are decoded at each
+/// look. (own)
 const DECODED_PAGES: usize = 64;
 
-/// Pages of a program in rising order of number, with the numbers beside them for a search: where instructions are read from.
+/// How many words a page has.
+const PAGE_WORDS: usize = 1024;
+
+/// Pages of a program in rising order of number, where instructions are read from, with the instructions of the words from the
+/// first page on: of as many as so many pages have as the program has.
 #[derive(Drop)]
 pub struct Code {
-    numbers: Vec<u64>,
-    pages: Vec<CodePage>,
+    pages: CodePages,
+    /// Where the first page begins.
+    first: u64,
+    /// The instructions of the words from there on, whether a page lies there or not.
+    insts: Vec<Option<Inst>>,
 }
 
 impl Model for Code {
-    ghost use Rattle.std.specs.Prelude.{List, ◌≡◌, map};
-    ghost use Rattle.std.specs.List.Sorted.{IsStrictlyIncreasing};
+    ghost use Rattle.std.specs.Prelude.{List, ◌≡◌, ◌<◌, ◌≤◌, ◌%◌, ◌^◌, length};
     ghost use Rattle.elf_load.specs.declared.image.ImagePage.{ImagePage};
+    ghost use Rattle.process.specs.Pages.{AreDecoded};
 
     ghost Value = { List ImagePage };
 
-    ghost view = { λ p. p.pages.items };
+    ghost view = { λ p. p.pages };
 
-    ghost invariant = { λ p. (p.numbers.items ≡ map (λ (q : ImagePage). q.number) p.pages.items)
-        × IsStrictlyIncreasing (map (λ (q : ImagePage). q.number) p.pages.items) };
+    ghost invariant = { λ p. AreDecoded p.pages p.first p.insts.items × (length p.insts.items ≤ 65536)
+        × (p.first % 4 ≡ 0) × (p.first < 2 ^ 39) };
 }
 
 impl Code {
@@ -44,7 +50,7 @@ impl Code {
         requires { IsStrictlyIncreasing (map (λ p. p.number) pages.now) }
         ensures { IfOk result (λ copied. copied ≡ pages.now) }
     {
-        Code::numbered(alloc, decoded_pages(alloc, pages)?)
+        Code::decoded(alloc, CodePages::new(alloc, pages)?)
     }
 
     /// A copy of those of its pages that may be executed, in the same order. An error only where memory is wanting.
@@ -52,26 +58,21 @@ impl Code {
         ensures copied { IfOk result (λ copied. copied ≡ code_of self.now) }
         ensures rising { IfOk result (λ copied. IsStrictlyIncreasing (map (λ p. p.number) self.now)) }
     {
-        Code::numbered(alloc, executable_pages(alloc, &self.pages)?)
+        Code::decoded(alloc, self.pages.executable(alloc)?)
     }
 
-    /// These pages, with their numbers.
-    fn numbered(alloc: Global, pages: Vec<CodePage>) -> Result<Code, AllocError>
-        requires { IsStrictlyIncreasing (map (λ p. p.number) pages.items) }
-        ensures { IfOk result (λ numbered. numbered ≡ pages.items) }
+    /// These pages, with the instructions that are kept.
+    fn decoded(alloc: Global, pages: CodePages) -> Result<Code, AllocError>
+        ensures { IfOk result (λ decoded. decoded ≡ pages) }
     {
-        let numbers = pages.iter().map(|page| page.number()).collect(alloc)?;
-        Ok(Code { numbers, pages })
-    }
-
-    /// The page with this number.
-    fn page(&self, number: u64) -> Option<&CodePage>
-        ensures { option_copied result ≡ page_of self.now number }
-    {
-        match place_of(&self.numbers, number) {
-            Some(index) => Some(&self.pages[index]),
-            None => None,
-        }
+        let first = pages.first_address();
+        let count = pages.len().min(DECODED_PAGES) * PAGE_WORDS;
+        let insts = instructions(alloc, &pages, first, count)?;
+        Ok(Code {
+            pages,
+            first,
+            insts,
+        })
     }
 
     /// The instruction word at an address that is a multiple of 4; None exactly where its bytes may not be
@@ -80,13 +81,23 @@ impl Code {
         requires { at % 4 ≡ 0 }
         ensures { result ≡ code_word self.now at }
     {
-        let number = at / 4096;
-        if (FIRST_STACK_PAGE..FIRST_STACK_PAGE + STACK_PAGES).contains(&number) {
-            None
-        } else if number == RETURN_PAGE {
-            Some(return_word(at % 4096))
+        self.pages.fetch(at)
+    }
+
+    /// The instruction at an address that is a multiple of 4, where it is kept. None says nothing of what stands there.
+    #[inline(always)]
+    pub(crate) fn kept(&self, at: u64) -> Option<&Inst>
+        requires { at % 4 ≡ 0 }
+        ensures { IfSome result (λ inst. Some inst.now ≡ instruction_of (code_word self.now at)) }
+    {
+        let place = (at.wrapping_sub(self.first) / 4) as usize;
+        if place < self.insts.len() {
+            match &self.insts[place] {
+                Some(inst) => Some(inst),
+                None => None,
+            }
         } else {
-            executable_word(self.page(number), at % 4096)
+            None
         }
     }
 
@@ -96,68 +107,36 @@ impl Code {
         requires { at % 4 ≡ 0 }
         ensures { result ≡ instruction_of (code_word self.now at) }
     {
-        let number = at / 4096;
-        if number < FIRST_STACK_PAGE {
-            executable_instruction(self.page(number), at % 4096)
-        } else {
-            decoded(self.fetch(at))
+        match self.kept(at) {
+            Some(inst) => Some(*inst),
+            None => decoded(self.fetch(at)),
         }
     }
 }
 
-/// Copies of pages, with their instructions where those are kept.
-fn decoded_pages(alloc: Global, pages: &[ImagePage]) -> Result<Vec<CodePage>, AllocError>
-    ensures { IfOk result (λ copies. copies.items ≡ pages.now) }
+/// The instructions of so many words from an address on.
+fn instructions(
+    alloc: Global,
+    pages: &CodePages,
+    first: u64,
+    count: usize,
+) -> Result<Vec<Option<Inst>>, AllocError>
+    requires aligned { first % 4 ≡ 0 }
+    requires first { first < 2 ^ 39 }
+    requires count { count ≤ 65536 }
+    ensures decoded { IfOk result (λ insts. AreDecoded pages.now first insts.items) }
+    ensures count { IfOk result (λ insts. length insts.items ≡ count) }
 {
-    let mut copies = Vec::new(alloc);
-    for page in pages {
-        let is_kept = copies.len() < DECODED_PAGES;
-        copies.push(CodePage::new(alloc, page, is_kept)?)?;
+    let mut insts = Vec::with_capacity(alloc, count)?;
+    for place in 0..count {
+        insts.push(decoded(pages.fetch(first + 4 * place as u64)))?;
     }
-    Ok(copies)
+    Ok(insts)
 }
 
-/// A copy of those pages that may be executed, with their instructions where those are kept.
-fn executable_pages(alloc: Global, pages: &[CodePage]) -> Result<Vec<CodePage>, AllocError>
-    ensures { IfOk result (λ copies. copies.items ≡ code_of pages.now) }
+/// The instruction that a word is, where there is a word and it has a row.
+fn decoded(word: Option<u32>) -> Option<Inst>
+    ensures { result ≡ instruction_of word }
 {
-    let mut copies = Vec::new(alloc);
-    for page in pages {
-        if page.is_executable() {
-            copies.push(page.copied(alloc)?)?;
-        }
-    }
-    Ok(copies)
-}
-
-/// The word at an offset of a page that may be executed, if there is one.
-fn executable_word(page: Option<&CodePage>, offset: u64) -> Option<u32>
-    requires { offset + 4 ≤ 4096 }
-    ensures { result ≡ word_of_page (option_copied page.entry) offset }
-{
-    let page = page?;
-    page.word(offset)
-}
-
-/// The instruction at an offset that is a multiple of 4 of a page that may be executed, if there is one.
-fn executable_instruction(page: Option<&CodePage>, offset: u64) -> Option<Inst>
-    requires aligned { offset % 4 ≡ 0 }
-    requires within { offset < 4096 }
-    ensures { result ≡ instruction_of (word_of_page (option_copied page.entry) offset) }
-{
-    let page = page?;
-    page.instruction(offset)
-}
-
-/// The word of the return page at an offset that is a multiple of 4.
-fn return_word(offset: u64) -> u32
-    requires aligned { offset % 4 ≡ 0 }
-    requires within { offset < 4096 }
-    ensures { result ≡ word_of return_byte offset }
-{
-    match offset {
-        0 => 0x08B0_0893,
-        4 => 0x0000_0073,
-        _ => 0,
-    }
+    decode(word?)
 }

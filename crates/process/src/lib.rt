@@ -3,7 +3,7 @@
 #![tactic(auto)]
 
 mod code;
-mod code_page;
+mod code_pages;
 mod drain;
 mod exec;
 mod exec_gate;

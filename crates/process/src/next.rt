@@ -30,8 +30,15 @@ fn fetched(code: &Code, pc: u64) -> Option<u32>
     if pc % 4 == 0 { code.fetch(pc) } else { None }
 }
 
+/// The instruction at a pc, where the code keeps it. None says nothing of what stands there.
+#[inline(always)]
+pub(crate) fn kept_instruction(code: &Code, pc: u64) -> Option<&Inst>
+    ensures { IfSome result (λ inst. Some inst.now ≡ instruction_of (word_fetched code.now pc)) }
+{
+    if pc % 4 == 0 { code.kept(pc) } else { None }
+}
+
 /// The instruction at a pc, where a word is fetched there and has a row.
-#[inline]
 pub(crate) fn instruction_at(code: &Code, pc: u64) -> Option<Inst>
     ensures { result ≡ instruction_of (word_fetched code.now pc) }
 {
@@ -82,8 +89,20 @@ pub fn is_free(state: &HartState, effect: Option<&Effect>) -> bool
 
 /// What the instruction at a pc asks for, with these registers. None exactly where nothing can be executed
 /// there, or where the word there is no instruction.
-#[inline(never)]
+#[inline(always)]
 pub fn effect_at(code: &Code, file: &Regs, pc: u64) -> Option<Effect>
+    ensures effect { result ≡ next_effect code.now (record { file = file.now; pc = pc }) }
+    ensures sizes { IfSome result HasAccessSizes }
+{
+    match kept_instruction(code, pc) {
+        Some(inst) => Some(effect(inst, file, pc)),
+        None => other_effect(code, file, pc),
+    }
+}
+
+/// [`effect_at`] of any instruction, also where the code doesn't keep it.
+#[inline(never)]
+fn other_effect(code: &Code, file: &Regs, pc: u64) -> Option<Effect>
     ensures effect { result ≡ next_effect code.now (record { file = file.now; pc = pc }) }
     ensures sizes { IfSome result HasAccessSizes }
 {

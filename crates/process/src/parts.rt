@@ -62,7 +62,7 @@ impl Parts {
     /// The parts must stand at some place at which their process goes on, has room for one more entry and is alone on its
     /// machine, with these pages of code, and the hart must be one of the machine's (`HasCode`). At whichever such place that
     /// is, the answer is the one that is due there, and the parts are then those after its event.
-    #[inline]
+    #[inline(always)]
     pub fn make(&mut self, code: &Code, hart: Hart, choice: Choice) -> Result<Entry, Why>
         requires { HasCode code.now self.old hart.0 }
         ensures answer { (v : Stand) → IsPlace v self.old hart.0 → IsAlone code.now v
@@ -84,7 +84,7 @@ impl Parts {
     }
 
     /// [`Parts::make`] of `exec`: at first in the way of plain instructions, and then in that of all.
-    #[inline]
+    #[inline(always)]
     fn make_exec(&mut self, code: &Code, hart: Hart) -> Result<Entry, Why>
         requires { HasCode code.now self.old hart.0 }
         ensures answer { (v : Stand) → IsPlace v self.old hart.0 → IsAlone code.now v
@@ -110,7 +110,7 @@ impl Parts {
 
     /// Counts an event of a hart: the last part of each event, after which the parts stand at the place behind it. The hart must be
     /// one of the list, and have made fewer than 2^32 - 1 events.
-    #[inline]
+    #[inline(always)]
     pub fn count(&mut self, hart: Hart)
         requires { HasEvent self.old.harts.items hart.0 }
         ensures harts { IsChanged hart.0 counted self.old.harts.items self.new.harts.items }

@@ -10,7 +10,7 @@ ghost use Rattle.process.specs.PlainSteps.{Fits, IsPlainStep, stepped};
 ghost use Rattle.process.specs.Refinement.{HasCode, IsAlone, IsPlace, IsUncounted, answer_to};
 
 use crate::code::Code;
-use crate::next::instruction_at;
+use crate::next::kept_instruction;
 use crate::parts::{Parts, entry_of};
 use hart_state::HartState;
 use mach_types::{Choice, Entry, Hart, Kind, STORE_BUFFER_CAPACITY, Store, UserMem};
@@ -37,7 +37,7 @@ pub(crate) enum PlainStep {
 /// What an instruction does on a hart on which a thread runs that waits in no barrier, where
 /// it is a plain one: it sets a register and the pc alone, loads bytes that can be read, or stores to bytes
 /// that can be written while there is room for one more store to wait. None where it is another.
-#[inline]
+#[inline(always)]
 fn plain_step(state: &HartState, pages: &PageMap, inst: &Inst) -> Option<PlainStep>
     ensures { IfSome result (IsPlainStep (byte_in pages.now) (can_write_in pages.now)
         (meaning inst.now state.now.file state.now.pc) state.now) }
@@ -69,7 +69,7 @@ fn plain_step(state: &HartState, pages: &PageMap, inst: &Inst) -> Option<PlainSt
 }
 
 /// Does to a hart what a plain instruction does.
-#[inline]
+#[inline(always)]
 fn take_step(state: &mut HartState, step: PlainStep)
     requires { Fits step state.old }
     ensures { state.new ≡ stepped step state.old }
@@ -87,9 +87,9 @@ fn take_step(state: &mut HartState, step: PlainStep)
 }
 
 impl Parts {
-    /// [`Parts::exec_any`] where the next instruction of the thread on a hart is a plain one that may be executed;
-    /// else None, and nothing changes.
-    #[inline]
+    /// [`Parts::exec_any`] where the next instruction of the thread on a hart is one that the code keeps, a plain one that may be
+    /// executed; else None, and nothing changes.
+    #[inline(always)]
     pub(crate) fn exec_plain(&mut self, code: &Code, hart: Hart) -> Option<Entry>
         requires { HasCode code.now self.old hart.0 }
         ensures answer { (v : Stand) → IsPlace v self.old hart.0 → IsAlone code.now v
@@ -103,10 +103,10 @@ impl Parts {
         if state.is_idle() || state.waits.is_some() {
             return None;
         }
-        let Some(inst) = instruction_at(code, state.pc) else {
+        let Some(inst) = kept_instruction(code, state.pc) else {
             return None;
         };
-        let Some(step) = plain_step(state, &self.pages, &inst) else {
+        let Some(step) = plain_step(state, &self.pages, inst) else {
             return None;
         };
         let made = entry_of(hart, Kind::Exec, state);

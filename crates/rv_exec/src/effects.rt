@@ -21,6 +21,7 @@ use rv_inst::{AmoOp, Effect, Inst};
 ///
 /// Chapters RV32I, RV64I, "M", "A", "Zifencei" and "Ztso" of the RISC-V Unprivileged ISA. x0, and a register
 /// past 31, reads 0. Registers and pc are those before the instruction, and nothing is changed here.
+#[inline(always)]
 #[tactic(auto, unfolding(rv_inst::specs::Meaning::meaning))]
 pub fn effect(inst: &Inst, regs: &Regs, pc: u64) -> Effect
     ensures { result ≡ meaning inst.now regs.now pc }

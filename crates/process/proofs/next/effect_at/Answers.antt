@@ -6,8 +6,8 @@ use Rattle.rv_inst.specs.Meaning.{meaning}
 use Rattle.rv_inst.specs.declared.instruction.Inst.{Inst}
 use Rattle.process.proofs.next.effect_at.Goals as goal
 
-pub returns-clause-effect : goal.returns-clause-effect
-returns-clause-effect c = ap Some c.effect.ensures ∙ ap (option_map (λ (inst : Inst). meaning inst c.args.file.now c.args.pc)) c.in_ok-inst.ensures
+pub returns-in-Some-clause-effect : goal.returns-in-Some-clause-effect
+returns-in-Some-clause-effect c = ap Some c.effect.ensures ∙ ap (option_map (λ (inst : Inst). meaning inst c.args.file.now c.args.pc)) c.in-Some.ensures
 
-pub returns-clause-sizes : goal.returns-clause-sizes
-returns-clause-sizes c = rw c.effect.ensures (meaning-sized c.in_ok-inst.inst c.args.file.now c.args.pc)
+pub returns-in-Some-clause-sizes : goal.returns-in-Some-clause-sizes
+returns-in-Some-clause-sizes c = rw c.effect.ensures (meaning-sized c.in-Some.inst.now c.args.file.now c.args.pc)

@@ -1,4 +1,4 @@
-use Rattle.machine_core.proofs.Common.{◌≡◌, ◌++◌, [], ◌∷◌, sym, ◌∙◌, None, subst, IfOk-at_ok, IsChosen, Seen, ap, entry_in, here_in_history, past_of, seen, setting_of, chosen_more}
+use Rattle.machine_core.proofs.Common.{◌≡◌, ◌++◌, [], ◌∷◌, sym, ◌∙◌, None, Some, seen_if, subst, IfOk-at_ok, IsChosen, Seen, ap, entry_in, here_in_history, past_of, seen, setting_of, chosen_more}
 use Rattle.machine_core.proofs.AdvanceAnswers.{answers_made, answers_none, machine_picks, all_of, never_err, same_entry, turn_picks}
 use Rattle.machine_core.proofs.machine.Machine.advance_picked.Goals as goal
 
@@ -11,6 +11,14 @@ returns-in_default-clause-answer c =
     let picked = machine_picks m h c.sight-sight.result None c.self.invariant (all_of (setting_of m) m.seed m.log.items chosen) (rw (← c.self.view_is) at c.requires.hart)
     (rw (← c.self.view_is) at c.sight-sight.ensures) (sym c.in_default.is ∙ c.peek.ensures) in
     rw (← c.self.view_is) (answers_none (setting_of m) m.seed h (past_of m) going (rw (← c.self.view_is) at c.requires.hart) picked)
+
+pub step_seen-requires-clause-sight : goal.step_seen-requires-clause-sight
+step_seen-requires-clause-sight c =
+    let m = c.self.inside in
+    let past = past_of m in
+    let chosen : IsChosen (setting_of m) m.seed m.log.items = rw (← c.self.view_is) at c.requires.chosen in
+    rw (← c.self.view_is) (ap Some (rw (← c.self.view_is) at c.sight-sight.ensures)
+    ∙ ap (λ b. seen_if b (setting_of m) m.seed c.args.hart.0 past) (all_of (setting_of m) m.seed m.log.items chosen))
 
 pub unreachable-requires : goal.unreachable-requires
 unreachable-requires c =

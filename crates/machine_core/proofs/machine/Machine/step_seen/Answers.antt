@@ -1,5 +1,4 @@
-use Rattle.machine_core.proofs.Common.{◌≡◌, ◌<◌, Some, true, ap, length, refl, rules, sym, ◌∙◌, arith, IfOk-at_ok, IsAfter, Parts, done_of, here_of, past_of, seen, seen_if, setting_of, stand_of, Bool, List, Generator, subst, ◌++◌, ◌∷◌, []}
-use Rattle.machine_core.proofs.AdvanceAnswers.{all_of}
+use Rattle.machine_core.proofs.Common.{◌≡◌, ◌<◌, ap, length, refl, rules, sym, ◌∙◌, arith, IfOk-at_ok, IsAfter, Parts, done_of, here_of, past_of, seen, seen_if, setting_of, stand_of, Bool, List, Generator, subst, ◌++◌, ◌∷◌, []}
 use Rattle.machine_core.proofs.StretchAppends.{code_open, goes_on, has_room, is_alone, place_open}
 use Rattle.machine_core.proofs.MachineCredits.{settled, IsSettled, machine_so}
 use Rattle.machine_core.proofs.MachineSteps.{refused, stepped, stepped_so}
@@ -15,12 +14,12 @@ invariant_of-self c =
     let place = place_open m c.args.hart.0 c.self.invariant (rw (← c.self.view_is) at c.requires.goes) (rw (← c.self.view_is) at c.requires.hart) in
     let after = IfOk-at_ok (λ e. IsAfter (stand_of (seen m)) c.args.hart.0 (done_of c.args.choice (here_of (seen m) c.args.hart.0)) m.parts c.make.new.self) c.in-Ok.is (c.make.ensures.after (stand_of (seen m)) place.at (is_alone m)) in
     let step = stepped (seen m) m.parts c.make.new.self c.args.hart c.args.choice c.make.result c.in-Ok.entry place (c.make.ensures.answer (stand_of (seen m)) place.at (is_alone m)) c.in-Ok.is after in
-    let all : m.chosen ≡ true = c.self.invariant.chosen ∙ sym (all_of (setting_of m) m.seed m.log.items (rw (← c.self.view_is) at c.requires.chosen)) in
-    let sees : Some c.args.sight.now ≡ seen_if m.chosen (setting_of m) m.seed c.args.hart.0 (past_of m) = rw all (ap Some (rw (← c.self.view_is) at c.requires.sight)) in
-    let p' : Parts = record c.make.new.self { harts = c.follow-self-inside.new.harts } in
-    let is = settled m c.args.hart c.args.choice c.in-Ok.entry c.make.new.self p' (Some c.args.sight.now) c.self.invariant (goes_on m c.self.invariant (rw (← c.self.view_is) at c.requires.goes)) room (rw (← c.self.view_is) at c.requires.hart) step after.credits sees c.follow-self-inside.ensures.harts refl refl refl in
+    let sees : c.args.sight ≡ seen_if m.chosen (setting_of m) m.seed c.args.hart.0 (past_of m) =
+    (rw (← c.self.view_is) at c.requires.sight) ∙ ap (λ b. seen_if b (setting_of m) m.seed c.args.hart.0 (past_of m)) (sym c.self.invariant.chosen) in
+    let p' : Parts = record c.make.new.self { harts = c.follow_seen-self-inside.new.harts } in
+    let is = settled m c.args.hart c.args.choice c.in-Ok.entry c.make.new.self p' c.args.sight c.self.invariant (goes_on m c.self.invariant (rw (← c.self.view_is) at c.requires.goes)) room (rw (← c.self.view_is) at c.requires.hart) step after.credits sees c.follow_seen-self-inside.ensures.harts refl refl refl in
     let set = subst (λ (x : List Generator × Bool). IsSettled (setting_of m) m.seed (m.log.items ++ c.in-Ok.entry ∷ []) p' x.0 x.1)
-    (λ i. (sym c.follow-self-inside.ensures.generators i, sym c.follow-self-inside.ensures.followed i)) is in
+    (λ i. (sym c.follow_seen-self-inside.ensures.generators i, sym c.follow_seen-self-inside.ensures.followed i)) is in
     machine_so _ (m.log.items ++ c.in-Ok.entry ∷ []) c.append.ensures.items step.run set c.self.invariant.limits (omega (arith, c.self.invariant.room, c.append.ensures.capacity))
 
 pub returns-in-Ok : goal.returns-in-Ok
@@ -42,8 +41,8 @@ append-requires c =
     let room = has_room m (rw (← c.self.view_is) at c.requires.goes) in
     omega (arith, room, c.self.invariant.room, m.log.ok.0)
 
-pub follow-self-inside-requires-clause-held : goal.follow-self-inside-requires-clause-held
-follow-self-inside-requires-clause-held c =
+pub follow_seen-self-inside-requires-clause-held : goal.follow_seen-self-inside-requires-clause-held
+follow_seen-self-inside-requires-clause-held c =
     let m = c.self.inside in
     let place = place_open m c.args.hart.0 c.self.invariant (rw (← c.self.view_is) at c.requires.goes) (rw (← c.self.view_is) at c.requires.hart) in
     let after = IfOk-at_ok (λ e. IsAfter (stand_of (seen m)) c.args.hart.0 (done_of c.args.choice (here_of (seen m) c.args.hart.0)) m.parts c.make.new.self) c.in-Ok.is (c.make.ensures.after (stand_of (seen m)) place.at (is_alone m)) in

@@ -20,10 +20,10 @@ returns-clause-answer c v place alone =
     let h = c.args.hart in
     let x = c.index-state.result.now in
     let read = ap (option_map (λ (i : Inst). meaning i x.file x.pc)) c.in-Some.ensures in
-    let sizes = meaning-sized c.in-Some.inst x.file x.pc in
+    let sizes = meaning-sized c.in-Some.inst.now x.file x.pc in
     let running = was_some _ (sym c.is_idle.ensures ∙ c.if-is_idle.false) in
     let free = sym c.is_some.ensures ∙ c.if-is_some.false in
-    let plan = plain_planned v m h.0 x c.in-Some-plain_step.step c.args.code.now (meaning c.in-Some.inst x.file x.pc) place alone c.index-state.ensures read sizes running free c.in-Some-plain_step.ensures in
+    let plan = plain_planned v m h.0 x c.in-Some-plain_step.step c.args.code.now (meaning c.in-Some.inst.now x.file x.pc) place alone c.index-state.ensures read sizes running free c.in-Some-plain_step.ensures in
     ap Ok (c.entry_of-made.ensures ∙ entry_here v m h kind.Exec x place c.index-state.ensures)
     ∙ ap (answered (entry_in asked.Exec (here_at v h.0))) (sym plan.free)
 
@@ -34,12 +34,12 @@ returns-clause-made c v place alone =
     let x = c.index-state.result.now in
     let does = c.in-Some-plain_step.step in
     let read = ap (option_map (λ (i : Inst). meaning i x.file x.pc)) c.in-Some.ensures in
-    let sizes = meaning-sized c.in-Some.inst x.file x.pc in
+    let sizes = meaning-sized c.in-Some.inst.now x.file x.pc in
     let running = was_some _ (sym c.is_idle.ensures ∙ c.if-is_idle.false) in
     let free = sym c.is_some.ensures ∙ c.if-is_some.false in
-    let plan = plain_planned v m h.0 x does c.args.code.now (meaning c.in-Some.inst x.file x.pc) place alone c.index-state.ensures read sizes running free c.in-Some-plain_step.ensures in
+    let plan = plain_planned v m h.0 x does c.args.code.now (meaning c.in-Some.inst.now x.file x.pc) place alone c.index-state.ensures read sizes running free c.in-Some-plain_step.ensures in
     let same : c.index_mut-state.result.now ≡ x = hart_is v m h.0 c.index_mut-state.result.now place c.index_mut-state.ensures.value ∙ sym (hart_is v m h.0 x place c.index-state.ensures) in
     let is : c.take_step.new.state ≡ stepped does x = c.take_step.ensures ∙ ap (stepped does) same in
     let one_more = ap (λ (y : HartState). record y { ran = y.ran + 1 }) is ∙ ap (λ n. let z : HartState = record (stepped does x) { ran = n + 1 } in z) (ran_same x does) in
-    plain_executed v m _ h x does (meaning c.in-Some.inst x.file x.pc) place plan c.index-state.ensures c.in-Some-plain_step.ensures
+    plain_executed v m _ h x does (meaning c.in-Some.inst.now x.file x.pc) place plan c.index-state.ensures c.in-Some-plain_step.ensures
     (record { harts = ap (set m.harts.items h.0) one_more; pages = refl; kernel = refl; ended = refl })

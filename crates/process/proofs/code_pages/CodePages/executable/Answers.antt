@@ -1,6 +1,6 @@
 use Rattle.process.proofs.Common.{◌≡◌, ap, ◌∙◌, code_of}
 use Rattle.process.proofs.Codes.{code_rises}
-use Rattle.process.proofs.code.Code.executable.Goals as goal
+use Rattle.process.proofs.code_pages.CodePages.executable.Goals as goal
 
 pub numbered-requires : goal.numbered-requires
 numbered-requires c =

@@ -1,7 +1,7 @@
 -- The page with a number, found by its place among the numbers.
 use Rattle.process.proofs.Common.{◌≡◌, sym, ap, ◌∙◌, arith, Some, None, nat_eq, position, length-map, ImagePage}
 use Rattle.process.proofs.Lookups.{page_of-none, page_of-rising, numbers, some_stands, none_stands}
-use Rattle.process.proofs.code.Code.page.Goals as goal
+use Rattle.process.proofs.code_pages.CodePages.page.Goals as goal
 
 pub returns-in-Some : goal.returns-in-Some
 returns-in-Some c =

@@ -1,7 +1,7 @@
 -- A word of a page of the image.
 use Rattle.process.proofs.Common.{sym, ap, ◌∙◌, ◌/◌, ◌%◌, word_of_page}
 use Rattle.process.proofs.Fetches.{not_stack, word_of_image}
-use Rattle.process.proofs.code.Code.fetch.Goals as goal
+use Rattle.process.proofs.code_pages.CodePages.fetch.Goals as goal
 
 pub returns-else-number-eq-RETURN_PAGE : goal.returns-else-number-eq-RETURN_PAGE
 returns-else-number-eq-RETURN_PAGE c =

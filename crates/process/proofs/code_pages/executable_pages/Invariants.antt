@@ -1,5 +1,5 @@
 use Rattle.process.proofs.Common.{◌≡◌, take, code_of}
-use Rattle.process.proofs.code.executable_pages.Given as goal
+use Rattle.process.proofs.code_pages.executable_pages.Given as goal
 
 -- those of the pages before are copied
 abbrev pub invariant-loop-page : goal.invariant-loop-page

@@ -1,6 +1,0 @@
--- So far the instructions of as many words as rounds.
-use Rattle.process.proofs.Common.{◌≡◌, length, AreDecoded}
-use Rattle.process.proofs.code_page.instructions.Given as goal
-
-abbrev pub invariant-loop-place : goal.invariant-loop-place
-invariant-loop-place l = record { count : length l.insts.items ≡ l.place; decoded : AreDecoded l.page l.insts.items }
