@@ -12,7 +12,7 @@ use Rattle.block_view.specs.Acts.{act_of}
 use Rattle.block_view.specs.Ledgers.{HasPlaces, Kept, changed_at, closed, closed_by, end_here, going_on, with_end}
 use Rattle.block_view.specs.Standing.{Standing, at_the_end, listed, standings, unended}
 use Rattle.block_view.specs.Standing.Standing.{Over, Going, Hanging}
-use Rattle.block_view.specs.Tied.{IsTied, StandsAt, closed_if, going_at}
+use Rattle.block_view.specs.Tied.{IsTied, StandsAt, closed_if, course_of, going_at}
 use Rattle.block_view.specs.declared.forms.Act.{Act}
 use Rattle.block_view.specs.declared.ledger.Going.{Going as KeptGoing}
 use Rattle.block_view.proofs.Places.{on_is_going, one_going}
@@ -69,7 +69,7 @@ module _ (s : Setting) (before : History) (k : Kept) (tied : IsTied s before k) 
   pub goes_on : (h : ℕ) (g : KeptGoing) → going_on k h ≡ Some g → GoesOn s before h g
   goes_on h g on = by_newest h g on (sequence_on s h before) refl
 
-  as_many : length k.acts ≡ length (standings s before)
+  pub as_many : length k.acts ≡ length (standings s before)
   as_many = ap length tied.acts ∙ length-map (standings s before) listed
 
   -- the places are those of acts
@@ -124,8 +124,8 @@ module _ (s : Setting) (all : History) (k : Kept) (tied : IsTied s all k) where
   end_by_death q false true = refl
   end_by_death q false false = refl
 
-  ends_here : (i : ℕ) (q : Known) (inside : Bool) → inside ≡ is_inside_at s q.hart all → end_here (going_at s i q) inside ≡ end_so_far s q all
-  ends_here i q inside is = end_by_death q (has_died q) inside ∙ ap (λ b. cond (has_died q) ends.Dead (acts.left_or_dropped s q b)) is
+  pub ends_here : (q : Known) (inside : Bool) → inside ≡ is_inside_at s q.hart all → end_here (course_of s q) inside ≡ end_so_far s q all
+  ends_here q inside is = end_by_death q (has_died q) inside ∙ ap (λ b. cond (has_died q) ends.Dead (acts.left_or_dropped s q b)) is
 
   -- one hart more is closed
   module _ (n : ℕ) (inside : Bool) (is : inside ≡ is_inside_at s n all) where
@@ -138,15 +138,15 @@ module _ (s : Setting) (all : History) (k : Kept) (tied : IsTied s all k) where
     by_going (Some g) on =
         let there = goes_on s all k tied n g on in
         let q = there.sequence in
-        let end : end_here g inside ≡ end_so_far s q all =
-        ap (λ x. end_here x inside) there.kept ∙ ends_here g.place q inside (is ∙ ap (λ h. is_inside_at s h all) (sym there.hart)) in
+        let end : end_here g.course inside ≡ end_so_far s q all =
+        ap (λ (x : KeptGoing). end_here x.course inside) there.kept ∙ ends_here q inside (is ∙ ap (λ h. is_inside_at s h all) (sym there.hart)) in
         let before : closed_if s all n (Going q) ≡ unended q =
         ap (λ b. cond b (act_of (record { sequence = q; end = end_so_far s q all })) (unended q)) (let own = there.hart in le-ltb q.hart n (omega arith)) in
         let later : closed_if s all (n + 1) (Going q) ≡ act_of (record { sequence = q; end = end_so_far s q all }) =
         ap (λ b. cond b (act_of (record { sequence = q; end = end_so_far s q all })) (unended q)) (let own = there.hart in lt-ltb q.hart (n + 1) (omega arith)) in
         ap (λ xs. record k { acts = xs })
-        (changed_as (with_end (end_here g inside)) (closed_if s all n) (closed_if s all (n + 1)) standing g.place (Going q) there.stands
-        (ap (with_end (end_here g inside)) before ∙ ap (λ e. act_of (record { sequence = q; end = e })) end ∙ sym later)
+        (changed_as (with_end (end_here g.course inside)) (closed_if s all n) (closed_if s all (n + 1)) standing g.place (Going q) there.stands
+        (ap (with_end (end_here g.course inside)) before ∙ ap (λ e. act_of (record { sequence = q; end = e })) end ∙ sym later)
         (λ j y at other. not_of n y
         (λ r same own. other (one_going s all j g.place r q (at ∙ ap Some same) there.stands (own ∙ sym there.hart)))))
 

@@ -29,7 +29,7 @@ use Rattle.block_model.specs.Setting.{Setting}
 use Rattle.block_model.specs.Whole.{EndsWhole, IsCutOrDead}
 use Rattle.block_view.specs.Ledgers.{cut_or_unended, end_by, left_or_dropped}
 use Rattle.block_view.specs.Passing.{inside_at, is_killed, passed_of, would_interrupt}
-use Rattle.block_view.specs.Tied.{going_at}
+use Rattle.block_view.specs.Tied.{course_of}
 use Rattle.block_view.proofs.SeenInside.{seen_inside, seen_named}
 use Rattle.block_view.proofs.Interruptions.{interrupts_as, kills_by_signal}
 use Rattle.block_view.proofs.Logs.{whole_place}
@@ -106,7 +106,7 @@ neither (inr is) = not_cut is.0 is.1
     not_cut : (at : ℕ) → ends.Unended ≡ ends.Cut at → ⊥
     not_cut at is = cc
 
-module _ (s : Setting) (e : Event) (before : History) (i : ℕ) (q : Known) (run : IsRunHistory s (e ∷ before)) (own : q.hart ≡ e.entry.hart.0)
+module _ (s : Setting) (e : Event) (before : History) (q : Known) (run : IsRunHistory s (e ∷ before)) (own : q.hart ≡ e.entry.hart.0)
     (was : sequence_on s e.entry.hart.0 before ≡ Some q) (over : sequence_on s e.entry.hart.0 (e ∷ before) ≡ None) where
   abbrev h : ℕ
   h = e.entry.hart.0
@@ -160,7 +160,7 @@ module _ (s : Setting) (e : Event) (before : History) (i : ℕ) (q : Known) (run
       aborts sequence seen (ap is_some is) within alive (abort_of (Some outcome)) (ap abort_of is)
 
   alive_as : (x : Option Seq) → inside_at s h before ≡ x → dead ≡ false
-      → option_map_or (cut_or_unended (is_some interrupted)) x (left_or_dropped (going_at s i q)) ≡ cut
+      → option_map_or (cut_or_unended (is_some interrupted)) x (left_or_dropped (course_of s q)) ≡ cut
   alive_as None seen alive =
       let outside : inside ≡ false = sym seen_own ∙ ap is_some seen in
       sym (ap (λ b. cut_or (acts.left_or_dropped s q b) b (abort_of interrupted)) outside ∙ outside_cut (acts.left_or_dropped s q false) (abort_of interrupted))
@@ -169,13 +169,13 @@ module _ (s : Setting) (e : Event) (before : History) (i : ℕ) (q : Known) (run
       by_interruption sequence seen within alive interrupted refl
       ∙ sym (ap (λ b. cut_or (acts.left_or_dropped s q b) b (abort_of interrupted)) within)
 
-  by_death : (d : Bool) → dead ≡ d → cond d ends.Dead (option_map_or (cut_or_unended (is_some interrupted)) (inside_at s h before) (left_or_dropped (going_at s i q)))
+  by_death : (d : Bool) → dead ≡ d → cond d ends.Dead (option_map_or (cut_or_unended (is_some interrupted)) (inside_at s h before) (left_or_dropped (course_of s q)))
       ≡ cond d ends.Dead cut
   by_death true is = refl
   by_death false is = alive_as (inside_at s h before) refl is
 
   -- it ends as what is seen of the event tells
-  pub ends_as : end_by (going_at s i q) (passed_of s e before) ≡ end_before s q e before
+  pub ends_as : end_by (course_of s q) (passed_of s e before) ≡ end_before s q e before
   unfolding passed_of
   ends_as =
       let allowed = made_at s e before run in
@@ -183,7 +183,7 @@ module _ (s : Setting) (e : Event) (before : History) (i : ℕ) (q : Known) (run
       let fatal : (is_some interrupted && is_killed e.done.ended) ≡ acts.is_fatal e =
       and_if (is_some interrupted) (is_killed e.done.ended) (has_killed e) (kills_by_signal here e.entry e.done allowed.free allowed.did) in
       let outside : is_none (inside_at s h before) ≡ not inside = is_none_not (inside_at s h before) ∙ ap not seen_own in
-      let rest = option_map_or (cut_or_unended (is_some interrupted)) (inside_at s h before) (left_or_dropped (going_at s i q)) in
+      let rest = option_map_or (cut_or_unended (is_some interrupted)) (inside_at s h before) (left_or_dropped (course_of s q)) in
       ap (λ b. cond (has_died q || (b && not (moved_out s q && is_none (inside_at s h before)))) ends.Dead rest) fatal
       ∙ ap (λ b. cond (has_died q || (acts.is_fatal e && not (moved_out s q && b))) ends.Dead rest) outside
       ∙ by_death dead refl

@@ -2,11 +2,9 @@
 use Rattle.std.proofs.Common.{◌≡◌, ℕ, ◌+◌, ◌<◌, ◌^◌, List, [], ◌∷◌, ◌++◌, length, map, take, drop, get_or, option_to_list, replicate, reverse, refl, sym, ap, ◌∙◌, subst, arith, eqb, ltb, ◌&&◌, Bool, true, false, cond, Option, Some, None, Result, Ok, Err}
 use Rattle.std.proofs.lemmas.Bool.{eqb-true, false≢true, ltb-false, ltb-true}
 use Rattle.std.proofs.lemmas.List.{get_or-replicate, get_or_past, length-map, length-replicate, map-append, take-append-drop, drop_more}
-use Rattle.mach_types.specs.Events.{choice_of, choice_with, kind_of}
+use Rattle.mach_types.specs.Events.{choice_of, kind_of}
 use Rattle.mach_types.specs.Limits.{InRange}
 use Rattle.mach_types.specs.declared.events.Entry.{Entry}
-use Rattle.mach_types.specs.declared.events.Kind.{Kind}
-use Rattle.mach_types.specs.declared.events.Kind.TheVariants as kind
 use Rattle.block_model.specs.Deciding.{decide, event, history}
 use Rattle.block_model.specs.History.{Event, History}
 use Rattle.block_model.specs.Replay.{IsFirstRefused, checked, is_as_said, line_of, made_by, script_of}
@@ -26,7 +24,7 @@ use Rattle.block_view.specs.declared.ledger.Going.{Going as KeptGoing}
 use Rattle.block_view.specs.declared.passing.Passed.{Passed}
 use Rattle.block_view.proofs.Growing.{at-the-end}
 use Rattle.block_view.proofs.Made.{made_at}
-use Rattle.block_view.proofs.Seeing.{history_after, run_after}
+use Rattle.block_view.proofs.Seeing.{history_after, kind_back, run_after}
 use Rattle.block_view.proofs.Ties.{tied_next}
 use Rattle.block_view.proofs.TurnsTold.{turns_told}
 
@@ -147,15 +145,6 @@ logged_few s log m was limits =
     omega arith
 
 -- AN ENTRY THAT IS REFUSED
-
-kind_back : (k : Kind) (entry : Entry) → kind_of (choice_with k entry) ≡ k
-kind_back kind.Exec entry = refl
-kind_back kind.Drain entry = refl
-kind_back kind.Take entry = refl
-kind_back kind.Done entry = refl
-kind_back kind.Preempt entry = refl
-kind_back kind.Run entry = refl
-kind_back kind.Signal entry = refl
 
 both : (a b : Bool) → (a && b) ≡ true → (a ≡ true) × (b ≡ true)
 both true b is = (refl, is)

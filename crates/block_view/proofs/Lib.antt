@@ -1,6 +1,8 @@
 mod ActExamples
 mod Changes
 mod Closing
+mod CountedActs
+mod CountedLogs
 mod Covering
 mod Edits
 mod Endings

@@ -1,22 +1,28 @@
 -- What is seen of an entry as it is made again is what is seen of its event.
-use Rattle.std.proofs.Common.{◌≡◌, ℕ, ◌+◌, ◌<◌, ◌≤◌, ◌^◌, [], ◌∷◌, ◌++◌, leb, length, length-append, refl, sym, ap, ◌∙◌, subst, arith, cond, Bool, true, false, Option, Some, None, is_none, is_some}
+use Rattle.std.proofs.Common.{◌≡◌, ℕ, ◌+◌, ◌<◌, ◌≤◌, ◌^◌, [], ◌∷◌, ◌++◌, leb, length, length-append, refl, sym, ap, ◌∙◌, subst, arith, cond, Bool, true, false, Option, Some, None, is_none, is_some, Ok}
 use Rattle.std.specs.Option.{option_map_or, option_or}
 use Rattle.std.proofs.lemmas.Bool.{leb-false}
-use Rattle.mach_types.specs.Events.{choice_of}
+use Rattle.mach_types.specs.Events.{choice_of, choice_with, kind_of}
 use Rattle.mach_types.specs.Limits.{InRange}
+use Rattle.mach_types.specs.declared.events.Choice.{Choice}
 use Rattle.mach_types.specs.declared.events.Entry.{Entry}
+use Rattle.mach_types.specs.declared.events.Hart.{Hart}
+use Rattle.mach_types.specs.declared.events.Kind.{Kind}
+use Rattle.mach_types.specs.declared.events.Kind.TheVariants as kind
 use Rattle.mach_types.specs.declared.limits.End.{End}
 use Rattle.mach_types.specs.declared.limits.End.TheVariants.{Limit, Stuck, Unended}
 use Rattle.mach_types.specs.declared.sequences.Seq.{Seq}
 use Rattle.mach_types.specs.Kernel.Threads.{is_stuck}
-use Rattle.block_model.specs.Deciding.{end_of, end_unless, event, history}
+use Rattle.block_model.specs.Deciding.{decide, end_of, end_unless, event, history}
 use Rattle.block_model.specs.Here.{Here}
 use Rattle.block_model.specs.History.{Event, History, ended, here_in_history, restart, running}
-use Rattle.block_model.specs.Run.{IsRunHistory}
+use Rattle.block_model.specs.Run.{IsBlockRun, IsRunHistory}
 use Rattle.block_model.specs.Setting.{Seen, Setting}
 use Rattle.block_model.proofs.Laws.{history-append, length-history, within_limit}
 use Rattle.process.specs.Harts.{file_on}
-use Rattle.block_view.specs.Passing.{IsDecided, IsMadeAgain, IsMadeBy, inside_at, is_by_signal, is_killed, passed_of, pc_at, would_interrupt}
+use Rattle.block_view.specs.Passing.{IsAhead, IsAheadOf, IsDecided, IsMadeAgain, IsMadeBy, inside_at, is_by_signal, is_killed, passed_of, pc_at, would_interrupt}
+use Rattle.block_view.specs.declared.passing.Ahead.{Ahead}
+use Rattle.block_view.specs.declared.passing.Passed.{Passed}
 use Rattle.block_view.proofs.Interruptions.{interrupts_as}
 use Rattle.block_view.proofs.Made.{made_at, open_at}
 
@@ -61,7 +67,7 @@ module _ (m m' : Seen) (entry : Entry) (made : IsMadeBy m m' entry) where
   same_setting : m'.setting ≡ m.setting
   same_setting = ap (λ (x : Seen). x.setting) made.longer
 
-  longer_log : m'.log ≡ m.log ++ entry ∷ []
+  pub longer_log : m'.log ≡ m.log ++ entry ∷ []
   longer_log = ap (λ (x : Seen). x.log) made.longer
 
   pub history_after : history m'.setting m'.log ≡ newest ∷ before
@@ -119,8 +125,44 @@ module _ (m m' : Seen) (entry : Entry) (made : IsMadeBy m m' entry) where
         seen = seen_as n inside interrupts killed pc number inside_is (interrupts_is ∙ sym tells) ends at_pc;
       }
 
--- where the machine has no such hart, no entry is decided
-pub no_such_hart : (m : Seen) (entry : Entry) → m.setting.limits.harts ≤ entry.hart.0 → IsDecided m entry → ⊥
-no_such_hart m entry past decided =
-    let lt = leb-false m.setting.limits.harts entry.hart.0 (open_at m.setting (history m.setting m.log) entry.hart.0 (choice_of entry) entry decided).lt in
+-- where the machine has no such hart, nothing is decided of it
+pub nothing_decided : (m : Seen) (h : ℕ) (c : Choice) (entry : Entry) → m.setting.limits.harts ≤ h
+    → decide m.setting (history m.setting m.log) h c ≡ Ok entry → ⊥
+nothing_decided m h c entry past decided =
+    let lt = leb-false m.setting.limits.harts h (open_at m.setting (history m.setting m.log) h c entry decided).lt in
     omega arith
+
+pub no_such_hart : (m : Seen) (entry : Entry) → m.setting.limits.harts ≤ entry.hart.0 → IsDecided m entry → ⊥
+no_such_hart m entry past decided = nothing_decided m entry.hart.0 (choice_of entry) entry past decided
+
+-- A STEP OF A MACHINE
+
+-- the entry that is seen is the one that was made
+pub entry_again : (m m' : Seen) (entry : Entry) (passed : Passed) → IsMadeAgain m m' entry passed → passed.entry ≡ entry
+unfolding passed_of
+entry_again m m' entry passed again = ap (λ (p : Passed). p.entry) again.seen
+
+pub kind_back : (k : Kind) (entry : Entry) → kind_of (choice_with k entry) ≡ k
+kind_back kind.Exec entry = refl
+kind_back kind.Drain entry = refl
+kind_back kind.Take entry = refl
+kind_back kind.Done entry = refl
+kind_back kind.Preempt entry = refl
+kind_back kind.Run entry = refl
+kind_back kind.Signal entry = refl
+
+module _ (m m' : Seen) (hart : Hart) (c : Choice) (entry : Entry) (is : decide m.setting (history m.setting m.log) hart.0 c ≡ Ok entry)
+    (of : (entry.hart ≡ hart) × (choice_of entry ≡ c)) where
+  -- a step that is allowed makes the entry that is decided
+  pub made_by_step : m' ≡ record m { log = m.log ++ entry ∷ [] } → IsBlockRun m'.setting m'.log → IsMadeBy m m' entry
+  made_by_step longer run = record {
+    decided = (λ i. decide m.setting (history m.setting m.log) (of.0 i).0 (of.1 i)) ∙ is;
+    longer = longer;
+    block_run = run;
+  }
+
+  -- and what was seen ahead of it was seen ahead of the entry
+  pub ahead_of_step : (k : Kind) (ahead : Ahead) → k ≡ kind_of c → IsAheadOf m hart.0 k ahead → IsAhead m entry ahead
+  ahead_of_step k ahead asked seen =
+      let kinds : k ≡ entry.kind = asked ∙ ap kind_of (sym of.1) ∙ kind_back entry.kind entry in
+      subst (λ (h : Hart). IsAheadOf m h.0 entry.kind ahead) (sym of.0) (subst (λ x. IsAheadOf m hart.0 x ahead) kinds seen)

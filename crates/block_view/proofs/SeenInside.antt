@@ -186,6 +186,8 @@ module _ (s : Setting) (e : Event) (before : History) (run : IsRunHistory s (e â
     goes_on_as =
         Î» j. record {
           place = i;
-          moved_out = moved_on (is_instruction e.entry.kind) refl j;
-          died = dies_by_signal (with_event e before q) on j;
+          course = record {
+            moved_out = moved_on (is_instruction e.entry.kind) refl j;
+            died = dies_by_signal (with_event e before q) on j;
+          };
         }

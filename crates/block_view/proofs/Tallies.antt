@@ -1,8 +1,10 @@
--- Counts add up: an act more is counted once, and the counts of a hart are together as many as its acts.
-use Rattle.std.proofs.Common.{◌≡◌, ◌≤◌, ◌<◌, ℕ, ◌+◌, ◌&&◌, List, [], ◌∷◌, ◌++◌, eqb, filter, get_or, length, take, refl, sym, ap, ◌∙◌, arith, Bool, true, false, cond}
-use Rattle.std.proofs.lemmas.List.{take_more}
+-- Counts add up: an act more is counted once, one that changes as it is then, and the counts of a hart are together as many as its acts.
+use Rattle.std.proofs.Common.{◌≡◌, ◌≤◌, ℕ, zero, suc, ◌+◌, ◌-◌, ◌&&◌, List, [], ◌∷◌, ◌++◌, eqb, filter, length, map, slice_get, refl, sym, ap, ◌∙◌, arith, Bool, true, false, cond, Some}
+use Rattle.block_model.specs.declared.acts.SeqEnd.{SeqEnd}
 use Rattle.block_model.specs.declared.acts.SeqEnd.TheVariants as ends
-use Rattle.block_view.specs.Counting.{counted, counts_of, how_many, is_cut, is_dead, is_dropped, is_ended, is_kernel, is_left, is_step, is_unended, total}
+use Rattle.block_view.specs.Counters.{ended_one}
+use Rattle.block_view.specs.Counting.{counted, counted_end, counts_of, how_many, is_cut, is_dead, is_dropped, is_ended, is_kernel, is_left, is_step, is_unended, total}
+use Rattle.block_view.specs.Ledgers.{changed_at, with_end, with_last}
 use Rattle.block_view.specs.declared.forms.Act.{Act}
 use Rattle.block_view.specs.declared.forms.Form.{Form}
 use Rattle.block_view.specs.declared.forms.Form.TheVariants.{Step, Kernel, Sequence}
@@ -139,23 +141,102 @@ total_most (a ∷ list) h =
     let one = ap total (added_first list a h) ∙ total_added (eqb a.hart.0 h) a.form (counts_of list h) in
     omega (arith, one, kept_most (eqb a.hart.0 h), total_most list h)
 
--- IN A LOOP OVER ACTS
+-- AN ACT THAT CHANGES
 
--- one act further, which is of the hart or of another; the acts may be known under two names
-pub counts_more : (list items : List Act) → items ≡ list → (i h : ℕ) (d : Act) (counts : Counts) → i < length items
-    → eqb (get_or items i d).hart.0 h ≡ true → counts ≡ counts_of (take i list) h
-    → counted (get_or items i d).form counts ≡ counts_of (take (i + 1) list) h
-counts_more list items same i h d counts lt own so_far =
-    ap (counted (get_or items i d).form) (so_far ∙ ap (λ (acts : List Act). counts_of (take i acts) h) (sym same))
-    ∙ sym (counts_last (take i items) (get_or items i d) h own)
-    ∙ sym (ap (λ (acts : List Act). counts_of acts h) (take_more items i d lt))
-    ∙ ap (λ (acts : List Act). counts_of (take (i + 1) acts) h) same
+-- the acts but for the one at a place
+abbrev but : ℕ → List Act → List Act
+but i [] = []
+but zero (x ∷ acts) = acts
+but (suc i) (x ∷ acts) = x ∷ but i acts
 
-pub counts_kept : (list items : List Act) → items ≡ list → (i h : ℕ) (d : Act) (counts : Counts) → i < length items
-    → eqb (get_or items i d).hart.0 h ≡ false → counts ≡ counts_of (take i list) h → counts ≡ counts_of (take (i + 1) list) h
-counts_kept list items same i h d counts lt other so_far =
-    so_far
-    ∙ ap (λ (acts : List Act). counts_of (take i acts) h) (sym same)
-    ∙ sym (counts_other (take i items) (get_or items i d) h other)
-    ∙ sym (ap (λ (acts : List Act). counts_of acts h) (take_more items i d lt))
-    ∙ ap (λ (acts : List Act). counts_of (take (i + 1) acts) h) same
+-- what is added in two goes can be added in the other order
+plus_swap : (a b c : ℕ) → a + b + c ≡ a + c + b
+plus_swap a b c = omega arith
+
+added_swap : (counts : Counts) (one other : (Form → Bool) → Bool) → added (added counts one) other ≡ added (added counts other) one
+added_swap counts one other =
+    same_counts _ _ (plus_swap counts.step _ _) (plus_swap counts.left _ _) (plus_swap counts.cut _ _) (plus_swap counts.dropped _ _)
+    (plus_swap counts.dead _ _) (plus_swap counts.unended _ _) (plus_swap counts.kernel _ _)
+
+-- 1 is added where an act of the hart passes
+abbrev of_act : ℕ → Act → (Form → Bool) → Bool
+of_act h act so = eqb act.hart.0 h && so act.form
+
+-- an act that changes is counted as it is then, beside the others
+changed_counts : (f : Act → Act) (acts : List Act) (i h : ℕ) (act : Act) → slice_get acts i ≡ Some act
+    → counts_of (changed_at i f acts) h ≡ added (counts_of (but i acts) h) (of_act h (f act))
+changed_counts f [] i h act at = absurd cc
+changed_counts f (x ∷ acts) zero h act at =
+    let same : x ≡ act = cc in
+    added_first acts (f x) h ∙ ap (λ (a : Act). added (counts_of acts h) (of_act h (f a))) same
+changed_counts f (x ∷ acts) (suc i) h act at =
+    added_first (changed_at i f acts) x h
+    ∙ ap (λ (c : Counts). added c (of_act h x)) (changed_counts f acts i h act at)
+    ∙ added_swap (counts_of (but i acts) h) (of_act h (f act)) (of_act h x)
+    ∙ ap (λ (c : Counts). added c (of_act h (f act))) (sym (added_first (but i acts) x h))
+
+unchanged : (acts : List Act) (i : ℕ) → changed_at i (λ act. act) acts ≡ acts
+unchanged [] i = refl
+unchanged (x ∷ acts) zero = refl
+unchanged (x ∷ acts) (suc i) = ap (λ xs. x ∷ xs) (unchanged acts i)
+
+module _ (acts : List Act) (i h : ℕ) (act : Act) (at : slice_get acts i ≡ Some act) where
+  abbrev others : Counts
+  others = counts_of (but i acts) h
+
+  as_it_is : counts_of acts h ≡ added others (of_act h act)
+  as_it_is = ap (λ xs. counts_of xs h) (sym (unchanged acts i)) ∙ changed_counts (λ a. a) acts i h act at
+
+  -- it takes in an entry
+  pub counts_with_last : (n : ℕ) → counts_of (changed_at i (with_last n) acts) h ≡ counts_of acts h
+  counts_with_last n = changed_counts (with_last n) acts i h act at ∙ sym as_it_is
+
+  -- it is of another hart
+  pub counts_elsewhere : (end : SeqEnd) → eqb act.hart.0 h ≡ false → counts_of (changed_at i (with_end end) acts) h ≡ counts_of acts h
+  counts_elsewhere end other =
+      changed_counts (with_end end) acts i h act at
+      ∙ ap (λ b. added others (λ so. b && so (Sequence end))) other
+      ∙ sym (as_it_is ∙ ap (λ b. added others (λ so. b && so act.form)) other)
+
+  -- it is a sequence of the hart that is unended
+  module _ (own : eqb act.hart.0 h ≡ true) (opens : act.form ≡ Sequence ends.Unended) where
+    open_one : counts_of acts h ≡ counted (Sequence ends.Unended) others
+    open_one =
+        as_it_is
+        ∙ ap (λ b. added others (λ so. b && so act.form)) own
+        ∙ ap (λ (form : Form). added others (λ so. so form)) opens
+        ∙ added_one (Sequence ends.Unended) others
+
+    less_one : (n : ℕ) → n + 1 - 1 ≡ n
+    less_one n = omega arith
+
+    pub counts_ended : (end : SeqEnd) → counts_of (changed_at i (with_end end) acts) h ≡ ended_one end (counts_of acts h)
+    counts_ended end =
+        changed_counts (with_end end) acts i h act at
+        ∙ ap (λ b. added others (λ so. b && so (Sequence end))) own
+        ∙ added_one (Sequence end) others
+        ∙ sym (ap (ended_one end) open_one ∙ ap (λ n. counted_end end (record others { unended = n })) (less_one others.unended))
+
+    pub one_is_open : 1 ≤ (counts_of acts h).unended
+    one_is_open = let is = ap (λ (c : Counts). c.unended) open_one in omega arith
+
+-- ACTS THAT COUNT ALIKE
+
+-- two acts are counted alike for a hart: they are the same, or neither is of it
+pub data CountsAlike (h : ℕ) (a b : Act) : Type 0 where
+  Same : a ≡ b → CountsAlike h a b
+  Neither : eqb a.hart.0 h ≡ false → eqb b.hart.0 h ≡ false → CountsAlike h a b
+
+alike_first : (h : ℕ) (a b : Act) (counts : Counts) → CountsAlike h a b → added counts (of_act h a) ≡ added counts (of_act h b)
+alike_first h a b counts (Same is) = ap (λ x. added counts (of_act h x)) is
+alike_first h a b counts (Neither one other) =
+    ap (λ x. added counts (λ so. x && so a.form)) one ∙ sym (ap (λ x. added counts (λ so. x && so b.form)) other)
+
+pub counts_alike : {X : Type 0} (f g : X → Act) (xs : List X) (h : ℕ) → ((j : ℕ) (x : X) → slice_get xs j ≡ Some x → CountsAlike h (f x) (g x))
+    → counts_of (map f xs) h ≡ counts_of (map g xs) h
+counts_alike f g [] h alike = refl
+counts_alike f g (x ∷ xs) h alike =
+    added_first (map f xs) (f x) h
+    ∙ alike_first h (f x) (g x) (counts_of (map f xs) h) (alike 0 x refl)
+    ∙ ap (λ (c : Counts). added c (of_act h (g x))) (counts_alike f g xs h (λ j y at. alike (suc j) y at))
+    ∙ sym (added_first (map g xs) (g x) h)

@@ -17,7 +17,7 @@ use Rattle.block_model.specs.Run.{IsRunHistory}
 use Rattle.block_model.specs.Setting.{Setting}
 use Rattle.block_model.proofs.Laws.{run_ready}
 use Rattle.block_view.specs.Acts.{act_alone, act_of, begins_to_run, is_preempt, is_run}
-use Rattle.block_view.specs.Ledgers.{Kept, act_by, begins, begun, changed_at, end_by, going_on, gone_on, hanging_of, is_more, is_of, leaves_inside, moves_out, noted, settled, stopped, taken_in, verdict_by, with_act_alone, with_end, with_end_at, with_going, with_hanging, with_last, without_hanging}
+use Rattle.block_view.specs.Ledgers.{Kept, act_by, begins, begun, changed_at, course_by, end_by, going_on, gone_on, hanging_of, is_more, is_of, leaves_inside, noted, settled, stopped, taken_in, verdict_by, with_act_alone, with_end, with_end_at, with_going, with_hanging, with_last, without_hanging}
 use Rattle.block_view.specs.Passing.{passed_of}
 use Rattle.block_view.specs.Standing.{Standing, after, begun_by, listed, standings}
 use Rattle.block_view.specs.Standing.Standing.{Over, Going, Hanging}
@@ -242,9 +242,9 @@ module _ (s : Setting) (e : Event) (before : History) (k : Kept) (run : IsRunHis
           ∙ ap (λ xs. xs ++ Going q ∷ []) (map_nowhere (after s e before) acts (λ i x at. fixed x (no_going i x at) (λ r is. no_run r))) in
           let places : length k.acts ≡ length acts = ap length tied.acts ∙ length-map acts listed in
           let last : length before + 1 ≡ suc (length before) = add-one (length before) in
-          let g : KeptGoing = record { place = length k.acts; moved_out = moves_out p; died = p.killed } in
+          let g : KeptGoing = record { place = length k.acts; course = course_by p } in
           let g_is : g ≡ going_at s (length acts) q =
-          λ j. record { place = places j; moved_out = moved_as s e before run q now inside j; died = dies_by_signal s e before run q now j } in
+          λ j. record { place = places j; course = record { moved_out = moved_as s e before run q now inside j; died = dies_by_signal s e before run q now j } } in
           let going = going_with_more s on on' acts k.going h q are_going refl h_is_kept (tied.rests h none) now others in
           let hanging = hanging_with_more acts k.hanging (Going q) are_hanging (λ r is. cc) in
           subst (IsTied s (e ∷ before)) (sym (noted_begun p k (tied.rests h none) starts ∙ ap (begun p) (settled_else p k isnt)))
@@ -388,14 +388,14 @@ module _ (s : Setting) (e : Event) (before : History) (k : Kept) (run : IsRunHis
           let p = passed_of s e before in
           let x = going_at s among.place q in
           let act = act_of (record { sequence = q; end = end_before s q e before }) in
-          let end_is : end_by x p ≡ end_before s q e before = ends_as s e before among.place q run own was now in
-          stopped_so (with_going h None (with_end_at among.place (end_by x p) k))
-          (ap (λ b. with_going h None (cond b (with_hanging (record { tid = e.entry.tid; place = among.place }) k) (with_end_at among.place (end_by x p) k))) stays)
-          (tied_alone (set acts among.place (Over act)) (with_going h None (with_end_at among.place (end_by x p) k)) now
+          let end_is : end_by x.course p ≡ end_before s q e before = ends_as s e before q run own was now in
+          stopped_so (with_going h None (with_end_at among.place (end_by x.course p) k))
+          (ap (λ b. with_going h None (cond b (with_hanging (record { tid = e.entry.tid; hart = e.entry.hart; place = among.place }) k) (with_end_at among.place (end_by x.course p) k))) stays)
+          (tied_alone (set acts among.place (Over act)) (with_going h None (with_end_at among.place (end_by x.course p) k)) now
           (record {
             rest = changed (Over act) (becomes_by false isnt);
-            listing = ap (changed_at among.place (with_end (end_by x p))) tied.acts
-                ∙ listed_at_place (with_end (end_by x p)) acts among.place (Going q) (Over act) among.at
+            listing = ap (changed_at among.place (with_end (end_by x.course p))) tied.acts
+                ∙ listed_at_place (with_end (end_by x.course p)) acts among.place (Going q) (Over act) among.at
                 (ap (λ end. act_of (record { sequence = q; end = end })) (sym end_is));
             harts = length-set k.going h None ∙ tied.harts;
             going = none_kept (Over act) (λ r is. cc);
@@ -426,14 +426,14 @@ module _ (s : Setting) (e : Event) (before : History) (k : Kept) (run : IsRunHis
       tied_hung leaves is =
           let p = passed_of s e before in
           let x = going_at s among.place q in
-          let kept : KeptHanging = record { tid = e.entry.tid; place = among.place } in
+          let kept : KeptHanging = record { tid = e.entry.tid; hart = e.entry.hart; place = among.place } in
           let becomes = becomes_by true is in
           let preempts = preempt_is e.entry.kind (second (is_inside_at s q.hart before) (is_preempt e.entry.kind) is) in
           let threads : Some e.entry.tid.0 ≡ Some q.thread = sym (ran s e before run preempts) ∙ ((whole_place s before run.0).runs h q was).now in
           let thread : e.entry.tid.0 ≡ q.thread = cc in
-          let kept_is : hanging_at among.place q ≡ kept = λ j. record { tid = record { 0 = sym thread j }; place = among.place } in
+          let kept_is : hanging_at among.place q ≡ kept = λ j. record { tid = record { 0 = sym thread j }; hart = record { 0 = own j }; place = among.place } in
           stopped_so (with_going h None (with_hanging kept k))
-          (ap (λ b. with_going h None (cond b (with_hanging kept k) (with_end_at among.place (end_by x p) k))) leaves)
+          (ap (λ b. with_going h None (cond b (with_hanging kept k) (with_end_at among.place (end_by x.course p) k))) leaves)
           (tied_alone (set acts among.place (Hanging q)) (with_going h None (with_hanging kept k)) now
           (record {
             rest = changed (Hanging q) becomes;

@@ -20,7 +20,7 @@ use Rattle.block_view.specs.Ledgers.{Kept, begins, end_by, ended_at, hanging_of,
 use Rattle.block_view.specs.Passing.{inside_at, passed_of}
 use Rattle.block_view.specs.Standing.{Standing, after, begun_by, listed, standings, unended}
 use Rattle.block_view.specs.Standing.Standing.{Over, Going, Hanging}
-use Rattle.block_view.specs.Tied.{HangsAt, IsTied, StandsAt, going_at}
+use Rattle.block_view.specs.Tied.{HangsAt, IsTied, StandsAt, course_of, going_at}
 use Rattle.block_view.specs.Turns.{acts_ended, begun_inside, ended_by, over_act, sequences_begun, turns}
 use Rattle.block_view.specs.declared.forms.Act.{Act}
 use Rattle.block_view.specs.declared.ledger.Going.{Going as KeptGoing}
@@ -227,14 +227,14 @@ module _ (s : Setting) (e : Event) (before : History) (k : Kept) (run : IsRunHis
       stops_by true leaves =
           let is = ap (λ b. b && is_preempt e.entry.kind) (own_inside s e before k run tied q was) ∙ sym (leaves_as s e before) ∙ leaves in
           ap over_act (becomes_by s e before k run tied q was other now not_taken true is)
-          ∙ sym (ap (λ b. cond b None (ended_at place (end_by (going_at s place q) (passed_of s e before)) k)) leaves)
+          ∙ sym (ap (λ b. cond b None (ended_at place (end_by (course_of s q) (passed_of s e before)) k)) leaves)
       stops_by false stays =
           let p = passed_of s e before in
           let is = ap (λ b. b && is_preempt e.entry.kind) (own_inside s e before k run tied q was) ∙ sym (leaves_as s e before) ∙ stays in
-          let end_is : end_by (going_at s place q) p ≡ end_before s q e before = ends_as s e before place q run (own s e before k run tied q was) was now in
+          let end_is : end_by (course_of s q) p ≡ end_before s q e before = ends_as s e before q run (own s e before k run tied q was) was now in
           ap over_act (becomes_by s e before k run tied q was other now not_taken false is)
-          ∙ sym (ap (λ b. cond b None (ended_at place (end_by (going_at s place q) p) k)) stays
-          ∙ ended_kept place q (Going q) (end_by (going_at s place q) p) stood refl
+          ∙ sym (ap (λ b. cond b None (ended_at place (end_by (course_of s q) p) k)) stays
+          ∙ ended_kept place q (Going q) (end_by (course_of s q) p) stood refl
           ∙ ap (λ v. Some (act_of (record { sequence = q; end = v }))) end_is)
 
       by_stop : option_to_list (turn_in (Some (going_at s place q)) (passed_of s e before) k) ≡ turns s e before

@@ -10,6 +10,7 @@ use Rattle.block_model.specs.declared.acts.SeqEnd.{SeqEnd}
 use Rattle.block_model.specs.declared.acts.SeqEnd.TheVariants as ends
 use Rattle.block_model.specs.Acts.{is_instruction}
 use Rattle.block_view.specs.Acts.{form_alone, is_preempt, is_run}
+use Rattle.block_view.specs.declared.course.Course.{Course}
 use Rattle.block_view.specs.declared.forms.Act.{Act}
 use Rattle.block_view.specs.declared.forms.Form.{Form}
 use Rattle.block_view.specs.declared.forms.Form.TheVariants.{Sequence}
@@ -58,22 +59,31 @@ verdict_by p = if p.killed then ends.Dead else if p.pc == p.entry.pc then ends.D
 -- HOW A SEQUENCE ENDS THAT GOES ON
 
 -- where it goes on no longer and no event interrupts it
-abbrev pub left_or_dropped : Going → SeqEnd
-left_or_dropped g = if g.moved_out then ends.Left else ends.Dropped
+abbrev pub left_or_dropped : Course → SeqEnd
+left_or_dropped c = if c.moved_out then ends.Left else ends.Dropped
 
 -- inside, by an event that interrupts its thread or doesn't
 abbrev pub cut_or_unended : Bool → Seq → SeqEnd
 cut_or_unended interrupts sequence = if interrupts then ends.Cut sequence.abort else ends.Unended
 
 -- with the next event of its hart, which isn't of it and doesn't preempt its thread inside
-abbrev pub end_by : Going → Passed → SeqEnd
-end_by g p =
-    if g.died || (is_fatal p && not (g.moved_out && is_none p.inside)) then ends.Dead
-    else option_map_or (cut_or_unended p.interrupts) p.inside (left_or_dropped g)
+abbrev pub end_by : Course → Passed → SeqEnd
+end_by c p =
+    if c.died || (is_fatal p && not (c.moved_out && is_none p.inside)) then ends.Dead
+    else option_map_or (cut_or_unended p.interrupts) p.inside (left_or_dropped c)
 
 -- where the log ends, with its thread inside or not
-abbrev pub end_here : Going → Bool → SeqEnd
-end_here g inside = if g.died then ends.Dead else if inside then ends.Unended else left_or_dropped g
+abbrev pub end_here : Course → Bool → SeqEnd
+end_here c inside = if c.died then ends.Dead else if inside then ends.Unended else left_or_dropped c
+
+-- THE COURSE OF A SEQUENCE
+
+-- of one that begins with an entry, and of one that takes in one entry more
+abbrev pub course_by : Passed → Course
+course_by p = record { moved_out = moves_out p; died = p.killed }
+
+abbrev pub gone_by : Course → Passed → Course
+gone_by c p = record { moved_out = if is_instruction p.entry.kind then moves_out p else c.moved_out; died = p.killed }
 
 -- WHAT IS KEPT
 
@@ -170,12 +180,12 @@ settled p k = if is_run p.entry.kind then settled_by p (hanging_of k p.entry.tid
 -- a sequence begins
 abbrev pub begun : Passed → Kept → Kept
 begun p k =
-    with_going p.entry.hart.0 (Some (record { place = length k.acts; moved_out = moves_out p; died = p.killed }))
+    with_going p.entry.hart.0 (Some (record { place = length k.acts; course = course_by p }))
     (with_act (act_by p (Sequence ends.Unended)) k)
 
 -- a sequence takes in the entry
 abbrev pub gone_on : Going → Passed → Going
-gone_on g p = record { place = g.place; moved_out = if is_instruction p.entry.kind then moves_out p else g.moved_out; died = p.killed }
+gone_on g p = record { place = g.place; course = gone_by g.course p }
 
 abbrev pub taken_in : Going → Passed → Kept → Kept
 taken_in g p k =
@@ -187,8 +197,8 @@ with_hanging x k = record k { hanging = k.hanging ++ x ∷ [] }
 
 abbrev pub hung_or_ended : Going → Passed → Kept → Kept
 hung_or_ended g p k =
-    if leaves_inside p then with_hanging (record { tid = p.entry.tid; place = g.place }) k
-    else with_end_at g.place (end_by g p) k
+    if leaves_inside p then with_hanging (record { tid = p.entry.tid; hart = p.entry.hart; place = g.place }) k
+    else with_end_at g.place (end_by g.course p) k
 
 abbrev pub stopped : Going → Passed → Kept → Kept
 stopped g p k = with_going p.entry.hart.0 None (hung_or_ended g p k)
@@ -217,7 +227,7 @@ abbrev pub settled_act : Passed → Kept → Option Act
 settled_act p k = if is_run p.entry.kind then settled_act_by p (hanging_of k p.entry.tid) k else None
 
 abbrev pub stopped_act : Going → Passed → Kept → Option Act
-stopped_act g p k = if leaves_inside p then None else ended_at g.place (end_by g p) k
+stopped_act g p k = if leaves_inside p then None else ended_at g.place (end_by g.course p) k
 
 -- where a sequence goes on on its hart, and where none does
 abbrev pub turn_in : Option Going → Passed → Kept → Option Turn
@@ -235,7 +245,7 @@ noted p k = noted_in (going_on k p.entry.hart.0) p (settled p k)
 -- the sequence that goes on on a hart ends where the log does
 abbrev pub closed_by : Option Going → Bool → Kept → Kept
 closed_by None inside k = k
-closed_by (Some g) inside k = with_end_at g.place (end_here g inside) k
+closed_by (Some g) inside k = with_end_at g.place (end_here g.course inside) k
 
 abbrev pub closed : ℕ → Bool → Kept → Kept
 closed h inside k = closed_by (going_on k h) inside k

@@ -79,8 +79,12 @@ pub record IsMadeAgain (m m' : Seen) (entry : Entry) (passed : Passed) : Type 0 
   pub made : IsMadeBy m m' entry
   pub seen : passed ≡ passed_of m.setting (event m.setting (history m.setting m.log) entry) (history m.setting m.log)
 
--- this is seen of its hart ahead of an entry: the sequence that its thread is inside, and whether the entry would interrupt a thread
-pub record IsAhead (m : Seen) (entry : Entry) (ahead : Ahead) : Type 0 where
-  pub inside : ahead.inside ≡ inside_at m.setting entry.hart.0 (history m.setting m.log)
+-- this is seen of a hart ahead of an event of this kind: the sequence that its thread is inside, and whether the event would interrupt a thread
+pub record IsAheadOf (m : Seen) (h : ℕ) (kind : Kind) (ahead : Ahead) : Type 0 where
+  pub inside : ahead.inside ≡ inside_at m.setting h (history m.setting m.log)
   pub interrupts : ahead.interrupts
-      ≡ would_interrupt entry.kind (restart entry.hart.0 (history m.setting m.log)) (is_none (running m.setting entry.hart.0 (history m.setting m.log)))
+      ≡ would_interrupt kind (restart h (history m.setting m.log)) (is_none (running m.setting h (history m.setting m.log)))
+
+-- and of its hart ahead of an entry
+abbrev pub IsAhead : Seen → Entry → Ahead → Type 0
+IsAhead m entry ahead = IsAheadOf m entry.hart.0 entry.kind ahead

@@ -11,6 +11,7 @@ use Rattle.block_view.specs.Ledgers.{Kept, going_on, hanging_of}
 use Rattle.block_view.specs.Passing.{IsMadeAgain}
 use Rattle.block_view.specs.Standing.{Standing, listed, standings, unended}
 use Rattle.block_view.specs.Standing.Standing.{Over, Going, Hanging}
+use Rattle.block_view.specs.declared.course.Course.{Course}
 use Rattle.block_view.specs.declared.forms.Act.{Act}
 use Rattle.block_view.specs.declared.ledger.Going.{Going as KeptGoing}
 use Rattle.block_view.specs.declared.ledger.Hanging.{Hanging as KeptHanging}
@@ -21,14 +22,17 @@ abbrev pub StandsAt : List Standing → ℕ → Standing → Type 0
 StandsAt acts i x = slice_get acts i ≡ Some x
 
 -- a sequence as it is kept, whose act stands at a place: one that goes on, and one that hangs
+abbrev pub course_of : Setting → Known → Course
+course_of s q = record { moved_out = moved_out s q; died = has_died q }
+
 abbrev pub going_at : Setting → ℕ → Known → KeptGoing
-going_at s i q = record { place = i; moved_out = moved_out s q; died = has_died q }
+going_at s i q = record { place = i; course = course_of s q }
 
 abbrev pub tid_of : Known → Tid
 tid_of q = record { 0 = q.thread }
 
 abbrev pub hanging_at : ℕ → Known → KeptHanging
-hanging_at i q = record { tid = tid_of q; place = i }
+hanging_at i q = record { tid = tid_of q; hart = record { 0 = q.hart }; place = i }
 
 -- a sequence of a thread hangs, whose act stands at a place
 pub record HangsAt (acts : List Standing) (tid : Tid) (i : ℕ) : Type 0 where

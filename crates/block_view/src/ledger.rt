@@ -2,9 +2,10 @@
 
 ghost use Rattle.std.specs.Prelude.{◌≡◌, ◌<◌, ◌++◌, IfOk, OnOk, Some, length};
 ghost use Rattle.std.specs.Option.{option_map};
-ghost use Rattle.block_view.specs.Ledgers.{HasPlaces, act_by, begun, closed, end_by, end_here, ended_at, going_on, gone_on, hanging_of, hung_or_ended, is_open, is_place, kept_in, left_or_dropped, noted, nothing_kept, open_from, open_one, settled, settled_act, stopped, stopped_act, taken_in, turn_noted, with_act, with_end_at, with_hanging, without_hanging};
+ghost use Rattle.block_view.specs.Ledgers.{HasPlaces, act_by, begun, closed, ended_at, going_on, gone_on, hanging_of, hung_or_ended, is_open, is_place, kept_in, noted, nothing_kept, open_from, open_one, settled, settled_act, stopped, stopped_act, taken_in, turn_noted, with_act, with_end_at, with_hanging, without_hanging};
 ghost use Rattle.block_view.specs.declared.turns.Turn.TheVariants.{Ends};
 
+use crate::course::Course;
 use crate::forms::{Act, Form};
 use crate::passing::Passed;
 use crate::turns::Turn;
@@ -17,65 +18,18 @@ use std::alloc::{AllocError, Global};
 pub(crate) struct Going {
     /// Where its act stands among the acts.
     pub(crate) place: usize,
-    /// Whether its last instruction moved the pc out of the range that was named before that.
-    pub(crate) moved_out: bool,
-    /// Whether its last event ended the process.
-    pub(crate) died: bool,
+    /// Its course.
+    pub(crate) course: Course,
 }
 
 impl Going {
-    /// How it ends where it goes on no longer and no event interrupts it.
-    fn left_or_dropped(&self) -> SeqEnd
-        ensures { result ≡ left_or_dropped self.now }
-    {
-        if self.moved_out {
-            SeqEnd::Left
-        } else {
-            SeqEnd::Dropped
-        }
-    }
-
-    /// How it ends with the next event of its hart, which isn't of it and doesn't preempt its thread inside.
-    fn end_before(&self, passed: &Passed) -> SeqEnd
-        ensures { result ≡ end_by self.now passed.now }
-    {
-        let outside = passed.inside.is_none();
-        if self.died || passed.is_fatal() && !(self.moved_out && outside) {
-            return SeqEnd::Dead;
-        }
-        match passed.inside {
-            Some(sequence) if passed.interrupts => SeqEnd::Cut(sequence.abort),
-            Some(_) => SeqEnd::Unended,
-            None => self.left_or_dropped(),
-        }
-    }
-
-    /// How it ends where the log does, with its thread inside or not.
-    fn end_so_far(&self, inside: bool) -> SeqEnd
-        ensures { result ≡ end_here self.now inside }
-    {
-        if self.died {
-            SeqEnd::Dead
-        } else if inside {
-            SeqEnd::Unended
-        } else {
-            self.left_or_dropped()
-        }
-    }
-
     /// It with one entry more, which it takes in.
     fn gone_on(&self, passed: &Passed) -> Going
         ensures { result ≡ gone_on self.now passed.now }
     {
-        let moved_out = if passed.executes() {
-            passed.moved_out()
-        } else {
-            self.moved_out
-        };
         Going {
             place: self.place,
-            moved_out,
-            died: passed.killed,
+            course: self.course.gone_on(passed),
         }
     }
 }
@@ -85,6 +39,8 @@ impl Going {
 pub(crate) struct Hanging {
     /// The thread.
     pub(crate) tid: Tid,
+    /// The hart that it was preempted on.
+    pub(crate) hart: Hart,
     /// Where its act stands among the acts.
     pub(crate) place: usize,
 }
@@ -196,8 +152,7 @@ impl Ledger {
         self.add(passed, Form::Sequence(SeqEnd::Unended))?;
         self.going[passed.hart()] = Some(Going {
             place,
-            moved_out: passed.moved_out(),
-            died: passed.killed,
+            course: Course::of(passed),
         });
         Ok(())
     }
@@ -234,11 +189,12 @@ impl Ledger {
         if passed.leaves_inside() {
             self.hanging.push(Hanging {
                 tid: passed.entry.tid,
+                hart: passed.entry.hart,
                 place: going.place,
             })?;
             return Ok(None);
         }
-        Ok(Some(self.end_at(going.place, going.end_before(passed))))
+        Ok(Some(self.end_at(going.place, going.course.end_before(passed))))
     }
 
     /// The sequence whose act stands at a place ends. Answers its act.
@@ -339,7 +295,7 @@ impl Ledger {
         ensures { kept_in self.new ≡ closed hart.0 inside (kept_in self.old) }
     {
         if let Some(going) = self.going[usize::from(hart.0)] {
-            self.end_at(going.place, going.end_so_far(inside));
+            self.end_at(going.place, going.course.end_so_far(inside));
         }
     }
 }

@@ -1,21 +1,21 @@
 //! An entry of a log as it is made again, and what is seen of its hart before it and after it.
 
-ghost use Rattle.std.specs.Prelude.{◌≡◌, ◌<◌, ◌↔◌, false, IfSome, IfNone, IsTrue, is_none};
+ghost use Rattle.std.specs.Prelude.{◌≡◌, ◌<◌, ◌≤◌, ◌↔◌, false, Ok, Err, IfOk, IfErr, OnErr, IfSome, IfNone, IsTrue, is_none};
 ghost use Rattle.std.specs.Option.{option_map};
 ghost use Rattle.mach_types.specs.Limits.{InRange};
-ghost use Rattle.block_model.specs.Deciding.{history};
+ghost use Rattle.block_model.specs.Deciding.{decide, history};
 ghost use Rattle.block_model.specs.History.{restart, running};
 ghost use Rattle.block_model.specs.Acts.{is_instruction, named_at};
 ghost use Rattle.block_model.specs.Setting.{Seen};
 ghost use Rattle.block_view.specs.Acts.{form_alone, is_run};
 ghost use Rattle.block_view.specs.Ledgers.{begins, is_fatal, is_more, leaves_inside, moves_out, takes, verdict_by};
-ghost use Rattle.block_view.specs.Passing.{IsAhead, IsDecided, IsMadeAgain, IsMadeBy, inside_at, is_by_signal, would_interrupt};
+ghost use Rattle.block_view.specs.Passing.{IsAhead, IsAheadOf, IsDecided, IsMadeAgain, IsMadeBy, inside_at, is_by_signal, would_interrupt};
 ghost use Rattle.block_view.specs.declared.turns.Turn.TheVariants.{Begins};
 
 use crate::forms::Form;
 use crate::turns::Turn;
-use block_model::SeqEnd;
-use mach_types::{End, Entry, Hart, Kind, Named, Seq};
+use block_model::{Refused, SeqEnd};
+use mach_types::{Choice, End, Entry, Hart, Kind, Named, Seq};
 use machine_core::Machine;
 
 /// An entry that was made.
@@ -218,7 +218,7 @@ pub fn make_named(machine: &mut Machine, entry: Entry, named: &Named) -> Option<
     ensures made { IfSome result (IsMadeAgain machine.old machine.new entry) }
     ensures refused { IfNone result (IsDecided machine.old entry → ⊥) }
 {
-    let ahead = named_ahead(machine, entry, named);
+    let ahead = named_ahead(machine, entry.hart, entry.kind, named);
     if !make(machine, entry) {
         return None;
     }
@@ -239,18 +239,57 @@ pub fn seen_ahead(machine: &Machine, entry: Entry) -> Ahead
     requires { entry.hart.0 < machine.now.setting.limits.harts }
     ensures { IsAhead machine.now entry result }
 {
-    named_ahead(machine, entry, &machine.named(entry.hart))
+    ahead_of(machine, entry.hart, entry.kind)
 }
 
-/// The same, where the area of its hart's thread names this.
-fn named_ahead(machine: &Machine, entry: Entry, named: &Named) -> Ahead
-    requires hart { entry.hart.0 < machine.now.setting.limits.harts }
-    requires named { named.now ≡ named_at machine.now.setting entry.hart.0 (history machine.now.setting machine.now.log) }
-    ensures { IsAhead machine.now entry result }
+/// What is seen of a hart ahead of an event of this kind.
+fn ahead_of(machine: &Machine, hart: Hart, kind: Kind) -> Ahead
+    requires { hart.0 < machine.now.setting.limits.harts }
+    ensures { IsAheadOf machine.now hart.0 kind result }
+{
+    named_ahead(machine, hart, kind, &machine.named(hart))
+}
+
+/// The same, where the area of its thread names this.
+fn named_ahead(machine: &Machine, hart: Hart, kind: Kind, named: &Named) -> Ahead
+    requires hart { hart.0 < machine.now.setting.limits.harts }
+    requires named { named.now ≡ named_at machine.now.setting hart.0 (history machine.now.setting machine.now.log) }
+    ensures { IsAheadOf machine.now hart.0 kind result }
 {
     Ahead {
-        inside: inside_named(machine, entry.hart, named),
-        interrupts: interrupts(machine, entry.hart, entry.kind),
+        inside: inside_named(machine, hart, named),
+        interrupts: interrupts(machine, hart, kind),
+    }
+}
+
+/// Makes an event of a hart as [`Machine::step`] does: what is seen of its entry, or the refusal that is due.
+pub fn step_seen(machine: &mut Machine, hart: Hart, choice: Choice) -> Result<Passed, Refused>
+    requires limits { InRange machine.old.setting.limits }
+    ensures entry { IfOk result (λ passed. decide machine.old.setting (history machine.old.setting machine.old.log) hart.0 choice
+        ≡ Ok passed.entry) }
+    ensures seen { IfOk result (λ passed. IsMadeAgain machine.old machine.new passed.entry passed) }
+    ensures refused { IfErr result (λ why. decide machine.old.setting (history machine.old.setting machine.old.log) hart.0 choice
+        ≡ Err why) }
+    ensures same { OnErr result (machine.new ≡ machine.old) }
+{
+    if hart.0 >= machine.harts() {
+        return Err(refusal_elsewhere(machine, hart, choice));
+    }
+    let ahead = ahead_of(machine, hart, choice.kind());
+    match machine.step(hart, choice) {
+        Ok(entry) => Ok(seen_after(machine, entry, ahead)),
+        Err(refused) => Err(refused),
+    }
+}
+
+/// The refusal of an event of a hart that a machine hasn't.
+fn refusal_elsewhere(machine: &Machine, hart: Hart, choice: Choice) -> Refused
+    requires { machine.now.setting.limits.harts ≤ hart.0 }
+    ensures { decide machine.now.setting (history machine.now.setting machine.now.log) hart.0 choice ≡ Err result }
+{
+    match machine.answer(hart, choice) {
+        Ok(_) => unreachable!(),
+        Err(refused) => refused,
     }
 }
 

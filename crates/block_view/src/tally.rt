@@ -1,6 +1,7 @@
 //! A tally of acts by their forms.
 
 ghost use Rattle.std.specs.Prelude.{◌≡◌, ◌+◌, ◌<◌, ◌^◌};
+ghost use Rattle.block_view.specs.Counters.{CanEnd, ended_one};
 ghost use Rattle.block_view.specs.Counting.{counted, no_counts, total};
 
 use crate::forms::Form;
@@ -55,5 +56,14 @@ impl Counts {
             Form::Sequence(SeqEnd::Dead) => self.dead += 1,
             Form::Sequence(SeqEnd::Unended) => self.unended += 1,
         }
+    }
+
+    /// A sequence that was unended ends.
+    pub(crate) fn end_one(&mut self, end: SeqEnd)
+        requires { CanEnd self.old }
+        ensures { self.new ≡ ended_one end self.old }
+    {
+        self.unended -= 1;
+        self.add(Form::Sequence(end));
     }
 }

@@ -1,18 +1,22 @@
 //! The acts of a log, by making its events again.
 
-ghost use Rattle.std.specs.Prelude.{◌≡◌, [], map, IfOk, IfErr};
+ghost use Rattle.std.specs.Prelude.{◌≡◌, [], map, IfOk, IfErr, OnOk};
 ghost use Rattle.mach_types.specs.Limits.{InRange};
 ghost use Rattle.elf_load.specs.Images.{IsBootable};
 ghost use Rattle.block_model.specs.Deciding.{history};
+ghost use Rattle.block_view.specs.Counters.{AreCounts};
 ghost use Rattle.block_view.specs.Ledgers.{kept_in};
 ghost use Rattle.block_view.specs.Standing.{at_the_end, standings};
 ghost use Rattle.block_view.specs.Tied.{IsTied};
+ghost use Rattle.block_model.specs.Run.{IsBlockRun};
 ghost use Rattle.block_model.specs.Setting.{setting_of};
 ghost use Rattle.block_view.specs.Viewing.{AreActs, IsViewCause};
 
+use crate::counter::Counter;
 use crate::forms::Acts;
 use crate::ledger::Ledger;
 use crate::passing::{inside, make_again};
+use crate::tally::Counts;
 use elf_load::Image;
 use mach_types::{Entry, Hart, Limits};
 use machine_core::Machine;
@@ -65,6 +69,34 @@ pub fn acts(alloc: Global, image: &Image, limits: &Limits, log: &[Entry]) -> Res
     }
     close(&mut ledger, &machine, limits.harts);
     Ok(Acts { list: ledger.list })
+}
+
+/// How many acts of each form each hart has in a log of an image under limits. It takes time in proportion to the
+/// log, and no memory for an act.
+///
+/// Refused as [`acts`] is.
+pub fn counts(
+    alloc: Global,
+    image: &Image,
+    limits: &Limits,
+    log: &[Entry],
+) -> Result<Vec<Counts>, ViewFault>
+    requires image { IsBootable limits.now.frames image.now }
+    requires limits { InRange limits.now }
+    ensures counts { IfOk result (λ counts. AreCounts (setting_of image.now limits.now) log.now counts.items) }
+    ensures run { OnOk result (IsBlockRun (setting_of image.now limits.now) log.now) }
+    ensures cause { IfErr result (IsViewCause (setting_of image.now limits.now) log.now) }
+{
+    let mut machine = Machine::boot(alloc, image, *limits, NO_SEED)?;
+    let mut counter = Counter::new(alloc, limits.harts)?;
+    for entry in log {
+        let number = machine.log().len() as u32 + 1;
+        let Some(passed) = make_again(&mut machine, limits.harts, *entry) else {
+            return Err(ViewFault::NotARun(number));
+        };
+        counter.follow(&passed)?;
+    }
+    Ok(counter.counts(alloc, &machine, limits.harts)?)
 }
 
 /// Ends what goes on where the log of a machine with so many harts ends.

@@ -1,16 +1,17 @@
-//! The acts of a run.
+//! The acts of a run, and their counts.
 
-ghost use Rattle.std.specs.Prelude.{◌≡◌, ◌<◌, ◌^◌, ◌++◌, IfOk, OnOk, length};
+ghost use Rattle.std.specs.Prelude.{◌≡◌, ◌++◌, IfOk, OnOk};
 ghost use Rattle.std.specs.List.{flat_map};
 ghost use Rattle.mach_types.specs.Limits.{InRange};
 ghost use Rattle.elf_load.specs.Images.{IsBootable};
 ghost use Rattle.block_model.specs.Run.{IsBlockRun};
 ghost use Rattle.block_model.specs.Setting.{setting_of};
 ghost use Rattle.block_view.specs.Acts.{acts_of};
+ghost use Rattle.block_view.specs.Counters.{AreCounts};
 ghost use Rattle.place_text.specs.Fields.{behind};
 ghost use Rattle.outcomes.specs.Summary.{act_line, form_fields};
 
-use block_view::{Act, Acts, Form, SeqEnd, ViewFault, acts, form_word};
+use block_view::{Act, Acts, Counts, Form, SeqEnd, ViewFault, acts, counts, form_word};
 use elf_load::Image;
 use mach_types::Limits;
 use machine_core::Machine;
@@ -28,11 +29,30 @@ pub(crate) fn acts_of_run(
     requires limits { InRange limits.now }
     requires setting { machine.now.setting ≡ setting_of image.now limits.now }
     requires run { IsBlockRun machine.now.setting machine.now.log }
-    ensures acts { IfOk result (λ acts. acts.list.items ≡ acts_of machine.now.setting machine.now.log) }
-    ensures few { IfOk result (λ acts. length acts.list.items < 2 ^ 32) }
+    ensures { IfOk result (λ acts. acts.list.items ≡ acts_of machine.now.setting machine.now.log) }
 {
     match acts(alloc, image, limits, machine.log()) {
         Ok(acts) => Ok(acts),
+        Err(ViewFault::NoMemory) => Err(AllocError),
+        Err(ViewFault::NotARun(_)) => unreachable!(),
+    }
+}
+
+/// The counts of a run of this image, at whose end a machine is. It errs only for want of memory.
+pub(crate) fn counts_of_run(
+    alloc: Global,
+    image: &Image,
+    limits: &Limits,
+    machine: &Machine,
+) -> Result<Vec<Counts>, AllocError>
+    requires image { IsBootable limits.now.frames image.now }
+    requires limits { InRange limits.now }
+    requires setting { machine.now.setting ≡ setting_of image.now limits.now }
+    requires run { IsBlockRun machine.now.setting machine.now.log }
+    ensures { IfOk result (λ counts. AreCounts machine.now.setting machine.now.log counts.items) }
+{
+    match counts(alloc, image, limits, machine.log()) {
+        Ok(counts) => Ok(counts),
         Err(ViewFault::NoMemory) => Err(AllocError),
         Err(ViewFault::NotARun(_)) => unreachable!(),
     }

@@ -20,6 +20,6 @@ pub use output::Output;
 pub use pairs::{pair_output, play_pair};
 pub use rounds::run_rounds;
 pub use run::run_workers;
-pub use scripts::play;
+pub use scripts::{CountedRun, play, play_counted};
 pub use solo::run_solo;
-pub use texts::{shown_text, trial_text};
+pub use texts::{counted_summary, shown_text, trial_text};

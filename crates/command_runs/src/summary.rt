@@ -1,30 +1,30 @@
 //! The text of a summary: how many acts of each form each hart has.
 
-ghost use Rattle.std.specs.Prelude.{◌≡◌, ◌<◌, ◌^◌, ◌++◌, IfOk, OnOk, length};
+ghost use Rattle.std.specs.Prelude.{◌≡◌, ◌++◌, IfOk, OnOk};
 ghost use Rattle.block_view.specs.Acts.{acts_of};
+ghost use Rattle.block_view.specs.Counters.{AreCounts};
 ghost use Rattle.place_text.specs.Fields.{behind};
 ghost use Rattle.outcomes.specs.Outputs.{log_summary};
 ghost use Rattle.outcomes.specs.Summary.{barriers_line, count_fields, counts_line, ends_text, hart_lines};
 
-use block_view::{Acts, Counts, Form, SeqEnd, counts, form_word};
-use mach_types::{Entry, Hart, Kind};
+use block_view::{Counts, Form, SeqEnd, form_word};
+use mach_types::{Entry, Kind};
 use machine_core::Machine;
 use place_text::fields::{begin_line, push_named_number};
 use place_text::{push_end, push_number_line};
 use std::alloc::{AllocError, Global};
 
-/// The summary of a run, at whose end a machine is: its acts, counted for each hart, its barriers, and its end.
+/// The summary of a run, at whose end a machine is: the counts of each hart, its barriers, and its end.
 pub(crate) fn summary_text(
     alloc: Global,
-    acts: &Acts,
+    counts: &[Counts],
     machine: &Machine,
 ) -> Result<Vec<u8>, AllocError>
-    requires acts { acts.now.list.items ≡ acts_of machine.now.setting machine.now.log }
-    requires few { length acts.now.list.items < 2 ^ 32 }
+    requires { AreCounts machine.now.setting machine.now.log counts.now }
     ensures { IfOk result (λ text. text.items ≡ log_summary machine.now.setting machine.now.log) }
 {
     let mut text = Vec::new(alloc);
-    push_summary(&mut text, acts, machine)?;
+    push_summary(&mut text, counts, machine)?;
     Ok(text)
 }
 
@@ -32,25 +32,29 @@ pub(crate) fn summary_text(
 #[tactic(auto, unfolding(outcomes::specs::Summary::summary_text))]
 pub(crate) fn push_summary(
     text: &mut Vec<u8>,
-    acts: &Acts,
+    counts: &[Counts],
     machine: &Machine,
 ) -> Result<(), AllocError>
-    requires acts { acts.now.list.items ≡ acts_of machine.now.setting machine.now.log }
-    requires few { length acts.now.list.items < 2 ^ 32 }
+    requires { AreCounts machine.now.setting machine.now.log counts.now }
     ensures { OnOk result (text.new.items ≡ text.old.items ++ log_summary machine.now.setting machine.now.log) }
 {
-    push_hart_lines(text, acts, machine.harts())?;
+    push_hart_lines(text, counts, machine)?;
     push_barriers_line(text, machine.log())?;
     push_end(text, machine.end())
 }
 
-/// Appends the lines of so many harts.
-fn push_hart_lines(text: &mut Vec<u8>, acts: &Acts, harts: u8) -> Result<(), AllocError>
-    requires { length acts.now.list.items < 2 ^ 32 }
-    ensures { OnOk result (text.new.items ≡ text.old.items ++ hart_lines acts.now.list.items harts) }
+/// Appends the lines of the harts of a machine.
+fn push_hart_lines(
+    text: &mut Vec<u8>,
+    counts: &[Counts],
+    machine: &Machine,
+) -> Result<(), AllocError>
+    requires { AreCounts machine.now.setting machine.now.log counts.now }
+    ensures { let s = machine.now.setting in OnOk result (text.new.items
+        ≡ text.old.items ++ hart_lines (acts_of s machine.now.log) s.limits.harts) }
 {
-    for hart in 0..harts {
-        push_counts_line(text, hart, &counts(acts, Hart(hart)))?;
+    for hart in 0..machine.harts() {
+        push_counts_line(text, hart, &counts[usize::from(hart)])?;
     }
     Ok(())
 }

@@ -5,14 +5,16 @@ ghost use Rattle.mach_types.specs.Limits.{InRange};
 ghost use Rattle.elf_load.specs.Images.{IsBootable};
 ghost use Rattle.block_model.specs.Run.{IsBlockRun};
 ghost use Rattle.block_model.specs.Setting.{setting_of};
+ghost use Rattle.block_view.specs.Counters.{AreCounts};
 ghost use Rattle.command_words.specs.Kept.{run_said, shown_said};
 ghost use Rattle.outcomes.specs.Guests.{tried_text};
-ghost use Rattle.outcomes.specs.Outputs.{setting_for, shown_text};
+ghost use Rattle.outcomes.specs.Outputs.{log_summary, setting_for, shown_text};
 
-use crate::acts::{acts_of_run, acts_text};
+use crate::acts::{acts_of_run, acts_text, counts_of_run};
 use crate::gather::gathered_log;
 use crate::inspecting::inspected_text;
 use crate::output::{Output, output_with, push_console, run_output};
+use crate::scripts::CountedRun;
 use crate::summary::{push_summary, summary_text};
 use crate::tracing::trace_text;
 use command_words::{Run, Shown};
@@ -37,8 +39,8 @@ pub fn shown_text(
     match run.shown {
         Shown::Output => run_output(alloc, machine),
         Shown::Summary => {
-            let acts = acts_of_run(alloc, image, &run.limits, &machine)?;
-            Ok(Output::whole(summary_text(alloc, &acts, &machine)?))
+            let counts = counts_of_run(alloc, image, &run.limits, &machine)?;
+            Ok(Output::whole(summary_text(alloc, &counts, &machine)?))
         }
         Shown::Place(memory) => {
             let text = inspected_text(alloc, &memory, &machine)?;
@@ -59,6 +61,14 @@ pub fn shown_text(
     }
 }
 
+/// The summary of a run whose acts were counted.
+pub fn counted_summary(alloc: Global, run: &CountedRun) -> Result<Output, AllocError>
+    requires { AreCounts run.now.machine.setting run.now.machine.log run.now.counts.items }
+    ensures { IfOk result (λ output. output ≡ log_summary run.now.machine.setting run.now.machine.log) }
+{
+    Ok(Output::whole(summary_text(alloc, &run.counts, &run.machine)?))
+}
+
 /// The text of a trial, at the end of whose run a machine is: its console, and the summary of its log.
 pub fn trial_text(
     alloc: Global,
@@ -72,9 +82,9 @@ pub fn trial_text(
     requires run { IsBlockRun machine.now.setting machine.now.log }
     ensures { IfOk result (λ text. text.items ≡ tried_text machine.now.setting machine.now.log) }
 {
-    let acts = acts_of_run(alloc, image, limits, machine)?;
+    let counts = counts_of_run(alloc, image, limits, machine)?;
     let mut text = Vec::new(alloc);
     push_console(&mut text, machine.console())?;
-    push_summary(&mut text, &acts, machine)?;
+    push_summary(&mut text, &counts, machine)?;
     Ok(text)
 }

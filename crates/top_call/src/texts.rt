@@ -2,13 +2,14 @@
 //! or made and tried; its runs are explored; or two programs are
 //! run together.
 
-ghost use Rattle.std.specs.Prelude.{◌≡◌, IfErr, IfOk, Some, false, true};
+ghost use Rattle.std.specs.Prelude.{◌≡◌, IfErr, IfOk, IfSome, Some, false, true};
 ghost use Rattle.mach_types.specs.Limits.{InRange};
 ghost use Rattle.elf_load.specs.Images.{IsBootable};
 ghost use Rattle.outside.specs.Counts.{NoneFalls};
 ghost use Rattle.command_words.specs.Commands.{Drawn, DrawnAfter, HasHartsOf, HasItsHarts, HasLimits, Rule, Script};
 ghost use Rattle.command_words.specs.Commands.{Workers, is_by_workers, needs_workers, trial_limits};
-ghost use Rattle.command_words.specs.Kept.{run_said, said, source_said};
+ghost use Rattle.command_words.specs.Kept.{run_said, said, shown_said, source_said};
+ghost use Rattle.command_words.specs.Shown.{Summary};
 ghost use Rattle.outcomes.specs.declared.reasons.Reason.TheVariants.{NoMemory};
 ghost use Rattle.outcomes.specs.Delivery.{IsGuestReason};
 ghost use Rattle.outcomes.specs.Needs.{needs_by, needs_of};
@@ -19,8 +20,11 @@ ghost use Rattle.outcomes.specs.Reasons.{IsReasonFor};
 use crate::exploring::{explored_alone, explored_together};
 use crate::fetching::{read_file, taken};
 use crate::pairing::pair_text;
-use command_runs::{Output, play, run_rounds, run_solo, run_workers, shown_text, trial_text};
-use command_words::{Command, Draws, Guest, Run, Source, Trial};
+use command_runs::{
+    Output, counted_summary, play, play_counted, run_rounds, run_solo, run_workers, shown_text,
+    trial_text,
+};
+use command_words::{Command, Draws, Guest, Run, Shown, Source, Trial};
 use drawn_machine::{draw_on, run_drawn};
 use drawn_runs::Manner;
 use elf_load::{ElfFault, Image, load};
@@ -159,9 +163,45 @@ fn quiet_run_text<S: Shelf>(alloc: Global, run: &Run, shelf: &mut S) -> Result<O
     ensures files { S.file shelf.new ≡ S.file shelf.old }
     ensures counts { NoneFalls (S.faults shelf.old) (S.faults shelf.new) }
 {
+    if let Some(script) = counted_script(run) {
+        return summed_text(alloc, run.program, script, run.limits, shelf);
+    }
     let made = quiet_run(alloc, run, shelf)?;
     let ProgramRun { image, machine } = made;
     Ok(shown_text(alloc, run, &image, machine)?)
+}
+
+/// The name of the script of a run by one whose summary is shown; its acts are counted while it is made.
+fn counted_script<'a>(run: &Run<'a>) -> Option<&'a str>
+    ensures source { IfSome result (λ script. source_said run.now.source ≡ Script script.now) }
+    ensures shown { IfSome result (λ script. shown_said run.now.shown ≡ Summary) }
+{
+    match (run.source, run.shown) {
+        (Source::Script(script), Shown::Summary) => Some(script),
+        _ => None,
+    }
+}
+
+/// The summary of a run of the program of the first name on the events of the script of the second.
+fn summed_text<S: Shelf>(
+    alloc: Global,
+    program: &str,
+    script: &str,
+    limits: Limits,
+    shelf: &mut S,
+) -> Result<Output, Reason>
+    requires { InRange limits }
+    ensures output { IfOk result (λ text. IsRunOutput (S.file shelf.old) (record { program = program.now; source = Script script.now; shown = Summary; limits = limits }) text) }
+    ensures cause { let needs = needs_by program.now (Script script.now) limits in
+        IfErr result (IsReasonFor (S.file shelf.old) needs (S.faults shelf.old) (S.faults shelf.new)
+        (S.last_trouble shelf.new)) }
+    ensures files { S.file shelf.new ≡ S.file shelf.old }
+    ensures counts { NoneFalls (S.faults shelf.old) (S.faults shelf.new) }
+{
+    let image = taken(alloc, program, &limits, shelf)?;
+    let lines = read_file(alloc, script, FileRole::Script, shelf)?;
+    let run = play_counted(alloc, &image, limits, &lines)?;
+    Ok(counted_summary(alloc, &run)?)
 }
 
 /// The text of a run by workers.

@@ -1,11 +1,10 @@
-use Rattle.std.proofs.Common.{◌<◌, ◌^◌, ◌∙◌, List, ap, length, subst, sym}
+use Rattle.std.proofs.Common.{◌∙◌, ap, subst, sym}
 use Rattle.block_model.specs.Run.{IsBlockRun}
 use Rattle.block_model.specs.Setting.{Setting, setting_of}
 use Rattle.block_view.specs.Acts.{acts_of}
 use Rattle.block_view.specs.Viewing.{IsViewCause}
-use Rattle.block_view.specs.declared.forms.Act.{Act}
 use Rattle.block_view.specs.declared.viewing.ViewFault.{ViewFault}
-use Rattle.command_runs.proofs.Summaries.{few_acts, none_refused}
+use Rattle.command_runs.proofs.Summaries.{none_refused}
 use Rattle.command_runs.proofs.acts.acts_of_run.Goals as goal
 
 pub unreachable-requires : goal.unreachable-requires
@@ -17,14 +16,8 @@ unreachable-requires c =
     (subst (λ (setting : Setting). IsBlockRun setting c.log.result.now) c.requires.setting
     (subst (λ log. IsBlockRun c.args.machine.now.setting log) (sym c.log.ensures) c.requires.run)) cause
 
-pub returns-in-Ok-clause-acts : goal.returns-in-Ok-clause-acts
-returns-in-Ok-clause-acts c =
+pub returns-in-Ok : goal.returns-in-Ok
+returns-in-Ok c =
     let s = setting_of c.args.image.now c.args.limits.now in
     c.in-Ok.ensures.acts.acts ∙ ap (acts_of s) c.log.ensures
     ∙ ap (λ setting. acts_of setting c.args.machine.now.log) (sym c.requires.setting)
-
-pub returns-in-Ok-clause-few : goal.returns-in-Ok-clause-few
-returns-in-Ok-clause-few c =
-    let s = setting_of c.args.image.now c.args.limits.now in
-    subst (λ (acts : List Act). length acts < 2 ^ 32) (sym c.in-Ok.ensures.acts.acts)
-    (few_acts s c.log.result.now c.requires.limits c.in-Ok.ensures.acts.block_run)
