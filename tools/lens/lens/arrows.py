@@ -59,9 +59,9 @@ def store_arrows(history: History) -> Iterator[Arrow]:
 
 
 def seen_arrows(history: History, values: Values) -> Iterator[Arrow]:
-    """From each store to its drain, and from there on to the first load that saw it. Each further load has an
-    arrow from the drain alone. A load that saw it while it waited has one from the store, and what saw another
-    write (of an AMO, an SC, the kernel) one from there."""
+    """From each store to its drain, and from there on to the first load that saw it. Each further load has
+    an arrow from the drain alone. A load that saw it while it waited has one from the store, and what saw
+    another write (of an AMO, an SC, the kernel) one from there."""
     steps, early, late = history.output.steps, *loads_by_writer(values)
     for number, loads in early.items():
         yield from (Arrow(SEEN_EARLY, (steps[number - 1], load)) for load in loads)

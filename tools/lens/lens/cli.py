@@ -436,6 +436,7 @@ def main() -> int:
         arguments = make_parser().parse_args()
         status = arguments.action(arguments) or 0
         sys.stdout.flush()
+        sys.stderr.flush()
         return status
     except LensFault as fault:
         print(f'lens: {fault}', file=sys.stderr)

@@ -19,7 +19,7 @@ def ranges_of(program: Program, named: list[str]) -> list[Range]:
     for words, range_ in zip(named, ranges):
         if range_.size > MOST:
             raise LensFault(
-                f'{words} has {range_.size} bytes, and {MOST} of one name can be shown: NAME+OFF:SIZE names some'
+                f'{words} has {range_.size} bytes, and {MOST} at once can be shown: NAME+OFF:SIZE names some'
             )
     return ranges
 

@@ -10,7 +10,6 @@ from .faults import LensFault
 from .history import History
 from .machine import Machine
 from .output import DRAIN, EXEC, Step
-from .program import Program
 from .trace_text import Record, Trace
 
 TOLD = {Waits, Wrote, Zeroed, Reservation}

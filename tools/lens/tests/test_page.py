@@ -1,4 +1,5 @@
-"""docs/FINDING_A_BUG.md: its commands, run one behind the other as it says, print what stands below them."""
+"""The pages with commands: run one behind the other as they stand there, the commands print what stands below
+them."""
 import os
 import re
 import shutil
@@ -9,15 +10,33 @@ from pathlib import Path
 
 from .common import PROGRAM, ROOT, needs_objdump, needs_program
 
-PAGE = ROOT / 'docs' / 'FINDING_A_BUG.md'
+PAGES = {'README.md': 18, 'docs/FINDING_A_BUG.md': 25, 'docs/KERNEL.md': 3, 'tools/lens/README.md': 9}
+"""How many commands of each are tried at least."""
 BLOCK = re.compile(r'(?:^ {4}.*\n|^\n(?= {4}))+', re.MULTILINE)
-COMMANDS = ('tools/bin/lens ', 'crates/rseq_run/out/rseq_run ', 'cat /tmp/')
+COMMANDS = (
+    'tools/bin/lens ',
+    'crates/rseq_run/out/rseq_run ',
+    'cat /tmp/',
+    'D=examples',
+    'P=examples',
+    'P=crates',
+    'head -n',
+    'printf',
+    'sed -n',
+    'echo ',
+)
+NONE = ('tools/bin/lens why RUN ELF',)
+"""How a block begins that shows the words of commands."""
 
 
 def blocks(text):
     """The indented blocks of a page, parted at empty lines too."""
     found = (part for block in BLOCK.findall(text) for part in re.split(r'\n(?=\n)', block))
     return [part.strip('\n') for part in found if part.strip()]
+
+
+def is_command(part):
+    return part.strip().startswith(COMMANDS) and not part.strip().startswith(NONE)
 
 
 def words(text):
@@ -27,29 +46,34 @@ def words(text):
 @needs_program
 @needs_objdump
 class Page(unittest.TestCase):
-    def test_its_commands(self):
-        with tempfile.TemporaryDirectory() as name:
-            room = Path(name)
-            self.furnish(room)
-            parts = blocks(PAGE.read_text())
-            tried = [at for at, part in enumerate(parts) if part.strip().startswith(COMMANDS)]
-            self.assertGreater(len(tried), 8)
-            for at in tried:
-                with self.subTest(command=words(parts[at])):
-                    self.check(room, parts[at], parts[at + 1] if at + 1 < len(parts) else '')
-            self.assertEqual(
-                (room / 'docs' / 'lost_addition.svg').read_bytes(),
-                (ROOT / 'docs' / 'lost_addition.svg').read_bytes(),
-            )
+    def test_their_commands(self):
+        for page, least in PAGES.items():
+            with self.subTest(page=page), tempfile.TemporaryDirectory() as name:
+                room = Path(name)
+                self.furnish(room)
+                self.assertGreaterEqual(self.try_page(room, ROOT / page), least)
+                picture = room / 'docs' / 'lost_addition.svg'
+                self.assertEqual(picture.read_bytes(), (ROOT / 'docs' / picture.name).read_bytes())
+
+    def try_page(self, room, page):
+        """Tries the commands of a page in a room, and says how many they are."""
+        parts = blocks(page.read_text())
+        tried = [at for at, part in enumerate(parts) if is_command(part)]
+        for at in tried:
+            with self.subTest(command=words(parts[at])):
+                self.check(room, parts[at], parts[at + 1] if at + 1 < len(parts) else '')
+        return len(tried)
 
     def furnish(self, room):
-        """A copy of what the page writes to, beside the repository's tools and the program."""
+        """A copy of what the pages write to, beside the repository's tools, data and the program."""
         shutil.copytree(ROOT / 'examples', room / 'examples')
         (room / 'docs').mkdir()
-        (room / 'tools').symlink_to(ROOT / 'tools')
-        built = room / 'crates' / 'rseq_run' / 'out'
-        built.mkdir(parents=True)
-        (built / 'rseq_run').symlink_to(PROGRAM.resolve())
+        shutil.copy(ROOT / 'docs' / 'lost_addition.svg', room / 'docs')
+        crate = room / 'crates' / 'rseq_run'
+        (crate / 'out').mkdir(parents=True)
+        (crate / 'out' / 'rseq_run').symlink_to(PROGRAM.resolve())
+        for there in (Path('tools'), Path('crates/rseq_run/data'), Path('crates/worked_runs')):
+            (room / there).symlink_to(ROOT / there)
 
     def check(self, room, command, below):
         """Runs a command; what it prints begins with the block below it, where that isn't the next

@@ -1,7 +1,5 @@
 """What is read as a run: output texts and scripts; and what is said of a line that can't be read."""
-import tempfile
 import unittest
-from pathlib import Path
 
 from lens.scripts import what_is_wrong
 

@@ -1,7 +1,7 @@
 """A small validator of the trace-event format, as far as `lens trace` uses it.
 
-Events are records with a phase `ph`. `M` names a lane; `X` is a slice from `ts` on, of `dur`; `s`, `t` and `f`
-are the start, the steps and the end of a flow, which a viewer draws as arrows from slice to slice.
+Events are records with a phase `ph`. `M` names a lane; `X` is a slice from `ts` on, of `dur`; `s`, `t` and
+`f` are the start, the steps and the end of a flow, which a viewer draws as arrows from slice to slice.
 """
 from __future__ import annotations
 
