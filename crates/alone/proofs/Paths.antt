@@ -11,9 +11,10 @@ use Rattle.rv_inst.specs.Execution.{seen_byte}
 use Rattle.rv_inst.specs.Meaning.{meaning}
 use Rattle.rv_inst.specs.Memory.{loaded}
 use Rattle.rv_inst.specs.Words.{sum_64}
+use Rattle.rv_inst.specs.declared.effects.Effect.{Effect}
 use Rattle.rv_inst.specs.declared.effects.Effect.TheVariants as effect
 use Rattle.rv_inst.specs.declared.instruction.Inst.{Inst}
-use Rattle.alone.specs.Alone.{Stand, alone, next_stand}
+use Rattle.alone.specs.Alone.{IsWithin, Stand, alone, next_stand}
 use Rattle.alone.specs.Paths.{BeginInside, IsForth, IsOn, IsReady, KeepsOn, Path}
 use Rattle.alone.specs.Temps.{IsAt, IsLike, put}
 use Rattle.alone.proofs.Laws.{at_branch, at_load, at_next, at_store, effect_there}
@@ -72,18 +73,19 @@ module _ (w : Path) (at : ℕ) (temps : ℕ → ℕ) (stores : List Store) (x : 
 
   module _ (here : is_inside w.range at ≡ true) (keeps : w.Inside stores) (i : Inst)
       (there : w.code at ≡ Some i) where
+    does : (e : Effect) → ((f : Regs) → IsLike w.may w.old temps f → meaning i f at ≡ e) → IsWithin w.words e
+        → IsForth w.range at (next_stand w.code w.seen x).file.pc
+        → KeepsOn w (next_stand w.code w.seen x) → KeepsOn w x
+    does e means within forth on =
+        goes here keeps (e, effect_there w.code w.may w.old at temps stores x i e was there means, within) forth on
+
     pub then_next : (rd v to : ℕ) → ((f : Regs) → IsLike w.may w.old temps f → meaning i f at ≡ effect.Next rd
         v to)
         → w.may rd ≡ true → eqb rd 0 ≡ false → rd < 32 → at + 4 ≤ to → to < 2 ^ 40
         → ((y : Stand) → IsAt w.may w.old to (put rd v temps) stores y → KeepsOn w y) → KeepsOn w x
     then_next rd v to means may some low far near on =
         let next = at_next w.code w.seen w.may w.old at temps stores x i rd v to was there means may some low in
-        goes here keeps (
-          effect.Next rd v to,
-          effect_there w.code w.may w.old at temps stores x i
-              (effect.Next rd v to) was there means,
-          tt,
-        ) (lands to next (inl (far, near))) (on _ next)
+        does (effect.Next rd v to) means tt (lands to next (inl (far, near))) (on _ next)
 
     pub then_branch : (v to : ℕ) → ((f : Regs) → IsLike w.may w.old temps f → meaning i f at ≡ effect.Next 0 v
         to)
@@ -91,12 +93,7 @@ module _ (w : Path) (at : ℕ) (temps : ℕ → ℕ) (stores : List Store) (x : 
         → ((y : Stand) → IsAt w.may w.old to temps stores y → KeepsOn w y) → KeepsOn w x
     then_branch v to means forth on =
         let next = at_branch w.code w.seen w.may w.old at temps stores x i v to was there means in
-        goes here keeps (
-          effect.Next 0 v to,
-          effect_there w.code w.may w.old at temps stores x i
-              (effect.Next 0 v to) was there means,
-          tt,
-        ) (lands to next forth) (on _ next)
+        does (effect.Next 0 v to) means tt (lands to next forth) (on _ next)
 
     pub then_load : (from size rd v to : ℕ) (is_signed : Bool)
         → ((f : Regs) → IsLike w.may w.old temps f → meaning i f at ≡ effect.Load from size is_signed rd)
@@ -107,12 +104,7 @@ module _ (w : Path) (at : ℕ) (temps : ℕ → ℕ) (stores : List Store) (x : 
     then_load from size rd v to is_signed means within reads may some low on far near rest =
         let next = at_load w.code w.seen w.may w.old at temps stores x i from size rd v to is_signed was there
         means reads may some low on in
-        goes here keeps (
-          effect.Load from size is_signed rd,
-          effect_there w.code w.may w.old at temps stores x
-              i (effect.Load from size is_signed rd) was there means,
-          within,
-        ) (lands to next (inl (far, near))) (rest _ next)
+        does (effect.Load from size is_signed rd) means within (lands to next (inl (far, near))) (rest _ next)
 
     pub then_store : (into size v to : ℕ) → ((f : Regs) → IsLike w.may w.old temps f → meaning i f
         at ≡ effect.Store into size v)
@@ -121,12 +113,7 @@ module _ (w : Path) (at : ℕ) (temps : ℕ → ℕ) (stores : List Store) (x : 
         (stores ++ record { at = into; size = size; value = v } ∷ []) y → KeepsOn w y) → KeepsOn w x
     then_store into size v to means within on far near rest =
         let next = at_store w.code w.seen w.may w.old at temps stores x i into size v to was there means on in
-        goes here keeps (
-          effect.Store into size v,
-          effect_there w.code w.may w.old at temps stores x i
-              (effect.Store into size v) was there means,
-          within,
-        ) (lands to next (inl (far, near))) (rest _ next)
+        does (effect.Store into size v) means within (lands to next (inl (far, near))) (rest _ next)
 
 -- HOW LONG IT IS
 

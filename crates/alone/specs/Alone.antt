@@ -44,11 +44,4 @@ abbrev pub IsWithin : (ℕ → Bool) → Effect → Type 0
 IsWithin words (effect.Next rd value to) = Unit {0}
 IsWithin words (effect.Load at size is_signed rd) = each_byte words at size ≡ true
 IsWithin words (effect.Store at size value) = each_byte words at size ≡ true
-IsWithin words (effect.Amo op at size value rd) = ⊥
-IsWithin words (effect.Lr at size rd) = ⊥
-IsWithin words (effect.Sc at size value rd) = ⊥
-IsWithin words (effect.Fence full) = ⊥
-IsWithin words effect.FenceI = ⊥
-IsWithin words effect.Call = ⊥
-IsWithin words effect.Break = ⊥
-IsWithin words effect.Misaligned = ⊥
+IsWithin words other = ⊥

@@ -160,6 +160,35 @@ no_one t is = cc
 pub one_thread : (u t : ℕ) → Some u ≡ Some t → u ≡ t
 one_thread u t is = cc
 
+-- who begins to run on a hart is the thread that runs there after it
+module _ (s : Setting) (e : Event) (before : History) (t : ℕ) (step : IsStep s e before) (is : e.entry.kind ≡ kind.Run)
+    (now : running s e.entry.hart.0 (e ∷ before) ≡ Some t) where
+  abbrev begun_in : Here
+  begun_in = here_in_history s before e.entry.hart.0
+
+  abbrev its_thread : ℕ
+  its_thread = e.entry.tid.0
+
+  may_begin : (runs begun_in ≡ None) × (is_ready its_thread begun_in.kernel.threads ≡ true)
+  may_begin = run_ready begun_in its_thread (sym (ap (λ k. refusal_of (choice_with k e.entry) begun_in) is) ∙ step.free)
+
+  begun_by : (lives : Bool)
+      → e.done ≡ cond lives (done_running begun_in its_thread (interruption_here begun_in its_thread))
+      (done_killed begun_in its_thread (interruption_here begun_in its_thread)) → its_thread ≡ t
+  begun_by true did =
+      let k = kernel s before in
+      let there = ran_runs s.limits.harts e.entry.hart.0 its_thread k.threads k.scheduling step.good.kernel.tables may_begin.1
+      may_begin.0 step.good.lt in
+      one_thread its_thread t (sym there ∙ sym (ap (λ (d : Done). running_on e.entry.hart.0 d.kernel.threads) did) ∙ now)
+  begun_by false did =
+      absurd (no_one t
+      (sym may_begin.0 ∙ sym (ap (λ (d : Done). running_on e.entry.hart.0 d.kernel.threads) did) ∙ now))
+
+  pub begun_is : its_thread ≡ t
+  begun_is =
+      begun_by (lives_on begun_in its_thread (interruption_here begun_in its_thread))
+      (step.did ∙ ap (λ k. done_of (choice_with k e.entry) begun_in) is)
+
 exec_drain : kind.Exec ≡ kind.Drain → ⊥
 exec_drain is = cc
 
@@ -624,22 +653,8 @@ module _ (s : Setting) (b : Placed) (t : ℕ) (Know : ℕ → Regs → Type 0) (
         in_pointer (λ a has. ap Some (sees_apart s h e before a apart (leaves a (byte s before a) has)))
         ∙ was.seen h at inside
 
-    -- who begins to run on a hart is the thread that runs there after it
     pub begins_it : e.entry.kind ≡ kind.Run → running s own (e ∷ before) ≡ Some t → e.entry.tid.0 ≡ t
-    begins_it is now_at =
-        by_life (lives_on here e.entry.tid.0 (interruption_here here e.entry.tid.0)) (did_at kind.Run is)
-      where
-        by_life : (c : Bool)
-            → e.done ≡ cond c (done_running here e.entry.tid.0 (interruption_here here e.entry.tid.0))
-            (done_killed here e.entry.tid.0 (interruption_here here e.entry.tid.0)) → e.entry.tid.0 ≡ t
-        by_life true did =
-            let u = e.entry.tid.0 in
-            let k = kernel s before in
-            let may = run_ready here u (free_at kind.Run is) in
-            let there = ran_runs s.limits.harts own u k.threads k.scheduling step.good.kernel.tables may.1
-            may.0 step.good.lt in
-            one_thread u t (sym there ∙ sym (ap (λ (d : Done). running_on own d.kernel.threads) did) ∙ now_at)
-        by_life false did = absurd (not_over (Killed SIGSEGV) (sym (ap (λ (d : Done). d.ended) did) ∙ goes))
+    begins_it is now_at = begun_is s e before t step is now_at
 
     pub ran_here : (k : Kind) → e.entry.kind ≡ k → (k ≡ kind.Run → ⊥) → running s own (e ∷ before) ≡ Some t
         → running s own before ≡ Some t

@@ -134,10 +134,7 @@ module _ (s : Setting) (b : Block) (h t : ℕ) (begun : History) (runs : running
       ap (λ (d : Done). d.ended) did
       ∙ take_lives here here.restart (runs_on here)
       (sym (ap (λ (d : Done). d.interrupted) did) ∙ is_none_true e.done.interrupted taken)
-  lives_kind e before reached n kind.Done step fair own is taken inside was = absurd (false≢true taken)
-  lives_kind e before reached n kind.Preempt step fair own is taken inside was = absurd (false≢true taken)
-  lives_kind e before reached n kind.Run step fair own is taken inside was = absurd (false≢true taken)
-  lives_kind e before reached n kind.Signal step fair own is taken inside was = absurd (false≢true taken)
+  lives_kind e before reached n other step fair own is taken inside was = absurd (false≢true taken)
 
   abbrev Earlier : History → Type 0
   Earlier before = (p : Sequence) → sequence_on s h before ≡ Some p → p.begun ≡ begun → IsAlive s b h p

@@ -59,10 +59,7 @@ quiet_file s t e before step kind.Take is none takes =
     ap (λ (d : Done). file_among d.files t (file s t before)) did
     ∙ ap (λ (fs : List (ℕ × Saved)). file_among fs t (file s t before))
     (take_idle here here.restart (runs here) quiet).files
-quiet_file s t e before step kind.Done is none takes = absurd (false≢true takes)
-quiet_file s t e before step kind.Preempt is none takes = absurd (false≢true takes)
-quiet_file s t e before step kind.Run is none takes = absurd (false≢true takes)
-quiet_file s t e before step kind.Signal is none takes = absurd (false≢true takes)
+quiet_file s t e before step other is none takes = absurd (false≢true takes)
 
 module _ (s : Setting) (range : Seq) (t h : ℕ) where
   -- a sequence is open on the hart

@@ -17,7 +17,7 @@ use Rattle.mach_types.specs.Kernel.Areas.{named, named_by, number_at, pointer_of
 use Rattle.mach_types.specs.Kernel.Areas.{words_on, words_written, writes_of}
 use Rattle.mach_types.specs.Kernel.SignalFrames.{frame_writes}
 use Rattle.mach_types.specs.Kernel.Signals.{mask_of, next_for}
-use Rattle.mach_types.specs.Kernel.Threads.{is_ready, running_on}
+use Rattle.mach_types.specs.Kernel.Threads.{is_ready}
 use Rattle.mach_types.specs.declared.address_space.TheConstants.{USER_END}
 use Rattle.mach_types.specs.declared.events.Kind.{Kind}
 use Rattle.mach_types.specs.declared.events.Kind.TheVariants as kind
@@ -45,15 +45,15 @@ use Rattle.block_model.specs.Ids.{next_id}
 use Rattle.block_model.specs.Run.{IsRunHistory}
 use Rattle.block_model.specs.Sequences.{area_here, can_write_words, interruption_here, is_inside_here, words_to}
 use Rattle.block_model.specs.Setting.{Setting}
-use Rattle.block_model.proofs.Laws.{IsStep, drains_none, not_ready, one_hart, ran_before, ran_runs, run_ready}
+use Rattle.block_model.proofs.Laws.{IsStep, drains_none, not_ready, one_hart, ran_before, run_ready}
 use Rattle.block_model.proofs.Laws.{runs_apart, step_of}
 use Rattle.alone_laws.specs.Blocks.{among}
 use Rattle.alone_laws.specs.Pointers.{AlwaysDescribed, AreDescribed, LiesBeside, PointerIs}
 use Rattle.alone_laws.specs.Pointers.{PointerKept, StoresTable, WritesPointer, has_area, has_had, is_at, pointer_at}
 use Rattle.alone_laws.specs.Spans.{Leaves, seen_at}
 use Rattle.alone_laws.specs.Uses.{AlwaysOutside, CanAlwaysBegin, CanBegin, Placed, is_before}
-use Rattle.alone_laws.proofs.Arrivals.{IsOnOrOff, awaits_open, is_off, is_on, no_one, no_reason, on_or_off}
-use Rattle.alone_laws.proofs.Arrivals.{one_thread, signal_empty, take_empty}
+use Rattle.alone_laws.proofs.Arrivals.{IsOnOrOff, awaits_open, begun_is, is_off, is_on, no_one, no_reason, on_or_off}
+use Rattle.alone_laws.proofs.Arrivals.{signal_empty, take_empty}
 use Rattle.alone_laws.proofs.EventKinds.{is_kind, kind_is, kind_is_not}
 use Rattle.alone_laws.proofs.Sequences.{each_among}
 use Rattle.alone_laws.proofs.StoredWords.{among_low, beside_word, stored_word}
@@ -419,24 +419,6 @@ module _ (s : Setting) (blocks : List Placed) (t at : ℕ)
         false≢true (sym (not_ready s e before step h t at_h)
         ∙ sym (ap (λ n. is_ready n (kernel s before).threads) its) ∙ ready)
 
-    begins_it : e.entry.kind ≡ kind.Run → running s own (e ∷ before) ≡ Some t → e.entry.tid.0 ≡ t
-    begins_it is now =
-        by_life (lives_on here e.entry.tid.0 (interruption_here here e.entry.tid.0)) (did_at kind.Run is)
-      where
-        by_life : (c : Bool)
-            → e.done ≡ cond c (done_running here e.entry.tid.0 (interruption_here here e.entry.tid.0))
-            (done_killed here e.entry.tid.0 (interruption_here here e.entry.tid.0)) → e.entry.tid.0 ≡ t
-        by_life true did =
-            let u = e.entry.tid.0 in
-            let k = kernel s before in
-            let may = run_ready here u (free_at kind.Run is) in
-            let there = ran_runs s.limits.harts own u k.threads k.scheduling step.good.kernel.tables may.1
-            may.0 step.good.lt in
-            one_thread u t (sym there ∙ sym (ap (λ (d : Done). running_on own d.kernel.threads) did) ∙ now)
-        by_life false did =
-            let may = run_ready here e.entry.tid.0 (free_at kind.Run is) in
-            absurd (no_one t (sym may.0 ∙ sym (ap (λ (d : Done). running_on own d.kernel.threads) did) ∙ now))
-
     seen_apart : (h : ℕ) → eqb own h ≡ false → running s h (e ∷ before) ≡ Some t → IsKnown (seen_at s h (e ∷ before))
     seen_apart h apart now =
         let there : running s h before ≡ Some t = sym (runs_apart s h e before step apart) ∙ now in
@@ -452,7 +434,7 @@ module _ (s : Setting) (blocks : List Placed) (t at : ℕ)
         by_run : (c : Bool) → is_kind e.entry.kind kind.Run ≡ c → IsKnown (seen_at s own (e ∷ before))
         by_run true runs_now =
             let is = kind_is e.entry.kind kind.Run runs_now in
-            let its = begins_it is now in
+            let its = begun_is s e before t step is now in
             begun_seen is its (begins_off is its)
         by_run false other =
             own_seen (ran_before s e before run (kind_is_not e.entry.kind e.entry.kind kind.Run refl other) t now)

@@ -211,22 +211,14 @@ module _ (s : Setting) (b : Block) (h t : ℕ) (begun : History)
             (ap (λ k. choice_with k e.entry) is) (is_none_true e.done.interrupted taken)
             (was.inside here)),
       )
-  taken_step e before reached n kind.Done step fair own is taken inside was = absurd (false≢true taken)
-  taken_step e before reached n kind.Preempt step fair own is taken inside was = absurd (false≢true taken)
-  taken_step e before reached n kind.Run step fair own is taken inside was = absurd (false≢true taken)
-  taken_step e before reached n kind.Signal step fair own is taken inside was = absurd (false≢true taken)
+  taken_step e before reached n other step fair own is taken inside was = absurd (false≢true taken)
 
 -- WHOLE SEQUENCES
 
 -- only an instruction begins one
 pub exec_kind : (k : Kind) → is_instruction k ≡ true → k ≡ kind.Exec
 exec_kind kind.Exec is = refl
-exec_kind kind.Drain is = absurd (false≢true is)
-exec_kind kind.Take is = absurd (false≢true is)
-exec_kind kind.Done is = absurd (false≢true is)
-exec_kind kind.Preempt is = absurd (false≢true is)
-exec_kind kind.Run is = absurd (false≢true is)
-exec_kind kind.Signal is = absurd (false≢true is)
+exec_kind other is = absurd (false≢true is)
 
 module _ (s : Setting) (b : Block) (h t : ℕ) (begun : History) (runs : running s h begun ≡ Some t)
     (sole : IsSole (code_of s.program.pages) (seen_at s h begun) (alone_from s h t begun 0) b) where

@@ -25,7 +25,7 @@ use Rattle.block_model.specs.Events.{done_of}
 use Rattle.block_model.specs.Events.Drain.{done_drain_of}
 use Rattle.block_model.specs.Events.Exec.{by_call, by_effect, by_outcome, called_here, done_exec_by}
 use Rattle.block_model.specs.Events.Exec.{next_effect, next_fault, outcome_of}
-use Rattle.block_model.specs.Events.Take.{done_take, done_take_by}
+use Rattle.block_model.specs.Events.Take.{done_take, done_take_by, only_took}
 use Rattle.block_model.specs.Here.{Done, Here, is_writable, memory, runs, view, waiting_here}
 use Rattle.block_model.specs.History.{Event, History, byte, file, file_among, here_in_history, kernel}
 use Rattle.block_model.specs.History.{running, stores, waiting}
@@ -122,14 +122,7 @@ same_outcome words f g same regs pc r (effect.Load at size is_signed rd) within 
     }
 same_outcome words f g same regs pc r (effect.Store at size value) within = record
     { regs = refl; pc = refl; executed = refl; entered = refl }
-same_outcome words f g same regs pc r (effect.Amo op at size value rd) within = absurd within
-same_outcome words f g same regs pc r (effect.Lr at size rd) within = absurd within
-same_outcome words f g same regs pc r (effect.Sc at size value rd) within = absurd within
-same_outcome words f g same regs pc r (effect.Fence full) within = absurd within
-same_outcome words f g same regs pc r effect.FenceI within = absurd within
-same_outcome words f g same regs pc r effect.Call within = absurd within
-same_outcome words f g same regs pc r effect.Break within = absurd within
-same_outcome words f g same regs pc r effect.Misaligned within = absurd within
+same_outcome words f g same regs pc r other within = absurd within
 
 readable : (words : ℕ → Bool) (f : ℕ → Option ℕ) → ((a : ℕ) → words a ≡ true → is_some (f a) ≡ true)
     → (at size : ℕ) → each_byte words at size ≡ true → are_readable f at size ≡ true
@@ -145,28 +138,14 @@ no_fault words f can reads writes (effect.Load at size is_signed rd) within =
     ap (λ b. unless_allowed b) (is_some-word_at f at size ∙ readable words f reads at size within)
 no_fault words f can reads writes (effect.Store at size value) within = ap (λ b. unless_allowed b)
     (each_implies words can writes at size within)
-no_fault words f can reads writes (effect.Amo op at size value rd) within = absurd within
-no_fault words f can reads writes (effect.Lr at size rd) within = absurd within
-no_fault words f can reads writes (effect.Sc at size value rd) within = absurd within
-no_fault words f can reads writes (effect.Fence full) within = absurd within
-no_fault words f can reads writes effect.FenceI within = absurd within
-no_fault words f can reads writes effect.Call within = absurd within
-no_fault words f can reads writes effect.Break within = absurd within
-no_fault words f can reads writes effect.Misaligned within = absurd within
+no_fault words f can reads writes other within = absurd within
 
 -- and is no call
 no_call : (words : ℕ → Bool) (e : Effect) → IsWithin words e → is_call e ≡ false
 no_call words (effect.Next rd value to) within = refl
 no_call words (effect.Load at size is_signed rd) within = refl
 no_call words (effect.Store at size value) within = refl
-no_call words (effect.Amo op at size value rd) within = absurd within
-no_call words (effect.Lr at size rd) within = absurd within
-no_call words (effect.Sc at size value rd) within = absurd within
-no_call words (effect.Fence full) within = absurd within
-no_call words effect.FenceI within = absurd within
-no_call words effect.Call within = absurd within
-no_call words effect.Break within = absurd within
-no_call words effect.Misaligned within = absurd within
+no_call words other within = absurd within
 
 -- GOING ON
 
@@ -214,22 +193,19 @@ drain_idle here (w ∷ ws) is = record {
       ∙ ap (λ (x : List Store). overlay x a (here.byte a)) (sym is);
 }
 
+took_idle : (here : Here) → IsIdle here (only_took here)
+took_idle here = record {
+  files = refl;
+  executed = refl;
+  kernel = refl;
+  enters = λ a. ap
+      (λ (x : List Store). overlay x a (here.byte a)) (append-nil (waiting_here here));
+}
+
 pub take_idle : (here : Here) (restarts : Bool) (at : Option ℕ)
     → (done_take_by here restarts at).interrupted ≡ None → IsIdle here (done_take_by here restarts at)
-take_idle here false at quiet = record {
-  files = refl;
-  executed = refl;
-  kernel = refl;
-  enters = λ a. ap
-      (λ (x : List Store). overlay x a (here.byte a)) (append-nil (waiting_here here));
-}
-take_idle here true None quiet = record {
-  files = refl;
-  executed = refl;
-  kernel = refl;
-  enters = λ a. ap
-      (λ (x : List Store). overlay x a (here.byte a)) (append-nil (waiting_here here));
-}
+take_idle here false at quiet = took_idle here
+take_idle here true None quiet = took_idle here
 take_idle here true (Some t) quiet = absurd cc
 
 -- what the hart sees after such an event

@@ -1,6 +1,6 @@
 -- Worked examples, proved by computation: the sequence of a program, each way in which it ends, and beside each what is there then.
 use Rattle.std.proofs.Common.{◌≡◌, ℕ, ◌*◌, ◌/◌, ◌%◌, Bool, true, false, List, [], ◌∷◌, ◌++◌, replicate, length, ◌-◌, refl, Option, Some, None, Result, Ok, Err}
-use Rattle.block_model.proofs.Common.{Ask, Entry, History, Killed, SIGSEGV, Sequence, Setting, all_signals, amo_rows, are_readable, auipc_rows, before_last, branch_rows, can_write_frame, decide, done, end_at_verdict, end_before, end_so_far, ended, file, hanging, here_in_history, history, is_inside_at, jal_rows, jalr_rows, load_rows, lui_rows, meaning, memory, misc_mem_rows, number_at, op_32_rows, op_imm_32_rows, op_imm_rows, op_rows, option_map, played, register, row_of, rows, sequence_on, store_rows, system_rows, touched_in, watched_at, word_at}
+use Rattle.block_model.proofs.Common.{Ask, Entry, History, Killed, SIGSEGV, Sequence, Setting, all_signals, are_readable, before_last, can_write_frame, decide, done, end_at_verdict, end_before, end_so_far, ended, file, hanging, here_in_history, history, is_inside_at, meaning, memory, number_at, option_map, played, register, row_of, rows, sequence_on, touched_in, watched_at, word_at}
 use Rattle.mach_types.specs.declared.events.Choice.TheVariants as asked
 use Rattle.mach_types.specs.Kernel.Barriers as barriers
 use Rattle.block_model.specs.declared.acts.SeqEnd.{SeqEnd}
@@ -180,7 +180,7 @@ begun_and_left :
     × (read (end_of_log program) one_inside ≡ Ok (Some ends.Unended))  -- unended
     × (read (last_end program) preempted ≡ Ok (Some ends.Unended))  -- not ended yet
     × (read hanging_thread preempted ≡ Ok (Some 1))  -- hangs
-unfolding played decide history done are_readable number_at meaning row_of rows lui_rows auipc_rows jal_rows jalr_rows branch_rows load_rows store_rows op_imm_rows op_imm_32_rows op_rows op_32_rows misc_mem_rows amo_rows system_rows
+unfolding played decide history done are_readable number_at meaning row_of rows
 begun_and_left = (refl, refl, refl, refl, refl, refl, refl)
 
 -- CUT
@@ -193,7 +193,7 @@ cut_by_run :
     × (read (λ before. register (file program 1 before).file 5) moved ≡ Ok 1)  -- keeps
     × (read (is_inside_at program 1) moved ≡ Ok false)  -- isnt inside
     × (read hanging_thread moved ≡ Ok None)  -- hangs no more
-unfolding played decide history done are_readable number_at meaning row_of rows lui_rows auipc_rows jal_rows jalr_rows branch_rows load_rows store_rows op_imm_rows op_imm_32_rows op_rows op_32_rows misc_mem_rows amo_rows system_rows
+unfolding played decide history done are_readable number_at meaning row_of rows
 cut_by_run = (refl, refl, refl, refl, refl)
 
 -- a signal is delivered between both instructions: the handler is entered, and returns to the abort handler, which is the first
@@ -201,7 +201,7 @@ cut_by_run = (refl, refl, refl, refl, refl)
 cut_by_delivery :
     (read_of handling (last_end handling) (played handling (signalled_after 18)) ≡ Ok (Some (ends.Cut 0x10104)))  -- cut by signal
     × (read_of handling (λ before. (file handling 1 before).pc) (played handling (signalled_after 18)) ≡ Ok 0x10120)  -- enters its handler
-unfolding all_signals can_write_frame played decide history done are_readable number_at meaning row_of rows lui_rows auipc_rows jal_rows jalr_rows branch_rows load_rows store_rows op_imm_rows op_imm_32_rows op_rows op_32_rows misc_mem_rows amo_rows system_rows
+unfolding all_signals can_write_frame played decide history done are_readable number_at meaning row_of rows
 cut_by_delivery = (refl, refl)
 
 abbrev returns_to : History → Option ℕ
@@ -210,7 +210,7 @@ returns_to before = word_at (memory (here_in_history handling before 0)) 0x3FFFF
 handler_returns :
     (read_of handling returns_to (played handling (signalled_after 18)) ≡ Ok (Some 0x10104))  -- returns to its abort handler
     × (read_of handling (is_inside_at handling 0) (played handling (signalled_after 18)) ≡ Ok false)  -- isnt inside then
-unfolding all_signals can_write_frame played decide history done are_readable number_at meaning row_of rows lui_rows auipc_rows jal_rows jalr_rows branch_rows load_rows store_rows op_imm_rows op_imm_32_rows op_rows op_32_rows misc_mem_rows amo_rows system_rows
+unfolding all_signals can_write_frame played decide history done are_readable number_at meaning row_of rows
 handler_returns = (refl, refl)
 
 -- behind both instructions it cuts nothing, and the handler returns there; where no instruction was executed inside yet no sequence
@@ -220,7 +220,7 @@ delivered_outside :
     × (read_of handling returns_to (played handling (signalled_after 19)) ≡ Ok (Some 0x100FC))  -- returns behind
     × (read_of handling (last_end handling) (played handling (signalled_after 17)) ≡ Ok None)  -- none ends
     × (read_of handling returns_to (played handling (signalled_after 17)) ≡ Ok (Some 0x10104))  -- aborts at its start
-unfolding all_signals can_write_frame played decide history done are_readable number_at meaning row_of rows lui_rows auipc_rows jal_rows jalr_rows branch_rows load_rows store_rows op_imm_rows op_imm_32_rows op_rows op_32_rows misc_mem_rows amo_rows system_rows
+unfolding all_signals can_write_frame played decide history done are_readable number_at meaning row_of rows
 delivered_outside = (refl, refl, refl, refl)
 
 -- hart 0 takes the request of a barrier that asks for a restart between both instructions: the thread goes on at its abort handler;
@@ -233,7 +233,7 @@ restarted_by_barrier :
     × (read_of restarting (λ before. (file restarting 1 before).pc) (played restarting (fenced_after 14)) ≡ Ok 0x100E8)  -- stays behind
     × (read_of restarting (last_end restarting) (played restarting (fenced_after 12)) ≡ Ok None)  -- none ends by barrier
     × (read_of restarting (λ before. (file restarting 1 before).pc) (played restarting (fenced_after 12)) ≡ Ok 0x100F0)  -- aborts at its start too
-unfolding barriers.asked played decide history done are_readable number_at meaning row_of rows lui_rows auipc_rows jal_rows jalr_rows branch_rows load_rows store_rows op_imm_rows op_imm_32_rows op_rows op_32_rows misc_mem_rows amo_rows system_rows
+unfolding barriers.asked played decide history done are_readable number_at meaning row_of rows
 restarted_by_barrier = (refl, refl, refl, refl, refl, refl, refl)
 
 -- one that asks for no restart cuts nothing: the thread is inside still; nor does one whose request an idle hart takes: the
@@ -243,7 +243,7 @@ not_restarted :
     × (read_of fencing (is_inside_at fencing 0) (played fencing (fenced_after 13)) ≡ Ok true)  -- still inside
     × (read_of restarting (λ before. option_map (λ (q : Sequence). q.thread) (hanging restarting 1 before)) (played restarting fenced_idle) ≡ Ok (Some 1))  -- hangs still
     × (read_of restarting (verdict restarting) (played restarting (fenced_idle ++ runs 0 1 ∷ [])) ≡ Ok (Some (ends.Cut 0x100F0)))  -- cut where it runs
-unfolding barriers.asked played decide history done are_readable number_at meaning row_of rows lui_rows auipc_rows jal_rows jalr_rows branch_rows load_rows store_rows op_imm_rows op_imm_32_rows op_rows op_32_rows misc_mem_rows amo_rows system_rows
+unfolding barriers.asked played decide history done are_readable number_at meaning row_of rows
 not_restarted = (refl, refl, refl, refl)
 
 -- DEAD
@@ -255,7 +255,7 @@ killed_inside :
     × (read_of calling ended (played calling (one_inside ++ line 0 asked.Exec ∷ [])) ≡ Ok (Some (Killed SIGSEGV)))  -- dead by signal
     × (read_of unhandling (last_end unhandling) (played unhandling (signalled_after 12)) ≡ Ok (Some ends.Dead))  -- dead unhandled
     × (read_of unhandling ended (played unhandling (signalled_after 12)) ≡ Ok (Some (Killed 15)))  -- dead by its signal
-unfolding played decide history done are_readable number_at all_signals meaning row_of rows lui_rows auipc_rows jal_rows jalr_rows branch_rows load_rows store_rows op_imm_rows op_imm_32_rows op_rows op_32_rows misc_mem_rows amo_rows system_rows
+unfolding played decide history done are_readable number_at all_signals meaning row_of rows
 killed_inside = (refl, refl, refl, refl)
 
 -- DROPPED
@@ -269,5 +269,5 @@ dropped_by_store :
     × (read_of shared (λ before. register (file shared 1 before).file 5) (played shared (child_writes ++ line 0 asked.Exec ∷ [])) ≡ Ok 2)  -- goes on at second
     × (read_of shared (was_touched shared) (played shared parent_inside) ≡ Ok (Some false))  -- not touched
     × (read_of shared (was_touched shared) (played shared child_writes) ≡ Ok (Some true))  -- touched
-unfolding played decide history done are_readable number_at meaning row_of rows lui_rows auipc_rows jal_rows jalr_rows branch_rows load_rows store_rows op_imm_rows op_imm_32_rows op_rows op_32_rows misc_mem_rows amo_rows system_rows
+unfolding played decide history done are_readable number_at meaning row_of rows
 dropped_by_store = (refl, refl, refl, refl, refl, refl)

@@ -1,7 +1,7 @@
 -- Worked examples, proved by computation: membarrier(2), the requests of a barrier and the harts that take them, the return of a
 -- barrier, and what a thread that waits in one may not do.
 use Rattle.std.proofs.Common.{◌≡◌, ℕ, pos, Bool, true, false, cond, eqb, List, [], ◌∷◌, ◌++◌, replicate, length, map, refl, Option, Some, None, inl, inr}
-use Rattle.block_model.proofs.Common.{Barrier, Choice, Done, EINVAL, EPERM, End, Entry, Here, Idle, Killed, NoRequest, NotInBarrier, Outcome, Registered, Regs, Setting, Store, Targets, Threads, Why, Write, all_signals, amo_rows, are_readable, auipc_rows, awaits_after, branch_rows, called, done, done_done, done_take, double_written, file, file_among, here_in_history, history, is_register_only, jal_rows, jalr_rows, load_rows, lui_rows, meaning, misc_mem_rows, negative, no_registers, nothing, number_at, op_32_rows, op_imm_32_rows, op_imm_rows, op_rows, option_map, pick, refusal_of, refusal_take, register, requests_after, restart_after, row_of, rows, sight_in, start_signalling, start_threads, store_rows, system_rows, with_child, with_pending, with_register, with_state}
+use Rattle.block_model.proofs.Common.{Barrier, Choice, Done, EINVAL, EPERM, End, Entry, Here, Idle, Killed, NoRequest, NotInBarrier, Outcome, Registered, Regs, Setting, Store, Targets, Threads, Why, Write, all_signals, are_readable, awaits_after, called, done, done_done, done_take, double_written, file, file_among, here_in_history, history, is_register_only, meaning, negative, no_registers, nothing, number_at, option_map, pick, refusal_of, refusal_take, register, requests_after, restart_after, row_of, rows, sight_in, start_signalling, start_threads, with_child, with_pending, with_register, with_state}
 use Rattle.mach_types.specs.Kernel.Barriers as barriers
 use Rattle.mach_types.specs.declared.barriers.Answer.{Answer}
 use Rattle.mach_types.specs.declared.barriers.Answer.TheVariants.{Begin, Value}
@@ -213,7 +213,7 @@ waits_in_barrier :
     × ((done_done (waits_for (Some 0))).files ≡ (1, record { file = with_register (call_registers 8 0 0) 10 0; pc = 0x10084 }) ∷ [])  -- returns zero
     × (map (λ k. awaits_after k 0 (done_done (waits_for (Some 0))) (Some 0)) (0 ∷ 1 ∷ []) ≡ None ∷ Some 0 ∷ [])  -- waits no more
     × (requests_after 0 0 (done_done (waits_for (Some 0))) 2 ≡ 2)  -- pending stays
-unfolding all_signals meaning row_of rows lui_rows auipc_rows jal_rows jalr_rows branch_rows load_rows store_rows op_imm_rows op_imm_32_rows op_rows op_32_rows misc_mem_rows amo_rows system_rows
+unfolding all_signals meaning row_of rows
 waits_in_barrier = (refl, refl, refl, refl, refl, refl)
 
 -- SEQUENCES
@@ -262,7 +262,7 @@ picked here = option_map (λ (p : Pick). p.choice) (pick (sight_in here 0 0) 0)
 barrier_picks :
     (map picked (has_requests 5 one_store ∷ has_requests 5 [] ∷ left_hart ∷ waits_for (Some 10) ∷ []) ≡ Some asked.Drain ∷ Some asked.Take ∷ Some asked.Take ∷ Some asked.Take ∷ [])  -- picks requests
     × (map (λ left. picked (record (waits_for left) { requests = 0 })) (Some 10 ∷ Some 0 ∷ None ∷ []) ≡ None ∷ Some asked.Done ∷ Some asked.Signal ∷ [])  -- picks return
-unfolding pick all_signals is_register_only meaning row_of rows lui_rows auipc_rows jal_rows jalr_rows branch_rows load_rows store_rows op_imm_rows op_imm_32_rows op_rows op_32_rows misc_mem_rows amo_rows system_rows
+unfolding pick all_signals is_register_only meaning row_of rows
 barrier_picks = (refl, refl)
 
 -- LOGS
@@ -286,7 +286,7 @@ abbrev walk : List Entry
 walk = entry 1 kind.Drain 2 0x100E4 ∷ entry 1 kind.Take 2 0x100E4 ∷ entry 1 kind.Exec 2 0x100E4 ∷ []
 
 is_walk : IsWalk fences 1 2 (history fences begun_log) walk
-unfolding history done barriers.asked meaning row_of rows lui_rows auipc_rows jal_rows jalr_rows branch_rows load_rows store_rows op_imm_rows op_imm_32_rows op_rows op_32_rows misc_mem_rows amo_rows system_rows
+unfolding history done barriers.asked meaning row_of rows
 is_walk = record {
   starts = refl;
   each = (
@@ -298,5 +298,5 @@ is_walk = record {
 returned_walk :
     (length (answers fences 1 (history fences begun_log) walk) ≡ 1)  -- answered once
     × (register (computed fences.program.pages (file fences 2 (history fences begun_log)) (answers fences 1 (history fences begun_log) walk)).file 6 ≡ 1)  -- computed by one
-unfolding history done barriers.asked meaning row_of rows lui_rows auipc_rows jal_rows jalr_rows branch_rows load_rows store_rows op_imm_rows op_imm_32_rows op_rows op_32_rows misc_mem_rows amo_rows system_rows
+unfolding history done barriers.asked meaning row_of rows
 returned_walk = (refl, refl)

@@ -20,7 +20,7 @@ pub use Rattle.block_model.specs.Events.Run.{done_killed, done_run, done_running
 pub use Rattle.block_model.specs.Events.Signal.{done_next, done_signal, done_signal_by, file_interrupted, handled, handled_unless_killed, kills, refusal_delivery, refusal_signal, refusal_signal_by, signals_handled, signals_taken}
 pub use Rattle.block_model.specs.Events.Take.{done_take, done_take_by, killed_by, only_took, refusal_take, took_and_interrupted}
 pub use Rattle.block_model.specs.Footprints.{AreApart, Footprint, bytes_of_all, has_byte, have_byte, meets}
-pub use Rattle.block_model.specs.Here.{Barrier, Done, Here, is_storable, is_writable, memory, memory_in, nothing, reached, runs, view, view_of_all, waiting_here}
+pub use Rattle.block_model.specs.Here.{Barrier, Done, Here, is_storable, is_writable, memory, memory_in, nothing, nothing_with, reached, runs, view, view_of_all, waiting_here}
 pub use Rattle.block_model.specs.History.{Event, History, awaits, byte, can_be_written, drains, ended, events, file, file_among, here_in_history, is_of_hart, kernel, lost_after, ran, requests, restart, running, stores, waiting}
 pub use Rattle.block_model.specs.Ids.{AreIdsApart, IsLeastFree, held_ids, id_of, is_id_of, is_taken, next_id, without_id}
 pub use Rattle.block_model.specs.Instruction.{fault_by, fetched, instruction_of}
@@ -53,30 +53,19 @@ pub use Rattle.mach_types.specs.declared.address_space.TheConstants.{FIRST_MAPPI
 pub use Rattle.mach_types.specs.declared.barriers.Registered.{Registered}
 pub use Rattle.mach_types.specs.declared.errors.Errno.{Errno}
 pub use Rattle.mach_types.specs.declared.errors.TheConstants.{EFAULT, EINTR, EINVAL, EPERM}
-pub use Rattle.mach_types.specs.declared.events.Choice.{Choice}
-pub use Rattle.mach_types.specs.declared.events.Entry.{Entry}
-pub use Rattle.mach_types.specs.declared.events.Kind.{Kind}
-pub use Rattle.mach_types.specs.declared.events.Tid.{Tid}
-pub use Rattle.mach_types.specs.declared.events.Why.{Why}
+pub use Rattle.mach_types.specs.declared.events.{Choice.Choice, Entry.Entry, Kind.Kind, Tid.Tid, Why.Why}
 pub use Rattle.mach_types.specs.declared.events.Why.TheVariants.{FullBuffer, Idle, NoHart, NoRequest, NoSignal, NotAllowed, NotInBarrier, NotReady, Others, Targets}
 pub use Rattle.mach_types.specs.declared.kernel_words.TheConstants.{CONSOLE_ROOM}
 pub use Rattle.mach_types.specs.declared.limits.End.{End}
 pub use Rattle.mach_types.specs.declared.limits.End.TheVariants.{Killed}
 pub use Rattle.mach_types.specs.declared.registers.Regs.{Regs}
-pub use Rattle.mach_types.specs.declared.sequences.Area.{Area}
-pub use Rattle.mach_types.specs.declared.sequences.BadWhy.{BadWhy}
-pub use Rattle.mach_types.specs.declared.sequences.Named.{Named}
-pub use Rattle.mach_types.specs.declared.sequences.Outcome.{Outcome}
-pub use Rattle.mach_types.specs.declared.sequences.Seq.{Seq}
+pub use Rattle.mach_types.specs.declared.sequences.{Area.Area, BadWhy.BadWhy, Named.Named, Outcome.Outcome, Seq.Seq}
 pub use Rattle.mach_types.specs.declared.sequences.TheConstants.{CPU_ID, MM_CID, NODE_ID, RSEQ_CS}
-pub use Rattle.mach_types.specs.declared.signal_words.Action.{Action}
-pub use Rattle.mach_types.specs.declared.signal_words.ThreadSignals.{ThreadSignals}
+pub use Rattle.mach_types.specs.declared.signal_words.{Action.Action, ThreadSignals.ThreadSignals}
 pub use Rattle.mach_types.specs.declared.signals.TheConstants.{SIGNAL_FRAME_SIZE, SIGSEGV, SIG_DFL}
-pub use Rattle.mach_types.specs.declared.threads.Saved.{Saved}
-pub use Rattle.mach_types.specs.declared.threads.ThreadState.{ThreadState}
+pub use Rattle.mach_types.specs.declared.threads.{Saved.Saved, ThreadState.ThreadState}
 pub use Rattle.mach_types.specs.declared.threads.ThreadState.TheVariants.{Ready, Running, Waiting}
-pub use Rattle.mach_types.specs.declared.user_memory.Store.{Store}
-pub use Rattle.mach_types.specs.declared.user_memory.Write.{Write}
+pub use Rattle.mach_types.specs.declared.user_memory.{Store.Store, Write.Write}
 pub use Rattle.mach_types.specs.declared.user_memory.Write.TheVariants.{Stored, Zeroed}
 pub use Rattle.rv_inst.specs.Accesses.{Bytes, bytes, read_by}
 pub use Rattle.rv_inst.specs.Class.{is_call}
@@ -103,4 +92,4 @@ unfoldable pub use Rattle.mach_types.specs.Kernel.SignalFrames.{can_write_frame,
 unfoldable pub use Rattle.mach_types.specs.Kernel.Signals.{all_signals}
 unfoldable pub use Rattle.rv_inst.specs.Local.{is_register_only}
 unfoldable pub use Rattle.rv_inst.specs.Meaning.{meaning}
-unfoldable pub use Rattle.rv_inst.specs.Table.{amo_rows, auipc_rows, branch_rows, jal_rows, jalr_rows, load_rows, lui_rows, misc_mem_rows, op_32_rows, op_imm_32_rows, op_imm_rows, op_rows, row_of, rows, store_rows, system_rows}
+unfoldable pub use Rattle.rv_inst.specs.Table.{row_of, rows}

@@ -1,6 +1,6 @@
 -- Worked examples, proved by computation: what small programs do, read off a log and done by the plain machine.
 use Rattle.std.proofs.Common.{◌≡◌, ℕ, ◌-◌, ◌^◌, List, [], ◌∷◌, ◌++◌, replicate, map, refl, true, false, Option, Some, None, Result, Ok, Err}
-use Rattle.block_model.proofs.Common.{Ask, CallDone, Choice, Entry, Here, History, Idle, IsSolo, NoHart, NoRequest, NoSignal, NotAllowed, NotEnabled, NotInBarrier, NotReady, Refused, Setting, Store, Stored, ThreadState, Threads, Write, Zeroed, all_signals, amo_rows, auipc_rows, branch_rows, called, can_be_written, clear_of, decide, done, end_of, entry_in, events, file, final, first_ready, here_in_history, history, is_local_on, is_register_only, is_stuck, jal_rows, jalr_rows, kernel, left, load_rows, lost_after, lui_rows, meaning, memory, misc_mem_rows, no_registers, nothing, op_32_rows, op_imm_32_rows, op_imm_rows, op_rows, plain_after, plain_solo, played, ran, refusal_run, register, row_of, rows, running, sight_in, solo_choice, solo_rule, start_threads, state_of, store_rows, system_rows, view, with_register, with_state}
+use Rattle.block_model.proofs.Common.{Ask, CallDone, Choice, Entry, Here, History, Idle, IsSolo, NoHart, NoRequest, NoSignal, NotAllowed, NotEnabled, NotInBarrier, NotReady, Refused, Setting, Store, Stored, ThreadState, Threads, Write, Zeroed, all_signals, called, can_be_written, clear_of, decide, done, end_of, entry_in, events, file, final, first_ready, here_in_history, history, is_local_on, is_register_only, is_stuck, kernel, left, lost_after, meaning, memory, no_registers, nothing, plain_after, plain_solo, played, ran, refusal_run, register, row_of, rows, running, sight_in, solo_choice, solo_rule, start_threads, state_of, view, with_register, with_state}
 use Rattle.mach_types.specs.declared.events.Choice.TheVariants as asked
 use Rattle.mach_types.specs.declared.events.Kind.TheVariants as kind
 use Rattle.mach_types.specs.declared.events.Sight.{Sight}
@@ -8,6 +8,7 @@ use Rattle.mach_types.specs.declared.events.Why.TheVariants.{Busy, NoStore}
 use Rattle.mach_types.specs.declared.limits.End.TheVariants as over
 use Rattle.mach_types.specs.declared.threads.ThreadState.TheVariants as state
 use Rattle.rv_inst.specs.declared.effects.Effect.TheVariants as effect
+use Rattle.chooser.proofs.Sights.{idle}
 use Rattle.block_model.specs.History.{reservation}
 use Rattle.block_model.specs.Instruction.{next_fault}
 use Rattle.block_model.specs.Sights.{effect_here}
@@ -48,7 +49,7 @@ exit_run :
     × (end_of exits (history exits exit_log) ≡ over.Exit 7)  -- exit ends
     × ((plain_solo exits 200).log ≡ exit_log)  -- exit solo
     × (played exits (starts ∷ execs 4) ≡ Err 5)  -- exit over
-unfolding exit_log played decide history done end_of all_signals plain_solo plain_after meaning row_of rows lui_rows auipc_rows jal_rows jalr_rows branch_rows load_rows store_rows op_imm_rows op_imm_32_rows op_rows op_32_rows misc_mem_rows amo_rows system_rows
+unfolding exit_log played decide history done end_of all_signals plain_solo plain_after meaning row_of rows
 exit_run = (refl, refl, refl, refl)
 
 -- why an event is refused after the first so many entries of that log: an idle hart executes nothing and its thread can't leave;
@@ -115,7 +116,7 @@ thread_states :
     × (ran 0 (history exits left_log) ≡ 1)  -- counted instructions
     × (ran 0 (history exits (left_log ++ entry kind.Run 0x1007C ∷ [])) ≡ 0)  -- counted again
     × ((file exits 1 (history exits left_log)).pc ≡ 0x1007C)  -- kept pc
-unfolding history done meaning row_of rows lui_rows auipc_rows jal_rows jalr_rows branch_rows load_rows store_rows op_imm_rows op_imm_32_rows op_rows op_32_rows misc_mem_rows amo_rows system_rows
+unfolding history done meaning row_of rows
 thread_states = (refl, refl, refl, refl, refl, refl, refl, refl, refl, refl)
 
 -- a thread that leaves is the last ready one
@@ -137,7 +138,7 @@ fetch_faults :
     × (fault_at 0x20000 ≡ Some 11)  -- not executable
     × (fault_at 0x1007A ≡ Some 7)  -- not aligned
     × (fault_at 0x20002 ≡ Some 7)  -- not aligned first
-unfolding meaning row_of rows lui_rows auipc_rows jal_rows jalr_rows branch_rows load_rows store_rows op_imm_rows op_imm_32_rows op_rows op_32_rows misc_mem_rows amo_rows system_rows
+unfolding meaning row_of rows
 fetch_faults = (refl, refl, refl, refl)
 
 -- a jump to an address that isn't a multiple of 4 is a fault of the jump, which isn't local then
@@ -145,7 +146,7 @@ abbrev jumps : Setting
 jumps = code_alone (0x6F ∷ 0x00 ∷ 0x20 ∷ 0x00 ∷ [])
 
 jump_is_not_local : is_local_on (here_in_history jumps [] 0) (Some 1) ≡ false
-unfolding is_register_only meaning row_of rows lui_rows auipc_rows jal_rows jalr_rows branch_rows load_rows store_rows op_imm_rows op_imm_32_rows op_rows op_32_rows misc_mem_rows amo_rows system_rows
+unfolding is_register_only meaning row_of rows
 jump_is_not_local = refl
 
 -- what a page lets be done: the code can be read and not written, the stack both, and an address that isn't mapped neither
@@ -170,7 +171,7 @@ reserves between = code_and_data ((0x37 ∷ 0x04 ∷ 0x02 ∷ 0x00 ∷ 0xAF ∷ 
 
 -- a store of the same hart to the reserved bytes leaves the reservation
 own_store : outcome (reserves (0x23 ∷ 0x30 ∷ 0x04 ∷ 0x00 ∷ [])) (played (reserves (0x23 ∷ 0x30 ∷ 0x04 ∷ 0x00 ∷ [])) (starts ∷ (execs 3 ++ (drains 1 ++ execs 4)))) ≡ Ok ([], over.Exit 0)
-unfolding played decide history done end_of meaning row_of rows lui_rows auipc_rows jal_rows jalr_rows branch_rows load_rows store_rows op_imm_rows op_imm_32_rows op_rows op_32_rows misc_mem_rows amo_rows system_rows
+unfolding played decide history done end_of meaning row_of rows
 own_store = refl
 
 -- where a reservation of 8 bytes from 0x20000 on ends: at a write to one of them, and not at one beside them or of no bytes
@@ -292,7 +293,7 @@ first_sights :
     × (is_local_on (sees exits begun) (Some 1) ≡ true)  -- next is local
     × (first_ready (sees exits begun) ≡ None)  -- none is ready
     × (is_local_on (sees stores_nine (entry kind.Run 0x100B0 ∷ entry kind.Exec 0x100B0 ∷ [])) (Some 1) ≡ false)  -- store is not local
-unfolding history done is_register_only meaning row_of rows lui_rows auipc_rows jal_rows jalr_rows branch_rows load_rows store_rows op_imm_rows op_imm_32_rows op_rows op_32_rows misc_mem_rows amo_rows system_rows
+unfolding history done is_register_only meaning row_of rows
 first_sights = (refl, refl, refl, refl, refl, refl)
 
 -- the whole sight of hart 0 where two stores wait
@@ -300,19 +301,7 @@ abbrev two_stores : List Entry
 two_stores = entry kind.Run 0x100B0 ∷ entry kind.Exec 0x100B0 ∷ entry kind.Exec 0x100B4 ∷ entry kind.Exec 0x100B8 ∷ []
 
 abbrev two_wait : Sight
-two_wait = record {
-  idle = false;
-  first_ready = None;
-  in_barrier = false;
-  all_taken = false;
-  requested = false;
-  stores = 2;
-  deliverable = false;
-  exec_enabled = true;
-  «local» = false;
-  ran = 3;
-  credit = 0;
-}
+two_wait = record idle { idle = false; stores = 2; exec_enabled = true; ran = 3 }
 
 -- the fixed rule: it executes where it may, and drains where it may not; a signal waits for the drains; an idle hart runs the first
 -- ready thread, and has no choice where none is ready
@@ -325,7 +314,7 @@ fixed_rule :
     × (solo_rule (record two_wait { idle = true; first_ready = Some (record { 0 = 5 }) }) ≡ Some (asked.Run (record { 0 = 5 })))  -- rule runs
     × (solo_rule (record two_wait { idle = true }) ≡ None)  -- rule has none
     × (solo_choice exits (history exits []) ≡ Some first)  -- rule begins
-unfolding all_signals history done is_register_only meaning row_of rows lui_rows auipc_rows jal_rows jalr_rows branch_rows load_rows store_rows op_imm_rows op_imm_32_rows op_rows op_32_rows misc_mem_rows amo_rows system_rows
+unfolding all_signals history done is_register_only meaning row_of rows
 fixed_rule = (refl, refl, refl, refl, refl, refl, refl, refl)
 
 begins_by_rule : IsSolo exits begun

@@ -1,7 +1,7 @@
 -- Worked examples, proved by computation: signals that are posted, masked and delivered, their handlers, faults that become pending,
 -- and waits that a signal breaks.
 use Rattle.std.proofs.Common.{◌≡◌, ℕ, ◌+◌, ◌*◌, true, false, List, [], ◌∷◌, ◌++◌, replicate, map, take, drop, refl, Option, Some, None}
-use Rattle.block_model.proofs.Common.{Action, Done, EFAULT, EINTR, EINVAL, End, Entry, Here, Idle, IsBlockRun, Kernel, Killed, NoSignal, Regs, Saved, Setting, Signalling, Store, ThreadState, Threads, Write, action_of, all_signals, amo_rows, are_readable, auipc_rows, branch_rows, called, can_write_frame, choice_at, decide, done, done_exec, done_signal, double_written, file_among, frame_read, gone, had_child, has_ended, has_signal, here_in_history, history, is_ignored, is_register_only, jal_rows, jalr_rows, kernel, load_rows, lui_rows, mask_of, meaning, misc_mem_rows, negative, next_entry, next_for, no_registers, number_at, op_32_rows, op_imm_32_rows, op_imm_rows, op_rows, pending_of, pick, refusal_signal, register, row_of, rows, sight_in, start_signalling, start_threads, state_of, store_rows, system_rows, waits, with_child, with_mask, with_pending, with_register, with_state, with_thread, with_waiter, written}
+use Rattle.block_model.proofs.Common.{Action, Done, EFAULT, EINTR, EINVAL, End, Entry, Here, Idle, IsBlockRun, Kernel, Killed, NoSignal, Regs, Saved, Setting, Signalling, Store, ThreadState, Threads, Write, action_of, all_signals, are_readable, called, can_write_frame, choice_at, decide, done, done_exec, done_signal, double_written, file_among, frame_read, gone, had_child, has_ended, has_signal, here_in_history, history, is_ignored, is_register_only, kernel, mask_of, meaning, negative, next_entry, next_for, no_registers, number_at, pending_of, pick, refusal_signal, register, row_of, rows, sight_in, start_signalling, start_threads, state_of, waits, with_child, with_mask, with_pending, with_register, with_state, with_thread, with_waiter, written}
 use Rattle.mach_types.specs.declared.errors.TheConstants.{EAGAIN, ESRCH}
 use Rattle.mach_types.specs.declared.events.Kind.TheVariants as kind
 use Rattle.mach_types.specs.declared.events.Why.TheVariants.{Waiting}
@@ -288,7 +288,7 @@ faults_by_action :
     × (map (λ signals. fault_of (faults signals 0x100B2))
     (with_mask 1 0x40 (acting 7 (handler 0 0)) ∷ acting 7 ignoring ∷ acting 4 (handler 0 0) ∷ start_signalling ∷ [])
     ≡ replicate 4 (Some (Killed 7), [], 1, 0))  -- fault kills
-unfolding all_signals can_write_frame meaning row_of rows lui_rows auipc_rows jal_rows jalr_rows branch_rows load_rows store_rows op_imm_rows op_imm_32_rows op_rows op_32_rows misc_mem_rows amo_rows system_rows
+unfolding all_signals can_write_frame meaning row_of rows
 faults_by_action = (refl, refl, refl)
 
 -- WAITS
@@ -370,14 +370,14 @@ abbrev begun_again : List Entry
 begun_again = posted_log ++ entry kind.Preempt 0x100C0 ∷ entry kind.Run 0x100C0 ∷ []
 
 run_delivers : next_entry kills_itself 1 0 (history kills_itself begun_again) ≡ Some (entry kind.Signal 0x100C0)
-unfolding all_signals has_ended choice_at next_entry pick is_register_only history done meaning row_of rows lui_rows auipc_rows jal_rows jalr_rows branch_rows load_rows store_rows op_imm_rows op_imm_32_rows op_rows op_32_rows misc_mem_rows amo_rows system_rows
+unfolding all_signals has_ended choice_at next_entry pick is_register_only history done meaning row_of rows
 run_delivers = refl
 
 -- LAWS
 
 -- a signal that is pending isn't ignored: the log is a block run, 15 is pending at its end, and its action doesn't ignore it
 posted_run : IsBlockRun kills_itself posted_log
-unfolding all_signals decide history done meaning row_of rows lui_rows auipc_rows jal_rows jalr_rows branch_rows load_rows store_rows op_imm_rows op_imm_32_rows op_rows op_32_rows misc_mem_rows amo_rows system_rows
+unfolding all_signals decide history done meaning row_of rows
 posted_run = block_run kills_itself posted_log (((((tt, refl, refl), refl, refl), refl, refl), refl, refl), refl, refl)
 
 abbrev signals_posted : Signalling
@@ -386,7 +386,7 @@ signals_posted = (kernel kills_itself (history kills_itself posted_log)).signals
 pending_is_heeded :
     (has_signal (pending_of 1 signals_posted) 15 ≡ true)  -- the premise
     × (is_ignored 15 (action_of 15 signals_posted) ≡ false)  -- the conclusion
-unfolding all_signals history done meaning row_of rows lui_rows auipc_rows jal_rows jalr_rows branch_rows load_rows store_rows op_imm_rows op_imm_32_rows op_rows op_32_rows misc_mem_rows amo_rows system_rows
+unfolding all_signals history done meaning row_of rows
 pending_is_heeded = (refl, refl)
 
 -- a thread that waits has no signal that can be delivered: after `lui x10, 0x20`, `addi x17, x0, 98`, `ecall` the only thread waits in
@@ -398,10 +398,10 @@ abbrev waiting_log : List Entry
 waiting_log = entry kind.Run 0x100B0 ∷ entry kind.Exec 0x100B0 ∷ entry kind.Exec 0x100B4 ∷ entry kind.Exec 0x100B8 ∷ []
 
 waiting_run : IsBlockRun waits_alone waiting_log
-unfolding all_signals decide history done are_readable number_at meaning row_of rows lui_rows auipc_rows jal_rows jalr_rows branch_rows load_rows store_rows op_imm_rows op_imm_32_rows op_rows op_32_rows misc_mem_rows amo_rows system_rows
+unfolding all_signals decide history done are_readable number_at meaning row_of rows
 waiting_run = block_run waits_alone waiting_log ((((tt, refl, refl), refl, refl), refl, refl), refl, refl)
 
 waits_without_signal : waits (kernel waits_alone (history waits_alone waiting_log)).threads 1
     × (next_for 1 (kernel waits_alone (history waits_alone waiting_log)).signals ≡ None)
-unfolding all_signals history done are_readable number_at meaning row_of rows lui_rows auipc_rows jal_rows jalr_rows branch_rows load_rows store_rows op_imm_rows op_imm_32_rows op_rows op_32_rows misc_mem_rows amo_rows system_rows
+unfolding all_signals history done are_readable number_at meaning row_of rows
 waits_without_signal = ((0x20000, refl), refl)

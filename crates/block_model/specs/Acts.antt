@@ -31,22 +31,14 @@ is_inside_at s h before = option_map_or (is_inside_here (here_in_history s befor
 
 abbrev pub is_instruction : Kind → Bool
 is_instruction kind.Exec = true
-is_instruction kind.Drain = false
-is_instruction kind.Take = false
-is_instruction kind.Done = false
-is_instruction kind.Preempt = false
-is_instruction kind.Run = false
-is_instruction kind.Signal = false
+is_instruction other = false
 
 -- whether a sequence takes in an event of its hart before which its thread is inside
 abbrev pub is_taken_in : Kind → Option Outcome → Bool
 is_taken_in kind.Exec interrupted = true
 is_taken_in kind.Drain interrupted = true
 is_taken_in kind.Take interrupted = is_none interrupted
-is_taken_in kind.Done interrupted = false
-is_taken_in kind.Preempt interrupted = false
-is_taken_in kind.Run interrupted = false
-is_taken_in kind.Signal interrupted = false
+is_taken_in other interrupted = false
 
 -- a sequence as it is known at a place: its hart and its thread; the place before its first event, the place before the last of
 -- its instructions so far, and the place after its last event so far
@@ -89,11 +81,7 @@ abbrev pub hanging_after : Setting → ℕ → Event → History → Kind → Op
 hanging_after s t e before kind.Preempt still =
     if is_inside_at s e.entry.hart.0 before then sequence_on s e.entry.hart.0 before else None
 hanging_after s t e before kind.Run still = None
-hanging_after s t e before kind.Exec still = still
-hanging_after s t e before kind.Drain still = still
-hanging_after s t e before kind.Take still = still
-hanging_after s t e before kind.Done still = still
-hanging_after s t e before kind.Signal still = still
+hanging_after s t e before other still = still
 
 abbrev pub hanging : Setting → ℕ → History → Option Sequence
 hanging s t [] = None
@@ -116,11 +104,8 @@ has_died q = elim q.reached [ [] ↦ false | e ∷ before ↦ has_killed e ]
 
 -- the address to which an interruption sends its thread
 abbrev pub abort_of : Option Outcome → Option ℕ
-abort_of None = None
-abort_of (Some comes_to.Nothing) = None
-abort_of (Some comes_to.Cleared) = None
 abort_of (Some (comes_to.Aborted at)) = Some at
-abort_of (Some (comes_to.Killed why)) = None
+abort_of other = None
 
 -- whether an event is an interruption that ended the process
 abbrev pub is_fatal : Event → Bool

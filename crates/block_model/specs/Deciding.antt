@@ -20,13 +20,8 @@ use Rattle.block_model.specs.History.{Event, History, here_in_history, ended, ke
 
 -- the thread that an entry names: the one that begins to run, else the one that runs on the hart; 0 where there is none
 abbrev pub thread_in : Choice → Here → Option ℕ
-thread_in asked.Exec here = runs here
-thread_in asked.Drain here = runs here
-thread_in asked.Take here = runs here
-thread_in asked.Done here = runs here
-thread_in asked.Preempt here = runs here
 thread_in (asked.Run t) here = Some t.0
-thread_in asked.Signal here = runs here
+thread_in other here = runs here
 
 abbrev pub number_of : Option ℕ → ℕ
 number_of None = 0

@@ -92,20 +92,23 @@ pub record Done : Type 0 where
   pub kernel : Kernel
   pub ended : Option End
 
--- an event that does nothing but stand in the log
-abbrev pub nothing : Here → Done
-nothing here = record {
+-- an event that does nothing but stand in the log, where its hart has this reservation and the kernel this record
+abbrev pub nothing_with : Option ℕ → Kernel → Done
+nothing_with reserved kernel = record {
   files = [];
   executed = [];
   drained = 0;
   entered = [];
-  reserved = here.reserved;
+  reserved = reserved;
   barrier = None;
   took = false;
   returned = false;
   started = false;
   interrupted = None;
   instructions = 0;
-  kernel = here.kernel;
+  kernel = kernel;
   ended = None;
 }
+
+abbrev pub nothing : Here → Done
+nothing here = nothing_with here.reserved here.kernel

@@ -24,11 +24,7 @@ is_plain_exec_by here (Some t) = is_plain_exec_of (next_fault here t) (next_effe
 abbrev pub is_plain : Choice → Here → Bool
 is_plain asked.Exec here = is_plain_exec_by here (runs here)
 is_plain asked.Drain here = true
-is_plain asked.Take here = false
-is_plain asked.Done here = false
-is_plain asked.Preempt here = false
-is_plain (asked.Run t) here = false
-is_plain asked.Signal here = false
+is_plain other here = false
 
 -- the bytes that the access of an event reads and writes: of the instruction that the thread executes next, or of the oldest store
 -- that waits, as it enters memory
@@ -50,11 +46,7 @@ footprint_drain (w ∷ ws) = record no_bytes { writes = bytes w.at w.size ∷ []
 abbrev pub footprint : Choice → Here → Footprint
 footprint asked.Exec here = footprint_exec here (runs here)
 footprint asked.Drain here = footprint_drain (waiting_here here)
-footprint asked.Take here = no_bytes
-footprint asked.Done here = no_bytes
-footprint asked.Preempt here = no_bytes
-footprint (asked.Run t) here = no_bytes
-footprint asked.Signal here = no_bytes
+footprint other here = no_bytes
 
 -- what its hart has reserved after a plain event; nothing where that is what it had
 abbrev pub reserved_exec : Here → Option ℕ → Option (Option ℕ)
@@ -63,9 +55,4 @@ reserved_exec here (Some t) = option_and_then reserved_by (next_effect here t)
 
 abbrev pub reserved_of : Choice → Here → Option (Option ℕ)
 reserved_of asked.Exec here = reserved_exec here (runs here)
-reserved_of asked.Drain here = None
-reserved_of asked.Take here = None
-reserved_of asked.Done here = None
-reserved_of asked.Preempt here = None
-reserved_of (asked.Run t) here = None
-reserved_of asked.Signal here = None
+reserved_of other here = None

@@ -59,12 +59,7 @@ answer_in here = record { seen = view_of_all here; reserved = here.reserved }
 -- whether a choice is to execute an instruction
 abbrev pub is_exec : Choice → Bool
 is_exec asked.Exec = true
-is_exec asked.Drain = false
-is_exec asked.Take = false
-is_exec asked.Done = false
-is_exec asked.Preempt = false
-is_exec (asked.Run t) = false
-is_exec asked.Signal = false
+is_exec other = false
 
 -- what an entry after a history is answered, if it is an instruction of hart h; and what the instructions of
 -- hart h are answered in a stretch, in order, each at its place

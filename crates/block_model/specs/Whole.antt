@@ -65,13 +65,10 @@ pub record IsHandled (s : Setting) (e : Event) (before : History) (t : ℕ) (sav
 
 -- a thread t that an event interrupts goes on with this file: at once, or where a signal is delivered once the handler returns
 abbrev pub GoesOnWith : Setting → Kind → Event → History → ℕ → Saved → Type 0
-GoesOnWith s kind.Exec e before t saved = ⊥
-GoesOnWith s kind.Drain e before t saved = ⊥
 GoesOnWith s kind.Take e before t saved = file s t (e ∷ before) ≡ saved
-GoesOnWith s kind.Done e before t saved = ⊥
-GoesOnWith s kind.Preempt e before t saved = ⊥
 GoesOnWith s kind.Run e before t saved = file s t (e ∷ before) ≡ saved
 GoesOnWith s kind.Signal e before t saved = IsHandled s e before t saved
+GoesOnWith s other e before t saved = ⊥
 
 -- the pointer of an area is 0, as memory is
 abbrev pub IsNull : Setting → History → ℕ → Area → Type 0
@@ -84,13 +81,10 @@ lies_on_pointer s before t area =
 
 -- an event that interrupts thread t leaves the pointer of its area 0; but the frame of a signal's handler may lie on it
 abbrev pub IsLeftNull : Setting → Kind → Event → History → ℕ → Area → Type 0
-IsLeftNull s kind.Exec e before t area = ⊥
-IsLeftNull s kind.Drain e before t area = ⊥
 IsLeftNull s kind.Take e before t area = IsNull s (e ∷ before) e.entry.hart.0 area
-IsLeftNull s kind.Done e before t area = ⊥
-IsLeftNull s kind.Preempt e before t area = ⊥
 IsLeftNull s kind.Run e before t area = IsNull s (e ∷ before) e.entry.hart.0 area
 IsLeftNull s kind.Signal e before t area = lies_on_pointer s before t area ≡ false → IsNull s (e ∷ before) e.entry.hart.0 area
+IsLeftNull s other e before t area = ⊥
 
 -- an interruption e after a history cut a sequence: the area of its thread named a good sequence with this abort handler, in which
 -- the thread was; the word before the handler could be read and was the signature with which the area was registered; the pointer

@@ -30,13 +30,8 @@ use Rattle.block_view.proofs.Places.{Began, Hangs, Hung, Left, Stood, came, goin
 
 -- the one kind that preempts
 preempt_is : (k : Kind) → is_preempt k ≡ true → k ≡ kind.Preempt
-preempt_is kind.Exec is = absurd (false≢true is)
-preempt_is kind.Drain is = absurd (false≢true is)
-preempt_is kind.Take is = absurd (false≢true is)
-preempt_is kind.Done is = absurd (false≢true is)
 preempt_is kind.Preempt is = refl
-preempt_is kind.Run is = absurd (false≢true is)
-preempt_is kind.Signal is = absurd (false≢true is)
+preempt_is other is = absurd (false≢true is)
 
 -- a hart on which a thread may be preempted runs one
 preempted_ran : (here : Here) (r : Option ℕ) → refusal_preempt_by here r ≡ None → r ≡ Some (number_of r)

@@ -48,22 +48,12 @@ second true b is = is
 second false b is = absurd (false≢true is)
 
 pub run_is : (k : Kind) → is_run k ≡ true → k ≡ kind.Run
-run_is kind.Exec is = absurd (false≢true is)
-run_is kind.Drain is = absurd (false≢true is)
-run_is kind.Take is = absurd (false≢true is)
-run_is kind.Done is = absurd (false≢true is)
-run_is kind.Preempt is = absurd (false≢true is)
 run_is kind.Run is = refl
-run_is kind.Signal is = absurd (false≢true is)
+run_is other is = absurd (false≢true is)
 
 preempt_is : (k : Kind) → is_preempt k ≡ true → k ≡ kind.Preempt
-preempt_is kind.Exec is = absurd (false≢true is)
-preempt_is kind.Drain is = absurd (false≢true is)
-preempt_is kind.Take is = absurd (false≢true is)
-preempt_is kind.Done is = absurd (false≢true is)
 preempt_is kind.Preempt is = refl
-preempt_is kind.Run is = absurd (false≢true is)
-preempt_is kind.Signal is = absurd (false≢true is)
+preempt_is other is = absurd (false≢true is)
 
 something : {X : Type 0} {x : X} → Some x ≡ None → ⊥
 something is = cc
@@ -499,13 +489,8 @@ module _ (s : Setting) (e : Event) (before : History) (k : Kept) (run : IsRunHis
       and_false false = refl
 
   run_isnt : (k : Kind) → is_instruction k ≡ true → is_run k ≡ false
-  run_isnt kind.Exec is = refl
-  run_isnt kind.Drain is = refl
-  run_isnt kind.Take is = refl
-  run_isnt kind.Done is = refl
-  run_isnt kind.Preempt is = refl
   run_isnt kind.Run is = absurd (false≢true is)
-  run_isnt kind.Signal is = refl
+  run_isnt other is = refl
 
   by_run : (none : on h ≡ None) (b : Bool) → is_run e.entry.kind ≡ b → begins (passed_of s e before) ≡ false → IsTied s (e ∷ before) (noted (passed_of s e before) k)
   by_run none true runs other = tied_run none (none_now none other) runs other

@@ -75,13 +75,8 @@ turns_ended (Some act) = refl
 
 -- an instruction begins to run no thread
 instruction_isnt : (k : Kind) → is_instruction k ≡ true → is_run k ≡ false
-instruction_isnt kind.Exec is = refl
-instruction_isnt kind.Drain is = refl
-instruction_isnt kind.Take is = refl
-instruction_isnt kind.Done is = refl
-instruction_isnt kind.Preempt is = refl
 instruction_isnt kind.Run is = absurd (false≢true is)
-instruction_isnt kind.Signal is = refl
+instruction_isnt other is = refl
 
 module _ (s : Setting) (e : Event) (before : History) (k : Kept) (run : IsRunHistory s (e ∷ before)) (tied : IsTied s before k) where
   abbrev h : ℕ

@@ -24,22 +24,12 @@ pub record Whole : Type 0 where
   pub end : SeqEnd
 
 abbrev pub is_preempt : Kind → Bool
-is_preempt kind.Exec = false
-is_preempt kind.Drain = false
-is_preempt kind.Take = false
-is_preempt kind.Done = false
 is_preempt kind.Preempt = true
-is_preempt kind.Run = false
-is_preempt kind.Signal = false
+is_preempt other = false
 
 abbrev pub is_run : Kind → Bool
-is_run kind.Exec = false
-is_run kind.Drain = false
-is_run kind.Take = false
-is_run kind.Done = false
-is_run kind.Preempt = false
 is_run kind.Run = true
-is_run kind.Signal = false
+is_run other = false
 
 -- whether thread t begins to run by an event
 abbrev pub begins_to_run : ℕ → Event → Bool
@@ -72,11 +62,7 @@ next_number before = length before + 1
 abbrev pub form_alone : Kind → Form
 form_alone kind.Exec = Step
 form_alone kind.Drain = Step
-form_alone kind.Take = Kernel
-form_alone kind.Done = Kernel
-form_alone kind.Preempt = Kernel
-form_alone kind.Run = Kernel
-form_alone kind.Signal = Kernel
+form_alone other = Kernel
 
 abbrev pub act_alone : Event → History → Act
 act_alone e before = record {

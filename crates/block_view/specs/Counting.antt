@@ -27,35 +27,23 @@ is_ended so (Sequence end) = so end
 
 abbrev pub is_dead : SeqEnd → Bool
 is_dead ends.Dead = true
-is_dead (ends.Cut at) = false
-is_dead ends.Left = false
-is_dead ends.Dropped = false
-is_dead ends.Unended = false
+is_dead other = false
 
 -- at whichever abort handler it goes on
 abbrev pub is_cut : Form → Bool
 is_cut form = is_some (cut_at form)
 
 abbrev pub is_left : SeqEnd → Bool
-is_left ends.Dead = false
-is_left (ends.Cut at) = false
 is_left ends.Left = true
-is_left ends.Dropped = false
-is_left ends.Unended = false
+is_left other = false
 
 abbrev pub is_dropped : SeqEnd → Bool
-is_dropped ends.Dead = false
-is_dropped (ends.Cut at) = false
-is_dropped ends.Left = false
 is_dropped ends.Dropped = true
-is_dropped ends.Unended = false
+is_dropped other = false
 
 abbrev pub is_unended : SeqEnd → Bool
-is_unended ends.Dead = false
-is_unended (ends.Cut at) = false
-is_unended ends.Left = false
-is_unended ends.Dropped = false
 is_unended ends.Unended = true
+is_unended other = false
 
 -- how many acts of a hart have a form
 abbrev pub how_many : ℕ → (Form → Bool) → List Act → ℕ

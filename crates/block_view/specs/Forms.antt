@@ -16,10 +16,5 @@ form_word (Sequence ends.Unended) = codes "open"
 
 -- the abort handler at which a thread goes on whose sequence was cut
 abbrev pub cut_at : Form → Option ℕ
-cut_at Step = None
-cut_at Kernel = None
-cut_at (Sequence ends.Dead) = None
 cut_at (Sequence (ends.Cut at)) = Some at
-cut_at (Sequence ends.Left) = None
-cut_at (Sequence ends.Dropped) = None
-cut_at (Sequence ends.Unended) = None
+cut_at other = None

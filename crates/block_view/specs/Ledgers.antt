@@ -35,10 +35,7 @@ abbrev pub takes : Kind → Bool → Bool
 takes kind.Exec interrupts = true
 takes kind.Drain interrupts = true
 takes kind.Take interrupts = not interrupts
-takes kind.Done interrupts = false
-takes kind.Preempt interrupts = false
-takes kind.Run interrupts = false
-takes kind.Signal interrupts = false
+takes other interrupts = false
 
 abbrev pub is_more : Passed → Bool
 is_more p = is_some p.inside && takes p.entry.kind p.interrupts

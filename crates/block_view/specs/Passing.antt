@@ -37,21 +37,15 @@ inside_at s h before = sequence_inside (named_at s h before) (pc_at s h before)
 -- whether an event of this kind interrupts a thread on its hart, where a request there asks for a restart or doesn't, and the hart is
 -- idle or isn't
 abbrev pub would_interrupt : Kind → Bool → Bool → Bool
-would_interrupt kind.Exec restart idle = false
-would_interrupt kind.Drain restart idle = false
 would_interrupt kind.Take restart idle = restart && not idle
-would_interrupt kind.Done restart idle = false
-would_interrupt kind.Preempt restart idle = false
 would_interrupt kind.Run restart idle = true
 would_interrupt kind.Signal restart idle = true
+would_interrupt other restart idle = false
 
 -- whether a signal ended the process
 abbrev pub is_by_signal : End → Bool
-is_by_signal (over.Exit status) = false
 is_by_signal (over.Killed signal) = true
-is_by_signal over.Stuck = false
-is_by_signal over.Limit = false
-is_by_signal over.Unended = false
+is_by_signal other = false
 
 abbrev pub is_killed : Option End → Bool
 is_killed end = option_map_or is_by_signal end false

@@ -3,3 +3,4 @@ mod Draws
 mod Examples
 pub mod Laws
 mod Picks
+pub mod Sights

@@ -4,6 +4,7 @@ use Rattle.mach_types.specs.declared.events.Choice.{Choice}
 use Rattle.mach_types.specs.declared.events.Choice.TheVariants as asked
 use Rattle.mach_types.specs.declared.events.Sight.{Sight}
 use Rattle.mach_types.specs.declared.events.Tid.{Tid}
+use Rattle.chooser.proofs.Sights.{idle}
 use Rattle.draw_policies.specs.Accesses.{race}
 use Rattle.draw_policies.specs.Acting.{can_act}
 use Rattle.draw_policies.specs.Beginning.{thread_to_run}
@@ -20,28 +21,12 @@ use Rattle.draw_policies.specs.declared.turns.Turn.{Turn}
 abbrev thread : ℕ → Tid
 thread t = record { 0 = t }
 
--- a hart whose thread may execute, and one of whose stores waits
-abbrev storing : Sight
-storing = record {
-  idle = false;
-  first_ready = None;
-  in_barrier = false;
-  all_taken = false;
-  requested = false;
-  stores = 1;
-  deliverable = false;
-  exec_enabled = true;
-  local = false;
-  ran = 0;
-  credit = 0;
-}
-
--- the same hart without the store, and an idle one
+-- a hart whose thread may execute, and the same hart while one of its stores waits
 abbrev running : Sight
-running = record storing { stores = 0 }
+running = record idle { idle = false; exec_enabled = true }
 
-abbrev idle : Sight
-idle = record running { idle = true; exec_enabled = false }
+abbrev storing : Sight
+storing = record running { stores = 1 }
 
 -- what a hart does that is no idle one
 abbrev turn_of : Policy → Sight → Option Aim → ℕ → Option Turn

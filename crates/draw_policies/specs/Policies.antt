@@ -44,84 +44,29 @@ policies_of_word word =
     else if bytes_eq word (word_of policy.Rule) then Some (Only policy.Rule)
     else None
 
+-- weights of which three differ by the policy, and the others are those of most: how often a hart goes on, its thread leaves it, and
+-- its oldest store enters memory
+abbrev pub drawn : ℕ → ℕ → ℕ → Weights
+drawn stay preempt drain = record {
+  stay = stay;
+  preempt = preempt;
+  drain = drain;
+  take = 50;
+  signal = 50;
+  credit = 256;
+  alone = false;
+  by_priority = false;
+  draws = true;
+}
+
 -- how often a policy does what, in thousandths of the words that could let it happen; whether it goes by priorities; and whether it
 -- draws words. The rule draws none, and the word 0 stands for each: a hart goes on for as long as it can, then the first that can; its
 -- requests are taken and its signals delivered at once, and its stores enter memory where the next event needs it
 abbrev pub weights_of : Policy → Weights
-weights_of policy.One = record {
-  stay = 0;
-  preempt = 15;
-  drain = 250;
-  take = 20;
-  signal = 20;
-  credit = 0;
-  alone = true;
-  by_priority = false;
-  draws = true;
-}
-weights_of policy.Long = record {
-  stay = 970;
-  preempt = 30;
-  drain = 60;
-  take = 50;
-  signal = 50;
-  credit = 256;
-  alone = false;
-  by_priority = false;
-  draws = true;
-}
-weights_of policy.Short = record {
-  stay = 800;
-  preempt = 10;
-  drain = 30;
-  take = 50;
-  signal = 50;
-  credit = 256;
-  alone = false;
-  by_priority = false;
-  draws = true;
-}
-weights_of policy.Pos = record {
-  stay = 0;
-  preempt = 30;
-  drain = 0;
-  take = 50;
-  signal = 50;
-  credit = 256;
-  alone = false;
-  by_priority = true;
-  draws = true;
-}
-weights_of policy.Spread = record {
-  stay = 0;
-  preempt = 30;
-  drain = 30;
-  take = 50;
-  signal = 50;
-  credit = 256;
-  alone = false;
-  by_priority = false;
-  draws = true;
-}
-weights_of policy.Rule = record {
-  stay = 1000;
-  preempt = 0;
-  drain = 0;
-  take = 1000;
-  signal = 1000;
-  credit = 0;
-  alone = false;
-  by_priority = false;
-  draws = false;
-}
-weights_of policy.Fair = record {
-  stay = 969;
-  preempt = 8;
-  drain = 1000;
-  take = 1000;
-  signal = 125;
-  credit = 0;
-  alone = false;
-  by_priority = false;
-  draws = true;
-}
+weights_of policy.One = record (drawn 0 15 250) { take = 20; signal = 20; credit = 0; alone = true }
+weights_of policy.Long = drawn 970 30 60
+weights_of policy.Short = drawn 800 10 30
+weights_of policy.Pos = record (drawn 0 30 0) { by_priority = true }
+weights_of policy.Spread = drawn 0 30 30
+weights_of policy.Rule = record (drawn 1000 0 0) { take = 1000; signal = 1000; credit = 0; draws = false }
+weights_of policy.Fair = record (drawn 969 8 1000) { take = 1000; signal = 125; credit = 0 }

@@ -1,6 +1,7 @@
 //! The policies, and how often each does what.
 
 ghost use Rattle.std.specs.Prelude.{◌≡◌};
+ghost use Rattle.draw_policies.specs.Policies as spec;
 ghost use Rattle.draw_policies.specs.Policies.{policies_of_word, policy_for, policy_of_seed, weights_of, word_of};
 
 /// How a run is drawn.
@@ -82,6 +83,23 @@ pub struct Weights {
     pub draws: bool,
 }
 
+/// Weights of which these three differ by the policy, and the others are those of most.
+fn drawn(stay: u16, preempt: u16, drain: u16) -> Weights
+    ensures { result ≡ spec.drawn stay preempt drain }
+{
+    Weights {
+        stay,
+        preempt,
+        drain,
+        take: 50,
+        signal: 50,
+        credit: 256,
+        alone: false,
+        by_priority: false,
+        draws: true,
+    }
+}
+
 impl Policy {
     /// The policy of a seed: the first five in turn, by the seed modulo 5.
     pub fn of_seed(seed: u64) -> Policy
@@ -122,81 +140,31 @@ impl Policy {
     {
         match self {
             Policy::One => Weights {
-                stay: 0,
-                preempt: 15,
-                drain: 250,
                 take: 20,
                 signal: 20,
                 credit: 0,
                 alone: true,
-                by_priority: false,
-                draws: true,
+                ..drawn(0, 15, 250)
             },
-            Policy::Long => Weights {
-                stay: 970,
-                preempt: 30,
-                drain: 60,
-                take: 50,
-                signal: 50,
-                credit: 256,
-                alone: false,
-                by_priority: false,
-                draws: true,
-            },
-            Policy::Short => Weights {
-                stay: 800,
-                preempt: 10,
-                drain: 30,
-                take: 50,
-                signal: 50,
-                credit: 256,
-                alone: false,
-                by_priority: false,
-                draws: true,
-            },
+            Policy::Long => drawn(970, 30, 60),
+            Policy::Short => drawn(800, 10, 30),
             Policy::Pos => Weights {
-                stay: 0,
-                preempt: 30,
-                drain: 0,
-                take: 50,
-                signal: 50,
-                credit: 256,
-                alone: false,
                 by_priority: true,
-                draws: true,
+                ..drawn(0, 30, 0)
             },
-            Policy::Spread => Weights {
-                stay: 0,
-                preempt: 30,
-                drain: 30,
-                take: 50,
-                signal: 50,
-                credit: 256,
-                alone: false,
-                by_priority: false,
-                draws: true,
-            },
+            Policy::Spread => drawn(0, 30, 30),
             Policy::Rule => Weights {
-                stay: 1000,
-                preempt: 0,
-                drain: 0,
                 take: 1000,
                 signal: 1000,
                 credit: 0,
-                alone: false,
-                by_priority: false,
                 draws: false,
+                ..drawn(1000, 0, 0)
             },
             Policy::Fair => Weights {
-                stay: 969,
-                preempt: 8,
-                drain: 1000,
                 take: 1000,
                 signal: 125,
                 credit: 0,
-                alone: false,
-                by_priority: false,
-                draws: true,
+                ..drawn(969, 8, 1000)
             },
         }
     }

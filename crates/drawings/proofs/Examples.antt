@@ -7,6 +7,7 @@ use Rattle.mach_types.specs.declared.events.Choice.TheVariants as asked
 use Rattle.mach_types.specs.declared.events.Sight.{Sight}
 use Rattle.rand_core.specs.Steps.{stream_of, word_bytes, u32_at}
 use Rattle.rand_core.specs.Stream.{fill_bytes}
+use Rattle.chooser.proofs.Sights.{idle}
 use Rattle.chooser.specs.Generators.{first_generator, next_generator, word}
 use Rattle.draw_policies.specs.declared.accesses.Access.{Access}
 use Rattle.draw_policies.specs.declared.policies.Policy.{Policy}
@@ -17,24 +18,9 @@ use Rattle.drawings.specs.Starts.{start}
 use Rattle.drawings.specs.declared.drawing.Drawing.{Drawing}
 use Rattle.drawings.specs.declared.drawing.DrawnEvent.{DrawnEvent}
 
--- a hart whose thread may execute an instruction that touches registers alone, and an idle one
+-- a hart whose thread may execute an instruction that touches registers alone
 abbrev running : Sight
-running = record {
-  idle = false;
-  first_ready = None;
-  in_barrier = false;
-  all_taken = false;
-  requested = false;
-  stores = 0;
-  deliverable = false;
-  exec_enabled = true;
-  local = true;
-  ran = 0;
-  credit = 0;
-}
-
-abbrev idle : Sight
-idle = record running { idle = true; exec_enabled = false; local = false }
+running = record idle { idle = false; exec_enabled = true; local = true }
 
 -- one that must wait for its own store, and one that must wait for those of others
 abbrev held_up : Sight

@@ -181,13 +181,14 @@ fn first_overlap(headers: &[ProgramHeader]) -> Option<usize>
 }
 
 /// Whether the segment has a page of one of these.
-fn shares_page(earlier: &[ProgramHeader], header: &ProgramHeader) -> bool
+pub fn shares_page(earlier: &[ProgramHeader], header: &ProgramHeader) -> bool
     ensures { result ≡ shares_page earlier.now header.now }
 {
     earlier.iter().any(|other| other.shares_page(header))
 }
 
-fn is_bad_entry(entry: u64, headers: &[ProgramHeader]) -> bool
+/// Whether a program can't begin at this address: no instruction stands there, or no segment has code there.
+pub fn is_bad_entry(entry: u64, headers: &[ProgramHeader]) -> bool
     ensures { result ≡ is_bad_entry entry headers.now }
 {
     entry % 4 != 0 || !has_code(entry, headers)

@@ -9,6 +9,7 @@ mod loading;
 mod paging;
 mod program_headers;
 
+pub use checks::{is_bad_entry, shares_page};
 pub use fault::ElfFault;
 pub use image::{Image, ImagePage};
 pub use loading::load;

@@ -1,5 +1,5 @@
 -- The bytes of the parts stand in the file where the program headers say.
-use Rattle.std.proofs.Common.{◌≡◌, ℕ, zero, suc, ◌+◌, ◌-◌, ◌%◌, ◌<◌, ◌≤◌, Bool, true, false, ◌||◌, List, [], ◌∷◌, ◌++◌, length, slice_index, get_or, map, replicate, sum_by, unwrap_or, refl, sym, ap, ◌∙◌, arith, append_assoc, length-append}
+use Rattle.std.proofs.Common.{◌≡◌, ℕ, zero, suc, ◌+◌, ◌-◌, ◌%◌, ◌<◌, ◌≤◌, Bool, true, false, ◌||◌, List, [], ◌∷◌, ◌++◌, length, slice_index, get_or, map, replicate, sum_by, unwrap_or, Option, Some, None, refl, sym, ap, ◌∙◌, arith, append_assoc, length-append}
 use Rattle.std.specs.List.{find, list_any}
 use Rattle.std.specs.Option.{option_map}
 use Rattle.std.proofs.lemmas.List.{get_or_append_left, get_or-append_right, length-replicate}
@@ -91,37 +91,39 @@ stand-sum f file (h ∷ hs) (p ∷ ps) blind all =
     let rest = stand-sum f file hs ps blind all.1 in
     omega (arith, sum_by-cons f h hs, sum_by-cons f (segment_of p) (map segment_of ps))
 
+-- what is told of the header that is found is what is told of the part that is found
+stand-find : {X : Type 0} (file : List ℕ) (test : ProgramHeader → Bool) (of_header : Option ProgramHeader → X) (of_part : Option Part → X)
+    → ((offset : ℕ) (q : Part) → test (segment_at offset q) ≡ test (segment_of q)) → of_header None ≡ of_part None
+    → ((h : ProgramHeader) (p : Part) → Stands file p h → test (segment_of p) ≡ true → of_header (Some h) ≡ of_part (Some p))
+    → (hs : List ProgramHeader) (ps : List Part) → AllStand file hs ps → of_header (find test hs) ≡ of_part (find (λ p. test (segment_of p)) ps)
+stand-find file test of_header of_part blind none one [] [] all = none
+stand-find file test of_header of_part blind none one [] (p ∷ ps) all = absurd all
+stand-find file test of_header of_part blind none one (h ∷ hs) [] all = absurd all
+stand-find file test of_header of_part blind none one (h ∷ hs) (p ∷ ps) all =
+    go (test (segment_of p)) refl (stand-find file test of_header of_part blind none one hs ps all.1)
+  where
+    same : test h ≡ test (segment_of p)
+    same = stands-same test file p h blind all.0
+
+    go : (b : Bool) → test (segment_of p) ≡ b → of_header (find test hs) ≡ of_part (find (λ q. test (segment_of q)) ps)
+        → of_header (find test (h ∷ hs)) ≡ of_part (find (λ q. test (segment_of q)) (p ∷ ps))
+    go false e rest = rw (same, e) rest
+    go true e rest = rw (same, e) (one h p all.0 e)
+
 -- the byte of memory is the part's
 pub stand-byte : (file : List ℕ) (a : ℕ) (hs : List ProgramHeader) (ps : List Part) → AllStand file hs ps → byte_of_segment file a (find (covers a) hs) ≡ byte_of_part a (find (λ p. covers a (segment_of p)) ps)
-stand-byte file a [] [] all = refl
-stand-byte file a [] (p ∷ ps) all = absurd all
-stand-byte file a (h ∷ hs) [] all = absurd all
-stand-byte file a (h ∷ hs) (p ∷ ps) all = go (covers a (segment_of p)) refl (stand-byte file a hs ps all.1)
+stand-byte file a = stand-find file (covers a) (byte_of_segment file a) (byte_of_part a) (λ o q. refl) refl its
   where
-    same : covers a h ≡ covers a (segment_of p)
-    same = stands-same (covers a) file p h (λ o q. refl) all.0
-
-    go : (b : Bool) → covers a (segment_of p) ≡ b → byte_of_segment file a (find (covers a) hs) ≡ byte_of_part a (find (λ q. covers a (segment_of q)) ps) → byte_of_segment file a (find (covers a) (h ∷ hs)) ≡ byte_of_part a (find (λ q. covers a (segment_of q)) (p ∷ ps))
-    go false e rest = rw (same, e) rest
-    go true e rest =
-        let at : h.vaddr ≡ p.at = ap (λ (g : ProgramHeader). g.vaddr) (Stands.is all.0) in
+    its : (h : ProgramHeader) (p : Part) → Stands file p h → covers a (segment_of p) ≡ true → byte_of_segment file a (Some h) ≡ byte_of_part a (Some p)
+    its h p stands e =
+        let at : h.vaddr ≡ p.at = ap (λ (g : ProgramHeader). g.vaddr) stands.is in
         let from : p.at ≤ a = grind (arith, nat_tests) in
         let to : a < p.at + length p.bytes.items = grind (arith, nat_tests) in
         let place : h.offset + (a - h.vaddr) ≡ h.offset + (a - p.at) = omega arith in
-        let byte : slice_index file (h.offset + (a - h.vaddr)) ≡ slice_index p.bytes.items (a - p.at) = ap (λ (i : ℕ). slice_index file i) place ∙ Stands.bytes all.0 (a - p.at) (omega arith) in
-        rw (same, e) byte
+        ap (λ (i : ℕ). slice_index file i) place ∙ stands.bytes (a - p.at) (omega arith)
 
 -- and so is the permission of a page
 pub stand-permission : (file : List ℕ) (n : ℕ) (hs : List ProgramHeader) (ps : List Part) → AllStand file hs ps → unwrap_or (option_map permission (find (has_page n) hs)) 0 ≡ unwrap_or (option_map (λ p. permission (segment_of p)) (find (λ p. has_page n (segment_of p)) ps)) 0
-stand-permission file n [] [] all = refl
-stand-permission file n [] (p ∷ ps) all = absurd all
-stand-permission file n (h ∷ hs) [] all = absurd all
-stand-permission file n (h ∷ hs) (p ∷ ps) all = go (has_page n (segment_of p)) refl (stand-permission file n hs ps all.1)
-  where
-    same : has_page n h ≡ has_page n (segment_of p)
-    same = stands-same (has_page n) file p h (λ o q. refl) all.0
-
-    go : (b : Bool) → has_page n (segment_of p) ≡ b → unwrap_or (option_map permission (find (has_page n) hs)) 0 ≡ unwrap_or (option_map (λ q. permission (segment_of q)) (find (λ q. has_page n (segment_of q)) ps)) 0
-        → unwrap_or (option_map permission (find (has_page n) (h ∷ hs))) 0 ≡ unwrap_or (option_map (λ q. permission (segment_of q)) (find (λ q. has_page n (segment_of q)) (p ∷ ps))) 0
-    go false e rest = rw (same, e) rest
-    go true e rest = rw (same, e) (stands-same permission file p h (λ o q. refl) all.0)
+stand-permission file n =
+    stand-find file (has_page n) (λ h. unwrap_or (option_map permission h) 0) (λ p. unwrap_or (option_map (λ q. permission (segment_of q)) p) 0)
+    (λ o q. refl) refl (λ h p stands e. stands-same permission file p h (λ o q. refl) stands)

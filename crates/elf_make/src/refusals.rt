@@ -1,13 +1,11 @@
 //! Which parts are refused.
 
 ghost use Rattle.std.specs.Prelude.{◌≡◌, ◌<◌, length, map, IfOk};
-ghost use Rattle.std.specs.List.{list_any};
-ghost use Rattle.elf_load.specs.Faults.{has_code, is_bad_entry, shares_page};
 ghost use Rattle.elf_make.specs.Parts.{segment_of};
 ghost use Rattle.elf_make.specs.Refusals.{bad_index, first_bad_segment, is_bad_after, is_bad_whole, segments_of};
 
 use crate::parts::{Part, Parts};
-use elf_load::ProgramHeader;
+use elf_load::{ProgramHeader, is_bad_entry, shares_page};
 use std::alloc::{AllocError, Global};
 
 /// `PT_LOAD`
@@ -76,12 +74,6 @@ fn is_bad_segment(earlier: &[ProgramHeader], segment: &ProgramHeader) -> bool
         || shares_page(earlier, segment)
 }
 
-fn shares_page(earlier: &[ProgramHeader], segment: &ProgramHeader) -> bool
-    ensures { result ≡ shares_page earlier.now segment.now }
-{
-    earlier.iter().any(|other| other.shares_page(segment))
-}
-
 /// Whether the number of segments, the flags or the entry is bad.
 fn is_bad_whole(entry: u64, flags: u32, segments: &[ProgramHeader]) -> bool
     ensures { result ≡ is_bad_whole entry flags segments.now }
@@ -90,16 +82,4 @@ fn is_bad_whole(entry: u64, flags: u32, segments: &[ProgramHeader]) -> bool
         || MOST_PARTS < segments.len()
         || (flags != 0 && flags != EF_RISCV_TSO)
         || is_bad_entry(entry, segments)
-}
-
-fn is_bad_entry(entry: u64, segments: &[ProgramHeader]) -> bool
-    ensures { result ≡ is_bad_entry entry segments.now }
-{
-    entry % 4 != 0 || !has_code(entry, segments)
-}
-
-fn has_code(at: u64, segments: &[ProgramHeader]) -> bool
-    ensures { result ≡ list_any (has_code at) segments.now }
-{
-    segments.iter().any(|segment| segment.has_code(at))
 }

@@ -68,24 +68,20 @@ no_why : (w : Why) → Some w ≡ None → ⊥
 no_why w is = cc
 
 -- a call is made only where no store waits
+gate_shut : (some fault full : Bool) (rest : Option Why) → some ≡ true
+    → option_or (cond (some && (fault || true)) (Some Waiting) (cond (full && false) (Some FullBuffer) None)) rest ≡ Some Waiting
+gate_shut true true full rest is = refl
+gate_shut true false full rest is = refl
+gate_shut false fault full rest is = absurd (false≢true is)
+
 empty_by : (free : Option ℕ) (ws : List Store) (fault : Bool) (rest : Option Why)
     → unless_in_barrier free (option_or (instruction_gate (length ws) (Some effect.Call) fault) rest) ≡ None
     → free ≡ None → ws ≡ []
 empty_by None [] fault rest is none = refl
-empty_by None (w ∷ ws) true rest is none =
-    absurd (no_why Waiting
-    (sym (ap (λ b. option_or
-    (cond (b && (true || true)) (Some Waiting)
-    (cond (leb STORE_BUFFER_CAPACITY (length (w ∷ ws)) && false) (Some FullBuffer) None)) rest)
-    (lt-ltb 0 (length (w ∷ ws)) (omega arith)))
-    ∙ is))
-empty_by None (w ∷ ws) false rest is none =
-    absurd (no_why Waiting
-    (sym (ap (λ b. option_or
-    (cond (b && (false || true)) (Some Waiting)
-    (cond (leb STORE_BUFFER_CAPACITY (length (w ∷ ws)) && false) (Some FullBuffer) None)) rest)
-    (lt-ltb 0 (length (w ∷ ws)) (omega arith)))
-    ∙ is))
+empty_by None (w ∷ ws) fault rest is none =
+    let n = length (w ∷ ws) in
+    let some = lt-ltb 0 n (omega arith) in
+    absurd (no_why Waiting (sym (gate_shut (ltb 0 n) fault (leb STORE_BUFFER_CAPACITY n) rest some) ∙ is))
 empty_by (Some left) ws fault rest is none = absurd (no_why InBarrier is)
 
 module _ (s : Setting) (e : Event) (before : History) (step : IsStep s e before)

@@ -480,13 +480,8 @@ pub record IsCaller (here : Here) (t n : ℕ) (c : Choice) : Type 0 where
 
 -- the thread that a choice lets run
 abbrev pub begins : Choice → Option ℕ
-begins asked.Exec = None
-begins asked.Drain = None
-begins asked.Take = None
-begins asked.Done = None
-begins asked.Preempt = None
 begins (asked.Run t) = Some t.0
-begins asked.Signal = None
+begins other = None
 
 module _ (here : Here) (u : ℕ) where
   -- the same of an event
@@ -730,12 +725,7 @@ module _ (s : Setting) (e : Event) (before : History) (step : IsStep s e before)
           not_live (ready_lives u (kernel s before).threads
           (ap (λ n. is_ready n (kernel s before).threads) (sym (same_thread same))
           ∙ (run_ready place t.0 free).1))
-      not_begun asked.Exec is same = cc
-      not_begun asked.Drain is same = cc
-      not_begun asked.Take is same = cc
-      not_begun asked.Done is same = cc
-      not_begun asked.Preempt is same = cc
-      not_begun asked.Signal is same = cc
+      not_begun other is same = cc
 
       by_step_of : ThreadStep place u (choice_of e.entry) e.done
           → (file s u (e ∷ before)).pc ≡ (file s u before).pc
@@ -771,12 +761,7 @@ module _ (s : Setting) (e : Event) (before : History) (step : IsStep s e before)
       ready_rests t (kernel s before).threads
       (ap (λ n. is_ready n (kernel s before).threads) (sym (same_thread same)) ∙ (run_ready place v.0 free).1)
       waits
-  waiter_not_begun t waits asked.Exec is same = cc
-  waiter_not_begun t waits asked.Drain is same = cc
-  waiter_not_begun t waits asked.Take is same = cc
-  waiter_not_begun t waits asked.Done is same = cc
-  waiter_not_begun t waits asked.Preempt is same = cc
-  waiter_not_begun t waits asked.Signal is same = cc
+  waiter_not_begun t waits other is same = cc
 
   -- a thread that waits keeps its pc, also where it is woken
   pub waiter_keeps : (t : ℕ) → is_kept_waiting t (kernel s before).threads ≡ true

@@ -118,13 +118,8 @@ run_executes here t true = refl
 run_executes here t false = refl
 
 abbrev is_drain : Choice → Bool
-is_drain asked.Exec = false
 is_drain asked.Drain = true
-is_drain asked.Take = false
-is_drain asked.Done = false
-is_drain asked.Preempt = false
-is_drain (asked.Run u) = false
-is_drain asked.Signal = false
+is_drain other = false
 
 not_drain : (c : Choice) → is_drain c ≡ false → c ≢ asked.Drain
 not_drain c isnt same = false≢true (sym isnt ∙ ap is_drain same)

@@ -70,36 +70,40 @@ descriptor_read byte at v f s p a ve fe se pe ae =
     ∙ ap (made (n at 4) (n (at + 4) 4) (n (at + 8) 8) (n (at + 16) 8)) (number_at-read byte (at + 24) 8 a ae))
 
 -- and it can't where one of them can't
-pub lacks_version : (byte : ℕ → Option ℕ) (at : ℕ) → None ≡ word_at byte at 4 → can_read_descriptor byte at ≡ false
-lacks_version byte at none =
-    can_read_descriptor-fields byte at
-    ∙ first_fails (are_readable byte at 4) (are_readable byte (at + 4) 4 && (are_readable byte (at + 8) 8 && (are_readable byte (at + 16) 8 && are_readable byte (at + 24) 8))) (unreadable byte at 4 none)
+module _ (byte : ℕ → Option ℕ) (at : ℕ) where
+  abbrev from_abort : Bool
+  from_abort = are_readable byte (at + 24) 8
 
-pub lacks_flags : (byte : ℕ → Option ℕ) (at : ℕ) → None ≡ word_at byte (at + 4) 4 → can_read_descriptor byte at ≡ false
-lacks_flags byte at none =
-    can_read_descriptor-fields byte at
-    ∙ rest_fails (are_readable byte at 4) (are_readable byte (at + 4) 4 && (are_readable byte (at + 8) 8 && (are_readable byte (at + 16) 8 && are_readable byte (at + 24) 8)))
-    (first_fails (are_readable byte (at + 4) 4) (are_readable byte (at + 8) 8 && (are_readable byte (at + 16) 8 && are_readable byte (at + 24) 8)) (unreadable byte (at + 4) 4 none))
+  abbrev from_length : Bool
+  from_length = are_readable byte (at + 16) 8 && from_abort
 
-pub lacks_start : (byte : ℕ → Option ℕ) (at : ℕ) → None ≡ word_at byte (at + 8) 8 → can_read_descriptor byte at ≡ false
-lacks_start byte at none =
-    can_read_descriptor-fields byte at
-    ∙ rest_fails (are_readable byte at 4) (are_readable byte (at + 4) 4 && (are_readable byte (at + 8) 8 && (are_readable byte (at + 16) 8 && are_readable byte (at + 24) 8)))
-    (rest_fails (are_readable byte (at + 4) 4) (are_readable byte (at + 8) 8 && (are_readable byte (at + 16) 8 && are_readable byte (at + 24) 8))
-    (first_fails (are_readable byte (at + 8) 8) (are_readable byte (at + 16) 8 && are_readable byte (at + 24) 8) (unreadable byte (at + 8) 8 none)))
+  abbrev from_start : Bool
+  from_start = are_readable byte (at + 8) 8 && from_length
 
-pub lacks_length : (byte : ℕ → Option ℕ) (at : ℕ) → None ≡ word_at byte (at + 16) 8 → can_read_descriptor byte at ≡ false
-lacks_length byte at none =
-    can_read_descriptor-fields byte at
-    ∙ rest_fails (are_readable byte at 4) (are_readable byte (at + 4) 4 && (are_readable byte (at + 8) 8 && (are_readable byte (at + 16) 8 && are_readable byte (at + 24) 8)))
-    (rest_fails (are_readable byte (at + 4) 4) (are_readable byte (at + 8) 8 && (are_readable byte (at + 16) 8 && are_readable byte (at + 24) 8))
-    (rest_fails (are_readable byte (at + 8) 8) (are_readable byte (at + 16) 8 && are_readable byte (at + 24) 8)
-    (first_fails (are_readable byte (at + 16) 8) (are_readable byte (at + 24) 8) (unreadable byte (at + 16) 8 none))))
+  abbrev from_flags : Bool
+  from_flags = are_readable byte (at + 4) 4 && from_start
 
-pub lacks_abort : (byte : ℕ → Option ℕ) (at : ℕ) → None ≡ word_at byte (at + 24) 8 → can_read_descriptor byte at ≡ false
-lacks_abort byte at none =
-    can_read_descriptor-fields byte at
-    ∙ rest_fails (are_readable byte at 4) (are_readable byte (at + 4) 4 && (are_readable byte (at + 8) 8 && (are_readable byte (at + 16) 8 && are_readable byte (at + 24) 8)))
-    (rest_fails (are_readable byte (at + 4) 4) (are_readable byte (at + 8) 8 && (are_readable byte (at + 16) 8 && are_readable byte (at + 24) 8))
-    (rest_fails (are_readable byte (at + 8) 8) (are_readable byte (at + 16) 8 && are_readable byte (at + 24) 8)
-    (rest_fails (are_readable byte (at + 16) 8) (are_readable byte (at + 24) 8) (unreadable byte (at + 24) 8 none))))
+  lacks_rest : from_flags ≡ false → can_read_descriptor byte at ≡ false
+  lacks_rest none = can_read_descriptor-fields byte at ∙ rest_fails (are_readable byte at 4) from_flags none
+
+  lacks_range : from_start ≡ false → can_read_descriptor byte at ≡ false
+  lacks_range none = lacks_rest (rest_fails (are_readable byte (at + 4) 4) from_start none)
+
+  lacks_end : from_length ≡ false → can_read_descriptor byte at ≡ false
+  lacks_end none = lacks_range (rest_fails (are_readable byte (at + 8) 8) from_length none)
+
+  pub lacks_version : None ≡ word_at byte at 4 → can_read_descriptor byte at ≡ false
+  lacks_version none =
+      can_read_descriptor-fields byte at ∙ first_fails (are_readable byte at 4) from_flags (unreadable byte at 4 none)
+
+  pub lacks_flags : None ≡ word_at byte (at + 4) 4 → can_read_descriptor byte at ≡ false
+  lacks_flags none = lacks_rest (first_fails (are_readable byte (at + 4) 4) from_start (unreadable byte (at + 4) 4 none))
+
+  pub lacks_start : None ≡ word_at byte (at + 8) 8 → can_read_descriptor byte at ≡ false
+  lacks_start none = lacks_range (first_fails (are_readable byte (at + 8) 8) from_length (unreadable byte (at + 8) 8 none))
+
+  pub lacks_length : None ≡ word_at byte (at + 16) 8 → can_read_descriptor byte at ≡ false
+  lacks_length none = lacks_end (first_fails (are_readable byte (at + 16) 8) from_abort (unreadable byte (at + 16) 8 none))
+
+  pub lacks_abort : None ≡ word_at byte (at + 24) 8 → can_read_descriptor byte at ≡ false
+  lacks_abort none = lacks_end (rest_fails (are_readable byte (at + 16) 8) from_abort (unreadable byte (at + 24) 8 none))

@@ -5,7 +5,7 @@ use Rattle.rv_inst.specs.Meaning.{meaning}
 use Rattle.rv_inst.specs.Memory.{loaded, amo_result}
 use Rattle.rv_inst.specs.Multiply.{quotient, remainder, product_high, product_high_mixed, product_high_unsigned, quotient_32, remainder_32}
 use Rattle.rv_inst.specs.Order.{is_full_fence}
-use Rattle.rv_inst.specs.Table.{row_of, rows, lui_rows, auipc_rows, jal_rows, jalr_rows, branch_rows, load_rows, store_rows, op_imm_rows, op_imm_32_rows, op_rows, op_32_rows, misc_mem_rows, amo_rows, system_rows}
+use Rattle.rv_inst.specs.Table.{row_of, rows}
 use Rattle.rv_inst.specs.Words.{sign_extended_32, shift_right_signed, shift_left_32}
 use Rattle.rv_inst.specs.declared.effects.AmoOp.TheVariants as op
 use Rattle.rv_inst.specs.declared.effects.Effect.TheVariants as effect
@@ -15,26 +15,26 @@ use Rattle.rv_inst.specs.declared.instruction.Inst.TheVariants as inst
 jumps : map row_of (0x00020437 ∷ 0xfffff0b7 ∷ 0x7ffff097 ∷ 0xfe1ff06f ∷ 0x7ffff0ef ∷ 0xfff100e7 ∷ 0x00050e63 ∷ 0x8020f063 ∷ []) ≡
     Some (inst.Lui 8 (pos 0x20000)) ∷ Some (inst.Lui 1 (negsuc 4095)) ∷ Some (inst.Auipc 1 (pos 0x7ffff000)) ∷ Some (inst.Jal 0 (negsuc 31))
     ∷ Some (inst.Jal 1 (pos 0xffffe)) ∷ Some (inst.Jalr 1 2 (negsuc 0)) ∷ Some (inst.Beq 10 0 (pos 28)) ∷ Some (inst.Bgeu 1 2 (negsuc 4095)) ∷ []
-unfolding row_of rows lui_rows auipc_rows jal_rows jalr_rows branch_rows load_rows store_rows op_imm_rows op_imm_32_rows op_rows op_32_rows misc_mem_rows amo_rows system_rows
+unfolding row_of rows
 jumps = refl
 
 -- addi, sd, sb, slli, srai, sraiw, div and subw
 computations : map row_of (0x08b00893 ∷ 0x04543023 ∷ 0x81f08023 ∷ 0x00741413 ∷ 0x43f45413 ∷ 0x41f4d41b ∷ 0x02034e33 ∷ 0x403100bb ∷ []) ≡
     Some (inst.Addi 17 0 (pos 139)) ∷ Some (inst.Sd 8 5 (pos 64)) ∷ Some (inst.Sb 1 31 (negsuc 2047)) ∷ Some (inst.Slli 8 8 7)
     ∷ Some (inst.Srai 8 8 63) ∷ Some (inst.Sraiw 8 9 31) ∷ Some (inst.Div 28 6 0) ∷ Some (inst.Subw 1 2 3) ∷ []
-unfolding row_of rows lui_rows auipc_rows jal_rows jalr_rows branch_rows load_rows store_rows op_imm_rows op_imm_32_rows op_rows op_32_rows misc_mem_rows amo_rows system_rows
+unfolding row_of rows
 computations = refl
 
 -- fence rw,rw; fence.tso; fence.i; lr.w; lr.d.aqrl; sc.d; amoswap.d; amomaxu.w.aq; ecall; ebreak
 orders : map row_of (0x0330000f ∷ 0x8330000f ∷ 0x0000100f ∷ 0x1000a2af ∷ 0x1600b2af ∷ 0x1860b2af ∷ 0x08b5352f ∷ 0xe421a0af ∷ 0x00000073 ∷ 0x00100073 ∷ []) ≡
     Some (inst.Fence 0 3 3) ∷ Some (inst.Fence 8 3 3) ∷ Some inst.FenceI ∷ Some (inst.LrW 5 1) ∷ Some (inst.LrD 5 1)
     ∷ Some (inst.ScD 5 1 6) ∷ Some (inst.AmoSwapD 10 10 11) ∷ Some (inst.AmoMaxuW 1 3 2) ∷ Some inst.Ecall ∷ Some inst.Ebreak ∷ []
-unfolding row_of rows lui_rows auipc_rows jal_rows jalr_rows branch_rows load_rows store_rows op_imm_rows op_imm_32_rows op_rows op_32_rows misc_mem_rows amo_rows system_rows
+unfolding row_of rows
 orders = refl
 
 -- no instructions: zero, an abort handler's signature, a load of width 7, lr with a second register, wfi, slliw by 32
 no_rows : map row_of (0x00000000 ∷ 0xf1401073 ∷ 0x0000f003 ∷ 0x1010a2af ∷ 0x10500073 ∷ 0x0200901b ∷ []) ≡ None ∷ None ∷ None ∷ None ∷ None ∷ None ∷ []
-unfolding row_of rows lui_rows auipc_rows jal_rows jalr_rows branch_rows load_rows store_rows op_imm_rows op_imm_32_rows op_rows op_32_rows misc_mem_rows amo_rows system_rows
+unfolding row_of rows
 no_rows = refl
 
 -- the quotient of the least number by -1 is itself, the remainder 0; by zero, all bits set and the dividend

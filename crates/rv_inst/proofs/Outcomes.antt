@@ -9,18 +9,9 @@ use Rattle.rv_inst.specs.declared.effects.Effect.TheVariants as effect
 use Rattle.rv_inst.proofs.Meanings.{either}
 
 pub waits_plain : OnlyPlainStoresWait
-waits_plain view regs pc r (effect.Next rd value to) = refl
-waits_plain view regs pc r (effect.Load at size is_signed rd) = refl
-waits_plain view regs pc r (effect.Store at size value) = refl
-waits_plain view regs pc r (effect.Amo op at size value rd) = refl
-waits_plain view regs pc r (effect.Lr at size rd) = refl
 waits_plain view regs pc r (effect.Sc at size value rd) =
     either (λ o. length o.executed ≡ 0) (is_reserved r at) _ _ refl refl
-waits_plain view regs pc r (effect.Fence full) = refl
-waits_plain view regs pc r effect.FenceI = refl
-waits_plain view regs pc r effect.Call = refl
-waits_plain view regs pc r effect.Break = refl
-waits_plain view regs pc r effect.Misaligned = refl
+waits_plain view regs pc r other = refl
 
 if_reserved : (at size value : ℕ) (b : Bool) (x y : Outcome) →
     x.entered ≡ record { at = at; size = size; value = value } ∷ [] → y.entered ≡ [] →
@@ -29,18 +20,9 @@ if_reserved at size value true x y first second = ap (map place) first
 if_reserved at size value false x y first second = ap (map place) second
 
 pub enters_asked : EntersAsAsked
-enters_asked view regs pc r (effect.Next rd value to) = refl
-enters_asked view regs pc r (effect.Load at size is_signed rd) = refl
-enters_asked view regs pc r (effect.Store at size value) = refl
-enters_asked view regs pc r (effect.Amo op at size value rd) = refl
-enters_asked view regs pc r (effect.Lr at size rd) = refl
 enters_asked view regs pc r (effect.Sc at size value rd) =
     if_reserved at size value (is_reserved r at) _ _ refl refl
-enters_asked view regs pc r (effect.Fence full) = refl
-enters_asked view regs pc r effect.FenceI = refl
-enters_asked view regs pc r effect.Call = refl
-enters_asked view regs pc r effect.Break = refl
-enters_asked view regs pc r effect.Misaligned = refl
+enters_asked view regs pc r other = refl
 
 allowed : (b : Bool) → unless_allowed b ≡ None → b ≡ true
 allowed true e = refl
@@ -51,18 +33,11 @@ aligned_allowed at size true e = refl
 aligned_allowed at size false e = absurd (grind (arith, nat_tests))
 
 pub writes_allowed : WritesAreAllowed
-writes_allowed byte can_write view regs pc r (effect.Next rd value to) fine = (tt, tt)
-writes_allowed byte can_write view regs pc r (effect.Load at size is_signed rd) fine = (tt, tt)
 writes_allowed byte can_write view regs pc r (effect.Store at size value) fine =
     ((allowed (each_byte can_write at size) fine, tt), tt)
 writes_allowed byte can_write view regs pc r (effect.Amo op at size value rd) fine =
     (tt, (aligned_allowed at size (each_byte can_write at size) fine, tt))
-writes_allowed byte can_write view regs pc r (effect.Lr at size rd) fine = (tt, tt)
 writes_allowed byte can_write view regs pc r (effect.Sc at size value rd) fine =
     either (IsAllowed can_write) (is_reserved r at) _ _
     (tt, (aligned_allowed at size (each_byte can_write at size) fine, tt)) (tt, tt)
-writes_allowed byte can_write view regs pc r (effect.Fence full) fine = (tt, tt)
-writes_allowed byte can_write view regs pc r effect.FenceI fine = (tt, tt)
-writes_allowed byte can_write view regs pc r effect.Call fine = (tt, tt)
-writes_allowed byte can_write view regs pc r effect.Break fine = (tt, tt)
-writes_allowed byte can_write view regs pc r effect.Misaligned fine = (tt, tt)
+writes_allowed byte can_write view regs pc r other fine = (tt, tt)

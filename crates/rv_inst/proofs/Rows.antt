@@ -1,11 +1,11 @@
 -- No word is of two rows: any two rows ask for different values of some bit that both fix.
 use Rattle.std.proofs.Common.{◌≡◌, ℕ, ◌+◌, ◌≤◌, ◌==◌, Bool, true, false, not, ◌&&◌, cond, List, [], ◌∷◌, Some, refl, ap, sym, ◌∙◌, arith, eqb-true, eq-eqb, slice_get, zero, suc, unwrap_or, rules}
-use Rattle.std.proofs.lemmas.Bool.{both_ways, not-true, false≢true}
+use Rattle.std.proofs.lemmas.Bool.{and_parts, both_ways, not-true}
 use Rattle.std.specs.List.{count_by}
 use Rattle.std.specs.Int.Bits.{bit_and}
 use Rattle.std.proofs.lemmas.Nat.{and_assoc, and_comm}
 use Rattle.std.proofs.lemmas.List.Sums.{sum_by-cons}
-use Rattle.rv_inst.specs.Table.{Row, is_of_row, first_row, rows, row_of, IsUnambiguous, lui_rows, auipc_rows, jal_rows, jalr_rows, branch_rows, load_rows, store_rows, op_imm_rows, op_imm_32_rows, op_rows, op_32_rows, misc_mem_rows, amo_rows, system_rows}
+use Rattle.rv_inst.specs.Table.{Row, is_of_row, first_row, rows, row_of, IsUnambiguous}
 
 -- two rows differ in a bit that both fix
 abbrev is_apart : Row → Row → Bool
@@ -33,14 +33,6 @@ false_unless_true : (b : Bool) → (b ≡ true → ⊥) → b ≡ false
 false_unless_true true why = absurd (why refl)
 false_unless_true false why = refl
 
-left_true : (a b : Bool) → (a && b) ≡ true → a ≡ true
-left_true true b e = refl
-left_true false b e = e
-
-right_true : (a b : Bool) → (a && b) ≡ true → b ≡ true
-right_true true b e = e
-right_true false b e = absurd (false≢true e)
-
 -- one more element
 at_most_one_of : (b : Bool) (n total : ℕ) → total ≡ cond b 1 0 + n → (b ≡ true → n ≡ 0) → n ≤ 1 → total ≤ 1
 at_most_one_of true n total e none le = let z : n ≡ 0 = none refl in omega arith
@@ -50,20 +42,20 @@ at_most_one_of false n total e none le = omega arith
 none_more : (w : ℕ) (r : Row) (rs : List Row) → is_apart_from_all r rs ≡ true → is_of_row w r ≡ true → count_by (λ s. is_of_row w s) rs ≡ 0
 none_more w r [] apart of_r = refl
 none_more w r (s ∷ rs) apart of_r =
-    let here : is_of_row w s ≡ false = false_unless_true (is_of_row w s) (not_both w r s (left_true (is_apart r s) (is_apart_from_all r rs) apart) of_r) in
-    let later : count_by (λ t. is_of_row w t) rs ≡ 0 = none_more w r rs (right_true (is_apart r s) (is_apart_from_all r rs) apart) of_r in
+    let here : is_of_row w s ≡ false = false_unless_true (is_of_row w s) (not_both w r s (and_parts (is_apart r s) (is_apart_from_all r rs) apart).0 of_r) in
+    let later : count_by (λ t. is_of_row w t) rs ≡ 0 = none_more w r rs (and_parts (is_apart r s) (is_apart_from_all r rs) apart).1 of_r in
     sum_by-cons (λ t. cond (is_of_row w t) 1 0) s rs ∙ ap (λ b. cond b 1 0 + count_by (λ t. is_of_row w t) rs) here ∙ ap (λ n. 0 + n) later
 
 at_most_one : (rs : List Row) → are_apart rs ≡ true → IsUnambiguous rs
 at_most_one [] apart w = omega arith
 at_most_one (r ∷ rs) apart w =
-    let later : count_by (λ t. is_of_row w t) rs ≤ 1 = at_most_one rs (right_true (is_apart_from_all r rs) (are_apart rs) apart) w in
-    let none : is_of_row w r ≡ true → count_by (λ t. is_of_row w t) rs ≡ 0 = none_more w r rs (left_true (is_apart_from_all r rs) (are_apart rs) apart) in
+    let later : count_by (λ t. is_of_row w t) rs ≤ 1 = at_most_one rs (and_parts (is_apart_from_all r rs) (are_apart rs) apart).1 w in
+    let none : is_of_row w r ≡ true → count_by (λ t. is_of_row w t) rs ≡ 0 = none_more w r rs (and_parts (is_apart_from_all r rs) (are_apart rs) apart).0 in
     let head : count_by (λ t. is_of_row w t) (r ∷ rs) ≡ cond (is_of_row w r) 1 0 + count_by (λ t. is_of_row w t) rs = sum_by-cons (λ t. cond (is_of_row w t) 1 0) r rs in
     at_most_one_of (is_of_row w r) (count_by (λ t. is_of_row w t) rs) _ head none later
 
 rows_apart : are_apart rows ≡ true
-unfolding rows lui_rows auipc_rows jal_rows jalr_rows branch_rows load_rows store_rows op_imm_rows op_imm_32_rows op_rows op_32_rows misc_mem_rows amo_rows system_rows
+unfolding rows
 rows_apart = refl
 
 pub rows_unambiguous : IsUnambiguous rows
@@ -74,8 +66,8 @@ rows_unambiguous = at_most_one rows rows_apart
 apart_at : (r s : Row) (rs : List Row) (i : ℕ) → is_apart_from_all r rs ≡ true → slice_get rs i ≡ Some s → is_apart r s ≡ true
 apart_at r s [] i apart at = absurd (search (rules, at))
 apart_at r s (t ∷ rs) zero apart at =
-    sym (ap (λ o. is_apart r (unwrap_or o t)) at) ∙ left_true (is_apart r t) (is_apart_from_all r rs) apart
-apart_at r s (t ∷ rs) (suc i) apart at = apart_at r s rs i (right_true (is_apart r t) (is_apart_from_all r rs) apart) at
+    sym (ap (λ o. is_apart r (unwrap_or o t)) at) ∙ (and_parts (is_apart r t) (is_apart_from_all r rs) apart).0
+apart_at r s (t ∷ rs) (suc i) apart at = apart_at r s rs i (and_parts (is_apart r t) (is_apart_from_all r rs) apart).1 at
 
 first_at : (w : ℕ) (r : Row) (rs : List Row) (i : ℕ) → are_apart rs ≡ true → slice_get rs i ≡ Some r → is_of_row w r ≡ true → first_row rs w ≡ Some (r.read w)
 first_at w r [] i apart at of_r = absurd (search (rules, at))
@@ -83,9 +75,9 @@ first_at w r (s ∷ rs) zero apart at of_r =
     let here : is_of_row w s ≡ true = ap (λ o. is_of_row w (unwrap_or o s)) at ∙ of_r in
     ap (λ b. cond b (Some (s.read w)) (first_row rs w)) here ∙ ap (λ o. Some ((unwrap_or o s).read w)) at
 first_at w r (s ∷ rs) (suc i) apart at of_r =
-    let apart_here : is_apart s r ≡ true = apart_at s r rs i (left_true (is_apart_from_all s rs) (are_apart rs) apart) at in
+    let apart_here : is_apart s r ≡ true = apart_at s r rs i (and_parts (is_apart_from_all s rs) (are_apart rs) apart).0 at in
     let here : is_of_row w s ≡ false = false_unless_true (is_of_row w s) (λ of_s. not_both w s r apart_here of_s of_r) in
-    ap (λ b. cond b (Some (s.read w)) (first_row rs w)) here ∙ first_at w r rs i (right_true (is_apart_from_all s rs) (are_apart rs) apart) at of_r
+    ap (λ b. cond b (Some (s.read w)) (first_row rs w)) here ∙ first_at w r rs i (and_parts (is_apart_from_all s rs) (are_apart rs) apart).1 at of_r
 
 -- the instruction of a word that is of a row: that of this row, wherever it stands
 pub row_of-at : (w : ℕ) (r : Row) (i : ℕ) → slice_get rows i ≡ Some r → is_of_row w r ≡ true → row_of w ≡ Some (r.read w)

@@ -15,41 +15,19 @@ bytes at n = record { at = at; count = n }
 -- the bytes that an instruction with this effect reads, and those that it writes, now or when its store enters memory. LR reads, and SC
 -- writes, the aligned 8 bytes around its address, whether SC succeeds or not
 abbrev pub read_by : Effect → List Bytes
-read_by (effect.Next rd value to) = []
 read_by (effect.Load at size is_signed rd) = bytes at size ∷ []
-read_by (effect.Store at size value) = []
 read_by (effect.Amo op at size value rd) = bytes at size ∷ []
 read_by (effect.Lr at size rd) = bytes (reserved_at at) 8 ∷ []
-read_by (effect.Sc at size value rd) = []
-read_by (effect.Fence full) = []
-read_by effect.FenceI = []
-read_by effect.Call = []
-read_by effect.Break = []
-read_by effect.Misaligned = []
+read_by other = []
 
 abbrev pub written_by : Effect → List Bytes
-written_by (effect.Next rd value to) = []
-written_by (effect.Load at size is_signed rd) = []
 written_by (effect.Store at size value) = bytes at size ∷ []
 written_by (effect.Amo op at size value rd) = bytes at size ∷ []
-written_by (effect.Lr at size rd) = []
 written_by (effect.Sc at size value rd) = bytes (reserved_at at) 8 ∷ []
-written_by (effect.Fence full) = []
-written_by effect.FenceI = []
-written_by effect.Call = []
-written_by effect.Break = []
-written_by effect.Misaligned = []
+written_by other = []
 
 -- what its hart has reserved after an instruction with this effect; nothing where that is what it had
 abbrev pub reserved_by : Effect → Option (Option ℕ)
-reserved_by (effect.Next rd value to) = None
-reserved_by (effect.Load at size is_signed rd) = None
-reserved_by (effect.Store at size value) = None
-reserved_by (effect.Amo op at size value rd) = None
 reserved_by (effect.Lr at size rd) = Some (Some (reserved_at at))
 reserved_by (effect.Sc at size value rd) = Some None
-reserved_by (effect.Fence full) = None
-reserved_by effect.FenceI = None
-reserved_by effect.Call = None
-reserved_by effect.Break = None
-reserved_by effect.Misaligned = None
+reserved_by other = None

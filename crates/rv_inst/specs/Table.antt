@@ -181,8 +181,9 @@ system_rows =
     row 0xffffffff 0x100073 (λ _. inst.Ebreak) ∷
     []
 
--- all rows
+-- all rows; what opens this opens the groups
 unfoldable pub rows : List Row
+unfolding lui_rows auipc_rows jal_rows jalr_rows branch_rows load_rows store_rows op_imm_rows op_imm_32_rows op_rows op_32_rows misc_mem_rows amo_rows system_rows
 rows =
     lui_rows ++ auipc_rows ++ jal_rows ++ jalr_rows ++ branch_rows ++ load_rows ++ store_rows ++ op_imm_rows ++ op_imm_32_rows ++ op_rows ++ op_32_rows ++ misc_mem_rows ++ amo_rows ++ system_rows
 

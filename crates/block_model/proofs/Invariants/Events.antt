@@ -79,12 +79,20 @@ waits_for_none (Some left) free = go (eqb left 0) refl free
     go true is free = ap Some (eqb-true left 0 is)
     go false is free = absurd cc
 
-pub good_done : (here : Here) → IsGoodHere here → refusal_done here ≡ None → IsFit here (done_done here)
-good_done here good free = go (runs here) refl free
+-- an event that no idle hart makes is fit where it is fit of the thread on its hart
+pub fit_of_thread : (here : Here) (refused : Option ℕ → Option Why) (made : Option ℕ → Done) → refused None ≢ None
+    → ((t : ℕ) → runs here ≡ Some t → refused (Some t) ≡ None → IsFit here (made (Some t))) → refused (runs here) ≡ None → IsFit here (made (runs here))
+fit_of_thread here refused made idle its = go (runs here) refl
   where
-    go : (o : Option ℕ) → runs here ≡ o → refusal_done_by here o ≡ None → IsFit here (done_done_by here o)
-    go None at free = absurd cc
-    go (Some t) at free =
+    go : (o : Option ℕ) → runs here ≡ o → refused o ≡ None → IsFit here (made o)
+    go None at free = absurd (idle free)
+    go (Some t) at free = its t at free
+
+pub good_done : (here : Here) → IsGoodHere here → refusal_done here ≡ None → IsFit here (done_done here)
+good_done here good = fit_of_thread here (refusal_done_by here) (done_done_by here) (λ none. cc) its_return
+  where
+    its_return : (t : ℕ) → runs here ≡ Some t → refusal_done_by here (Some t) ≡ None → IsFit here (done_done_by here (Some t))
+    its_return t at free =
         let over = waits_for_none here.awaits free in
         let none : waiting_here here ≡ [] = good.empty 0 over in
         let its = record (here.file t) { file = with_register (here.file t).file 10 0 } in
@@ -108,15 +116,11 @@ out_of_barrier None why free = (refl, free)
 out_of_barrier (Some left) why free = absurd cc
 
 pub good_preempt : (here : Here) → IsGoodHere here → refusal_preempt here ≡ None → IsFit here (done_preempt here)
-good_preempt here good free = go (runs here) refl free
-  where
-    go : (o : Option ℕ) → runs here ≡ o → refusal_preempt_by here o ≡ None → IsFit here (done_preempt_by here o)
-    go None at e = cc
-    go (Some t) at e =
-        let both = out_of_barrier here.awaits (unless_waiting (waiting_here here)) e in
-        let none = none_waits (waiting_here here) both.1 in
-        fit_moving here _ good refl refl (omega arith) (apart_none here) (quiet_free here _ refl refl refl both.0)
-        (moved_left here.setting here.hart t here.kernel good.kernel at) (λ gone. none)
+good_preempt here good = fit_of_thread here (refusal_preempt_by here) (done_preempt_by here) (λ none. cc) (λ t at free.
+    let both = out_of_barrier here.awaits (unless_waiting (waiting_here here)) free in
+    let none = none_waits (waiting_here here) both.1 in
+    fit_moving here _ good refl refl (omega arith) (apart_none here) (quiet_free here _ refl refl refl both.0)
+    (moved_left here.setting here.hart t here.kernel good.kernel at) (λ gone. none))
 
 unless_not : (b : Bool) (o : Option Why) (why : Why) → cond b o (Some why) ≡ None → b ≡ true
 unless_not true o why e = refl
@@ -212,13 +216,9 @@ good_next here t (Some signal) good at out free =
     good_delivery here t signal o (kills here t signal o) good at out
 
 pub good_signal : (here : Here) → IsGoodHere here → refusal_signal here ≡ None → IsFit here (done_signal here)
-good_signal here good free = go (runs here) refl free
-  where
-    go : (r : Option ℕ) → runs here ≡ r → refusal_signal_by here r ≡ None → IsFit here (done_signal_by here r)
-    go None at free = cc
-    go (Some t) at free =
-        let both = out_of_barrier here.awaits (refusal_delivery here (next_for t here.kernel.signals)) free in
-        good_next here t (next_for t here.kernel.signals) good at both.0 both.1
+good_signal here good = fit_of_thread here (refusal_signal_by here) (done_signal_by here) (λ none. cc) (λ t at free.
+    let both = out_of_barrier here.awaits (refusal_delivery here (next_for t here.kernel.signals)) free in
+    good_next here t (next_for t here.kernel.signals) good at both.0 both.1)
 
 -- a hart takes requests where some are pending and no store waits
 pub takes_where : (here : Here) → refusal_take here ≡ None → (eqb here.requests 0 ≡ false) × (waiting_here here ≡ [])

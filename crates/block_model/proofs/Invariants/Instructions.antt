@@ -12,7 +12,7 @@ use Rattle.block_model.proofs.PlaceInvariant.{IsFit, fit_either}
 use Rattle.block_model.proofs.Invariants.Calls.Conditions.{fit_by_call, own_apart, apart_none}
 use Rattle.block_model.proofs.Invariants.Calls.RecordSteps.{kept_signalled, kept_still}
 use Rattle.block_model.proofs.Invariants.Calls.EachCall.{fit_called}
-use Rattle.block_model.proofs.Invariants.Events.{out_of_barrier, fit_keeping}
+use Rattle.block_model.proofs.Invariants.Events.{fit_keeping, fit_of_thread, out_of_barrier}
 use Rattle.block_model.proofs.SignalTables.{pending_keeps}
 
 -- what a plain store executes, where it doesn't fault: one store that may enter; no other instruction executes one
@@ -123,13 +123,9 @@ fit_effect here t None (Some x) good at out fault e clear =
     call_or_plain here t x (is_call x) refl good at out (call_held (is_call x) (is_held here t) clear) e (executed_by here.beside here.kernel.pages (reached here) (view_of_all here) (here.file t).file (here.file t).pc here.reserved x fault)
 
 pub good_exec : (here : Here) → IsGoodHere here → refusal_exec here ≡ None → IsFit here (done_exec here)
-good_exec here good free = go (runs here) refl free
-  where
-    go : (o : Option ℕ) → runs here ≡ o → refusal_exec_by here o ≡ None → IsFit here (done_exec_by here o)
-    go None at e = cc
-    go (Some t) at e =
-        let gate = instruction_gate (length (waiting_here here)) (next_effect here t) (is_some (next_fault here t)) in
-        let held = others_gate (is_held here t) (next_effect here t) in
-        let both = out_of_barrier here.awaits (option_or gate held) e in
-        let free = gates gate held both.1 in
-        fit_effect here t (next_fault here t) (next_effect here t) good at both.0 refl free.0 free.1
+good_exec here good = fit_of_thread here (refusal_exec_by here) (done_exec_by here) (λ none. cc) (λ t at free.
+    let gate = instruction_gate (length (waiting_here here)) (next_effect here t) (is_some (next_fault here t)) in
+    let held = others_gate (is_held here t) (next_effect here t) in
+    let both = out_of_barrier here.awaits (option_or gate held) free in
+    let open_gates = gates gate held both.1 in
+    fit_effect here t (next_fault here t) (next_effect here t) good at both.0 refl open_gates.0 open_gates.1)

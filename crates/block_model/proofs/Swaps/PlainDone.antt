@@ -1,5 +1,5 @@
 -- What a plain event does, by the few things that it can do.
-use Rattle.block_model.proofs.Common.{Choice, Done, Effect, Here, Kernel, List, Saved, Store, Stored, Write, all_stored, next_effect, outcome_of, runs, waiting_here}
+use Rattle.block_model.proofs.Common.{Choice, Done, Effect, Here, Kernel, List, Saved, Store, Stored, Write, all_stored, next_effect, nothing_with, outcome_of, runs, waiting_here}
 use Rattle.std.specs.Prelude.{ℕ, false, [], ◌∷◌, Option, Some, None}
 use Rattle.mach_types.specs.declared.events.Choice.TheVariants as asked
 use Rattle.rv_inst.specs.Execution.{Outcome}
@@ -16,20 +16,12 @@ pub record PlainDone : Type 0 where
 
 -- as an event, by which the kernel's record stays as it is
 abbrev pub as_done : Kernel → PlainDone → Done
-as_done k x = record {
+as_done k x = record (nothing_with x.reserved k) {
   files = x.files;
   executed = x.executed;
   drained = x.drained;
   entered = x.entered;
-  reserved = x.reserved;
-  barrier = None;
-  took = false;
-  returned = false;
-  started = false;
-  interrupted = None;
   instructions = x.instructions;
-  kernel = k;
-  ended = None;
 }
 
 -- an instruction of thread t with this outcome

@@ -5,16 +5,14 @@ use Rattle.membarrier_cmds.proofs.HartSets.{has_hart-if, has_hart-joined, has_ha
 use Rattle.membarrier_cmds.proofs.two_processes.concerned.Goals as goal
 
 pub returns-in-Global : goal.returns-in-Global
-returns-in-Global c =
-    λ h.
+returns-in-Global c h =
     let own = has_hart c.args.mine_running h in
     let others = has_hart c.args.other_running h in
     has_hart-joined c.args.mine_running c.args.other_running h
     ∙ sym (ap (λ k. is_concerned k c.args.mine.now c.args.other.now own others) c.in-Global.is)
 
 pub returns-in-GlobalExpedited : goal.returns-in-GlobalExpedited
-returns-in-GlobalExpedited c =
-    λ h.
+returns-in-GlobalExpedited c h =
     let own = has_hart c.args.mine_running h in
     let others = has_hart c.args.other_running h in
     has_hart-joined c.harts_if.result c.harts_if-in-GlobalExpedited.result h
@@ -25,8 +23,7 @@ returns-in-GlobalExpedited c =
     ∙ sym (ap (λ k. is_concerned k c.args.mine.now c.args.other.now own others) c.in-GlobalExpedited.is)
 
 pub returns-in-Query : goal.returns-in-Query
-returns-in-Query c =
-    λ h.
+returns-in-Query c h =
     let own = has_hart c.args.mine_running h in
     let others = has_hart c.args.other_running h in
     let none : is_concerned c.args.command c.args.mine.now c.args.other.now own others ≡ false = search rules in
