@@ -27,11 +27,12 @@ use elf_load::Image;
 use event_facts::{Fact, Lines, trace};
 use fact_text::push_facts;
 use log_lines::push_lines;
-use mach_types::{End, Entry, Limits, ThreadState, Tid};
+use mach_types::{End, Entry, Kind, Limits, ThreadState, Tid};
 use machine_core::Machine;
 use place_text::fields::{begin_line, push_named_value};
-use place_text::{push_end, push_number_line};
+use place_text::{LineEnd, push_end, push_number_line};
 use std::alloc::{AllocError, Global};
+use step_log::exec_line;
 
 /// The seed of a machine that draws no choice.
 const NO_SEED: u64 = 0;
@@ -66,6 +67,23 @@ impl Followed {
     }
 }
 
+/// Appends the line of an entry, and the number of that. Most are those of an `exec` by a thread whose number is one digit.
+fn push_head(text: &mut Vec<u8>, entry: Entry, number: usize) -> Result<(), AllocError>
+    requires { entry.hart.0 < 8 }
+    ensures { OnOk result (text.new.items ≡ text.old.items ++ (entry_text entry
+        ++ number_line (codes "  line") number)) }
+{
+    if entry.kind == Kind::Exec && entry.tid.0 < 10 {
+        let mut line = LineEnd::newline();
+        line.put_number(number as u64);
+        line.put(b"  line");
+        line.put(&exec_line(entry.hart, entry.tid, entry.pc));
+        return line.append_to(text);
+    }
+    push_lines(text, &[entry])?;
+    push_number_line(text, b"  line", number)
+}
+
 /// Appends what is told of an entry: its line, the number of that, the lines of what came of it, and what it made of
 /// the restartable sequences.
 fn push_event(
@@ -79,8 +97,7 @@ fn push_event(
     ensures { OnOk result (text.new.items ≡ text.old.items ++ (entry_text entry
         ++ number_line (codes "  line") number ++ facts_text facts.now ++ turn_text turn)) }
 {
-    push_lines(text, &[entry])?;
-    push_number_line(text, b"  line", number)?;
+    push_head(text, entry, number)?;
     push_facts(text, facts)?;
     push_turn(text, turn)?;
     Ok(())

@@ -21,4 +21,5 @@ mod ThreadChanges
 mod ToldFacts
 mod ToldLines
 mod TraceExamples
+mod UncutBytes
 mod WrittenBytes

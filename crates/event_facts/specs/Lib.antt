@@ -1,5 +1,6 @@
 pub mod Areas
 pub mod Calls
+pub mod Cuts
 pub mod Deeds
 pub mod Facts
 pub mod Faults

@@ -11,6 +11,7 @@
 
 mod areas;
 mod calls;
+mod cuts;
 mod deeds;
 mod facts;
 mod faults;

@@ -1,15 +1,17 @@
 //! Which line of a log did what: where the bytes come from that a hart reads.
 
-ghost use Rattle.std.specs.Prelude.{◌≡◌, ◌≢◌, ℕ, ◌==◌, ◌<◌, ◌≤◌, ◌++◌, [], map, drop, IfOk, OnOk, if◌then◌else◌, length, option_to_list};
+ghost use Rattle.std.specs.Prelude.{◌≡◌, ◌≢◌, ℕ, ◌==◌, ◌/◌, ◌<◌, ◌≤◌, ◌++◌, [], map, drop, IfOk, IsTrue, OnOk, if◌then◌else◌, length, option_to_list, true};
 ghost use Rattle.mach_types.specs.Bytes as memory;
 ghost use Rattle.rv_inst.specs.Accesses.{bytes};
 ghost use Rattle.block_model.specs.Footprints.{bytes_of, bytes_of_all, has_byte, have_byte};
 ghost use Rattle.event_facts.specs.Deeds.{drained_in, entered_in, executed_in};
+ghost use Rattle.event_facts.specs.Facts.{is_of_one};
 ghost use Rattle.event_facts.specs.Lines.{line_behind, numbered};
 ghost use Rattle.event_facts.specs.Sources.{source_over};
 ghost use Rattle.event_facts.specs.Tied.{AreLinesOf, items_at, kept_on, kept_source, line_in};
 ghost use Rattle.event_facts.specs.Written.{IsWordOf};
 
+use crate::cuts::{are_same, cut_by_long_writes, cut_by_stores};
 use crate::deeds::Deed;
 use crate::facts::Source;
 use crate::long_writes::{LongWrite, last_line};
@@ -120,7 +122,8 @@ impl Lines {
 
     /// The lines of the 8 bytes among which the byte at an address is.
     pub(crate) fn word_of(&self, at: u64) -> Word
-        ensures { IsWordOf self.now.written result }
+        ensures known { IsWordOf self.now.written result }
+        ensures number { result.number ≡ at / 8 }
     {
         self.written.word_of(at)
     }
@@ -144,6 +147,26 @@ impl Lines {
     {
         let below = Source::of_line(self.line_of(known, at));
         source_over(&self.waiting[usize::from(hart.0)], at, below)
+    }
+
+    /// Whether it is seen at once that all of so many bytes from an address on come from where the first does, as
+    /// a hart reads them: they are among these 8, were written last in one line, and no write cuts them.
+    pub(crate) fn is_of_one(&self, known: &Word, hart: Hart, at: u64, size: u8) -> bool
+        requires known { IsWordOf self.now.written known.now }
+        requires word { known.now.number ≡ at / 8 }
+        requires size { size ≤ 8 }
+        requires hart { hart.0 < length self.now.waiting.items }
+        ensures { IsTrue result → is_of_one (kept_source self.now hart.0) at size ≡ true }
+    {
+        let place = (at % 8) as u8;
+        if place + size > 8 || !are_same(&known.lines, place, size) {
+            return false;
+        }
+        let waiting = &self.waiting[usize::from(hart.0)];
+        if cut_by_stores(waiting, at, size) || cut_by_long_writes(&self.long, at, size) {
+            return false;
+        }
+        true
     }
 
     /// The line in which the store was executed that enters memory in a line: that of the oldest that waits

@@ -113,7 +113,7 @@ pub(crate) fn push_reading(
     };
     let known = lines.word_of(at);
     let first = lines.source(&known, hart, at);
-    if are_of_one(lines, &known, hart, at, size, first) {
+    if lines.is_of_one(&known, hart, at, size) || are_of_one(lines, &known, hart, at, size, first) {
         push_read(facts, machine, hart, at, size, first)
     } else {
         push_each(facts, machine, lines, &known, hart, at, size)

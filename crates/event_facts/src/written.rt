@@ -1,6 +1,6 @@
 //! In which line of a log each byte of memory was written last.
 
-ghost use Rattle.std.specs.Prelude.{◌≡◌, ℕ, ◌≤◌, ◌<◌, OnOk, length, slice_index, if◌then◌else◌};
+ghost use Rattle.std.specs.Prelude.{◌≡◌, ℕ, ◌/◌, ◌≤◌, ◌<◌, OnOk, length, slice_index, if◌then◌else◌};
 ghost use Rattle.rv_inst.specs.Accesses.{bytes};
 ghost use Rattle.block_model.specs.Footprints.{has_byte};
 ghost use Rattle.event_facts.specs.Written.{IsWordOf, is_among, is_from_to, line_at, lines_at};
@@ -60,7 +60,8 @@ impl Written {
 
     /// The lines of the 8 bytes among which a byte is.
     pub(crate) fn word_of(&self, at: u64) -> Word
-        ensures { IsWordOf self.now result }
+        ensures known { IsWordOf self.now result }
+        ensures number { result.number ≡ at / 8 }
     {
         let number = at / 8;
         let lines = self.lines_at(number);
