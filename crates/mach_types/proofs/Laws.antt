@@ -1,5 +1,5 @@
 -- The laws of lists with keys, of numbers in lists, of the threads of a process, of words that are read, of sets of harts, of
--- areas, and of tests of pages, for crates above.
+-- areas, of tests of pages, and of kinds of event, for crates above.
 pub use Rattle.mach_types.proofs.Lists.{changed_other, changed_same, differs, filtered_other, filtered_same, found_at_end, map_commutes, map_filters, map_finds, map_stays, not_at_end}
 pub use Rattle.mach_types.proofs.EachElement.{AllByRecursion-filter, AllByRecursion-map, AllByRecursion-push, AllByRecursion-weaker, IsDistinct-filter, IsDistinct-one}
 pub use Rattle.mach_types.proofs.Times.{IsStrictlyIncreasing-above, eqb_other, eqb_same, times_cons, times_filtered_other, times_filtered_same, times_one, times_one_other, times_push}
@@ -8,3 +8,4 @@ pub use Rattle.mach_types.proofs.WordsRead.{are_readable-split, each_byte-past, 
 pub use Rattle.mach_types.proofs.HartSets.{has_hart-harts_that, has_hart-past, has_hart-within, harts_that-fits}
 pub use Rattle.mach_types.proofs.AreasKept.{area_of-with_area_other, area_of-with_area_same, area_of-without_area_other, area_of-without_area_same, interruption-same, named-same}
 pub use Rattle.mach_types.proofs.PageWords.{IsFirst, count_pages-more, count_pages-none, count_pages-one, each_page-at, each_page-fails, each_page-of, first_page-is, first_page-no, first_page-none, first_page-some, zeros_of-at}
+pub use Rattle.mach_types.proofs.EventKinds.{instruction_is, instruction_runs_none, kind_back, kind_is, kind_is_not, preempt_is, run_is, take_is}

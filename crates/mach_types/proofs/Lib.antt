@@ -1,5 +1,6 @@
 mod AreasKept
 mod EachElement
+mod EventKinds
 pub mod Examples
 mod FlatBytes
 mod HartSets

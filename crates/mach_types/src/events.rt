@@ -1,7 +1,7 @@
 //! Events: who may do what, and how the log says so.
 
-ghost use Rattle.std.specs.Prelude.{◌≡◌};
-ghost use Rattle.mach_types.specs.Events.{kind_of, choice_of};
+ghost use Rattle.std.specs.Prelude.{◌≡◌, Bool, Option};
+ghost use Rattle.mach_types.specs.Events.{begun_by, choice_for, choice_of, kind_of, names_a_thread, nature_of};
 
 /// A hart, by its number from 0 on. The RISC-V manual's word for a hardware thread; a processor in rseq(2).
 #[derive(Clone, Copy, PartialEq, Eq, Drop)]
@@ -41,6 +41,157 @@ pub enum Kind {
     Signal,
 }
 
+/// Every kind of event.
+pub const KINDS: [Kind; 7] = [
+    Kind::Exec,
+    Kind::Drain,
+    Kind::Take,
+    Kind::Done,
+    Kind::Preempt,
+    Kind::Run,
+    Kind::Signal,
+];
+
+/// Who makes an event.
+#[derive(Clone, Copy, Drop)]
+pub enum Maker {
+    /// The thread that runs on the hart: it executes an instruction, or makes its fault or its call.
+    Thread,
+    /// The store buffer of the hart: its oldest store enters memory.
+    Buffer,
+    /// The kernel.
+    Kernel,
+}
+
+/// Where an event leaves its thread.
+#[derive(Clone, Copy, Drop)]
+pub enum Movement {
+    /// Where it is.
+    Stays,
+    /// On no hart: it ran on the hart before.
+    Leaves,
+    /// On the hart, where it begins to run.
+    Begins,
+}
+
+/// What interrupts the thread of an event, so that the restartable sequence in which it is doesn't go on (rseq(2)).
+#[derive(Clone, Copy, Drop)]
+pub enum Interruption {
+    /// Nothing.
+    Never,
+    /// A request that it takes, where one asks for a restart (membarrier(2)).
+    Requested,
+    /// That it begins to run, and so has left its hart before.
+    Scheduled,
+    /// A signal that is delivered to it.
+    Signalled,
+}
+
+/// What an event is to the barriers of membarrier(2).
+#[derive(Clone, Copy, Drop)]
+pub enum BarrierPart {
+    /// Nothing.
+    Apart,
+    /// Its hart takes the requests of barriers.
+    Takes,
+    /// A barrier returns.
+    Returns,
+}
+
+/// What an event of some kind is to those who read a log.
+#[derive(Clone, Copy, Drop)]
+pub struct Nature {
+    /// Who makes it.
+    pub maker: Maker,
+    /// Where it leaves its thread.
+    pub movement: Movement,
+    /// What interrupts its thread.
+    pub interruption: Interruption,
+    /// What it is to barriers.
+    pub barriers: BarrierPart,
+}
+
+impl Kind {
+    /// What an event of this kind is.
+    #[inline]
+    pub fn nature(self) -> Nature
+        ensures { result ≡ nature_of self }
+    {
+        let (maker, movement, interruption, barriers) = match self {
+            Kind::Exec => (
+                Maker::Thread,
+                Movement::Stays,
+                Interruption::Never,
+                BarrierPart::Apart,
+            ),
+            Kind::Drain => (
+                Maker::Buffer,
+                Movement::Stays,
+                Interruption::Never,
+                BarrierPart::Apart,
+            ),
+            Kind::Take => (
+                Maker::Kernel,
+                Movement::Stays,
+                Interruption::Requested,
+                BarrierPart::Takes,
+            ),
+            Kind::Done => (
+                Maker::Kernel,
+                Movement::Stays,
+                Interruption::Never,
+                BarrierPart::Returns,
+            ),
+            Kind::Preempt => (
+                Maker::Kernel,
+                Movement::Leaves,
+                Interruption::Never,
+                BarrierPart::Apart,
+            ),
+            Kind::Run => (
+                Maker::Kernel,
+                Movement::Begins,
+                Interruption::Scheduled,
+                BarrierPart::Apart,
+            ),
+            Kind::Signal => (
+                Maker::Kernel,
+                Movement::Stays,
+                Interruption::Signalled,
+                BarrierPart::Apart,
+            ),
+        };
+        Nature {
+            maker,
+            movement,
+            interruption,
+            barriers,
+        }
+    }
+
+    /// Whether a choice of this kind names a thread: the one that begins to run.
+    pub fn names_a_thread(self) -> bool
+        ensures { result ≡ names_a_thread self }
+    {
+        matches!(self.nature().movement, Movement::Begins)
+    }
+
+    /// The choice of this kind; where it names a thread, this one.
+    pub fn choice(self, tid: Tid) -> Choice
+        ensures { result ≡ choice_for self tid }
+    {
+        match self {
+            Kind::Exec => Choice::Exec,
+            Kind::Drain => Choice::Drain,
+            Kind::Take => Choice::Take,
+            Kind::Done => Choice::Done,
+            Kind::Preempt => Choice::Preempt,
+            Kind::Run => Choice::Run(tid),
+            Kind::Signal => Choice::Signal,
+        }
+    }
+}
+
 /// What a hart is asked to do: a kind of event, and for `Run` the thread.
 #[derive(Clone, Copy, PartialEq, Eq, Drop)]
 pub enum Choice {
@@ -75,7 +226,28 @@ impl Choice {
             Choice::Signal => Kind::Signal,
         }
     }
+
+    /// The thread that it names: the one that is to begin to run. None where it names none.
+    #[inline]
+    pub fn begun(self) -> Option<Tid>
+        ensures { result ≡ begun_by self }
+    {
+        match self {
+            Choice::Run(tid) => Some(tid),
+            _ => None,
+        }
+    }
 }
+
+/// The choices that name no thread.
+pub const OWN_CHOICES: [Choice; 6] = [
+    Choice::Exec,
+    Choice::Drain,
+    Choice::Take,
+    Choice::Done,
+    Choice::Preempt,
+    Choice::Signal,
+];
 
 /// One line of the log: an event, the hart that made it, and the running thread and its pc before it.
 ///
@@ -97,15 +269,7 @@ impl Entry {
     pub fn choice(&self) -> Choice
         ensures { result ≡ choice_of self.now }
     {
-        match self.kind {
-            Kind::Exec => Choice::Exec,
-            Kind::Drain => Choice::Drain,
-            Kind::Take => Choice::Take,
-            Kind::Done => Choice::Done,
-            Kind::Preempt => Choice::Preempt,
-            Kind::Run => Choice::Run(self.tid),
-            Kind::Signal => Choice::Signal,
-        }
+        self.kind.choice(self.tid)
     }
 }
 

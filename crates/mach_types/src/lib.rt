@@ -20,7 +20,10 @@ mod user_memory;
 
 pub use barriers::{Answer, BarrierCommand, Registered};
 pub use errors::Errno;
-pub use events::{Advance, Choice, Entry, Hart, Kind, Sight, Tid, Why};
+pub use events::{
+    Advance, BarrierPart, Choice, Entry, Hart, Interruption, KINDS, Kind, Maker, Movement, Nature,
+    OWN_CHOICES, Sight, Tid, Why,
+};
 pub use flat_memory::{FLAT_END, FLAT_START, FlatMemory};
 pub use kernel_words::{CONSOLE_ROOM, MOST_PROT, MOST_THREADS, PROT_EXEC, PROT_READ, PROT_WRITE};
 pub use limits::{End, Limits};
