@@ -3,6 +3,7 @@ use Rattle.std.proofs.Common.{◌≡◌, ℕ, zero, suc, ◌+◌, ◌-◌, ◌/�
 use Rattle.std.specs.Char.{digit_value, is_ascii_digit}
 use Rattle.std.specs.Fmt.{decimal}
 use Rattle.std.specs.List.{list_all}
+use Rattle.std.specs.Prelude.{find}
 use Rattle.std.specs.Str.{bytes_eq}
 use Rattle.std.specs.Str.Parse.{digits_value}
 use Rattle.std.proofs.lemmas.Bool.Decides.{nat_tests}
@@ -12,9 +13,10 @@ use Rattle.std.proofs.lemmas.List.{take_all, take_more}
 use Rattle.std.proofs.lemmas.List.Folds.{list_all-append}
 use Rattle.std.proofs.lemmas.Slice.Eq.{bytes_eq-Decides}
 use Rattle.std.proofs.Math.Nat.{pow-suc}
+use Rattle.mach_types.specs.Events.{all_kinds}
 use Rattle.mach_types.specs.declared.events.Hart.{Hart}
 use Rattle.mach_types.specs.declared.events.Kind.{Kind}
-use Rattle.mach_types.specs.declared.events.Kind.TheVariants.{Exec, Drain, Take, Done, Preempt, Run, Signal}
+use Rattle.mach_types.specs.declared.events.Kind.TheVariants.{Exec}
 use Rattle.mach_types.specs.declared.events.Tid.{Tid}
 use Rattle.step_log.proofs.Numbers.{both, decimals, hex_digits, hex_digit_value_small}
 use Rattle.step_log.proofs.Printed.{length-hex_text, hex_text-none, hex_text-more}
@@ -75,12 +77,7 @@ hart_read-only (digit ∷ next ∷ more) h e = cc
 -- kinds
 pub kind_read-word : (k : Kind) → kind_read (kind_word k) ≡ Some k
 kind_read-word Exec = refl
-kind_read-word Drain = refl
-kind_read-word Take = refl
-kind_read-word Done = refl
-kind_read-word Preempt = refl
-kind_read-word Run = refl
-kind_read-word Signal = refl
+kind_read-word other = refl
 
 tried : (field : List ℕ) (k' k : Kind) (o : Option Kind) → cond (bytes_eq field (kind_word k')) (Some k') o ≡ Some k
     → (o ≡ Some k → field ≡ kind_word k) → field ≡ kind_word k
@@ -90,10 +87,12 @@ tried field k' k o e otherwise =
       | inr w ↦ otherwise w
     ]
 
+among : (field : List ℕ) (k : Kind) (kinds : List Kind) → find (λ k'. bytes_eq field (kind_word k')) kinds ≡ Some k → field ≡ kind_word k
+among field k [] e = cc
+among field k (k' ∷ kinds) e = tried field k' k (find (λ k'. bytes_eq field (kind_word k')) kinds) e (among field k kinds)
+
 pub kind_read-only : (field : List ℕ) (k : Kind) → kind_read field ≡ Some k → field ≡ kind_word k
-kind_read-only field k e =
-    tried field Exec k _ e (λ e. tried field Drain k _ e (λ e. tried field Take k _ e (λ e. tried field Done k _ e
-    (λ e. tried field Preempt k _ e (λ e. tried field Run k _ e (λ e. tried field Signal k None e (λ e. cc)))))))
+kind_read-only field k e = among field k all_kinds e
 
 -- threads
 long_zero : (text : List ℕ) → length text ≡ 1 → has_leading_zero text ≡ false

@@ -1,21 +1,15 @@
 -- How long the parts of a printed line are, and how numbers end.
-use Rattle.std.proofs.Common.{◌≡◌, ℕ, ◌+◌, ◌-◌, ◌*◌, ◌/◌, ◌%◌, ◌^◌, ◌<◌, ◌≤◌, List, [], ◌∷◌, ◌++◌, length, zero, suc, refl, ap, sym, ◌∙◌, arith, lit≤, length-append, append_assoc, add-one}
+use Rattle.std.proofs.Common.{◌≡◌, ℕ, ◌+◌, ◌-◌, ◌/◌, ◌%◌, ◌^◌, ◌<◌, ◌≤◌, List, [], ◌∷◌, ◌++◌, length, zero, suc, refl, ap, ◌∙◌, arith, lit≤, length-append, append_assoc, add-one}
 use Rattle.std.specs.Fmt.{decimal}
 use Rattle.std.proofs.lemmas.Fmt.{decimal_step, decimal_digit, length-decimal-le}
-use Rattle.std.proofs.lemmas.Nat.{pow-add}
-use Rattle.std.proofs.Math.Nat.{div-div-eq-div-mul, mod-eq_of_lt}
+use Rattle.std.proofs.Math.Nat.{mod-eq_of_lt}
 use Rattle.mach_types.specs.declared.events.Kind.{Kind}
-use Rattle.mach_types.specs.declared.events.Kind.TheVariants.{Exec, Drain, Take, Done, Preempt, Run, Signal}
+use Rattle.mach_types.specs.declared.events.Kind.TheVariants.{Exec}
 use Rattle.step_log.specs.Text.{kind_word, hex_digit, hex_text}
 
 pub length-kind_word-le : (k : Kind) → length (kind_word k) ≤ 7
 length-kind_word-le Exec = lit≤ tt
-length-kind_word-le Drain = lit≤ tt
-length-kind_word-le Take = lit≤ tt
-length-kind_word-le Done = lit≤ tt
-length-kind_word-le Preempt = lit≤ tt
-length-kind_word-le Run = lit≤ tt
-length-kind_word-le Signal = lit≤ tt
+length-kind_word-le other = lit≤ tt
 
 -- one decimal digit more
 pub length-decimal_step : (n : ℕ) → 10 ≤ n → n < 2 ^ 64 → length (decimal n) ≡ length (decimal (n / 10)) + 1

@@ -6,7 +6,7 @@ use Rattle.std.specs.List.{list_all, All, AllByRecursion, join_with_byte}
 use Rattle.std.proofs.lemmas.Bool.Decides.{nat_tests}
 use Rattle.std.proofs.lemmas.List.Elements.{All-cons, All-append}
 use Rattle.std.proofs.lemmas.List.Splits.{slice_split_none, slice_split_at, join_with_byte-slice_split}
-use Rattle.mach_types.specs.Events.{kind_of, choice_of}
+use Rattle.mach_types.specs.Events.{choice_for, choice_of, kind_of}
 use Rattle.mach_types.specs.declared.events.Choice.{Choice}
 use Rattle.mach_types.specs.declared.events.Choice.TheVariants as asked
 use Rattle.mach_types.specs.declared.events.Entry.{Entry}
@@ -44,12 +44,7 @@ word_lacks c k low = lacks_from c (ltb 32) (visible_is c low) (kind_word k) (go 
   where
     go : (k : Kind) → list_all (ltb 32) (kind_word k) ≡ true
     go kind.Exec = refl
-    go kind.Drain = refl
-    go kind.Take = refl
-    go kind.Done = refl
-    go kind.Preempt = refl
-    go kind.Run = refl
-    go kind.Signal = refl
+    go other = refl
 
 decimal_lacks : (c n : ℕ) → c ≤ 32 → n < 2 ^ 32 → Lacks c (decimal n)
 decimal_lacks c n low small = lacks_from c is_ascii_digit (λ b digit. grind (arith, nat_tests)) (decimal n) (decimal_digits n small)
@@ -64,25 +59,15 @@ fields_of-join f (g ∷ gs) h =
     slice_split_at (λ b. eqb b 32) f 32 (join_with_byte space (g ∷ gs)) h.0 refl ∙ ap (λ (rest : List (List ℕ)). f ∷ rest) (fields_of-join g gs h.1)
 
 behind_lacks : (choice : Choice) (check : Option (Tid × ℕ)) → IsChoice choice → IsCheckOf choice check → AllByRecursion (Lacks 32) (fields_behind choice check)
-behind_lacks asked.Exec None small fits = tt
-behind_lacks asked.Drain None small fits = tt
-behind_lacks asked.Take None small fits = tt
-behind_lacks asked.Done None small fits = tt
-behind_lacks asked.Preempt None small fits = tt
 behind_lacks (asked.Run tid) None small fits = (decimal_lacks 32 tid.0 (omega arith) small, tt)
-behind_lacks asked.Signal None small fits = tt
+behind_lacks choice None small fits = tt
 behind_lacks choice (Some check) small fits = (decimal_lacks 32 check.0.0 (omega arith) fits.0, (hex_lacks 32 16 check.1 (omega arith), tt))
 
 -- the choice that an entry of this kind and thread answers
 chosen : (choice : Choice) (hart : Hart) (tid : Tid) (pc : ℕ) → RunsThat choice tid
     → choice_of (record { hart = hart; kind = kind_of choice; tid = tid; pc = pc }) ≡ choice
-chosen asked.Exec hart tid pc same = refl
-chosen asked.Drain hart tid pc same = refl
-chosen asked.Take hart tid pc same = refl
-chosen asked.Done hart tid pc same = refl
-chosen asked.Preempt hart tid pc same = refl
 chosen (asked.Run t) hart tid pc same = ap (λ (x : Tid). asked.Run x) (sym same)
-chosen asked.Signal hart tid pc same = refl
+chosen choice hart tid pc same = refl
 
 abbrev line : Hart → Choice → Option (Tid × ℕ) → Line
 line hart choice check = record { hart = hart; choice = choice; check = check }
@@ -93,13 +78,8 @@ read_four h k t p hart kind tid pc eh ek et ep = rw (eh, ek, et, ep) refl
 
 meaning-fields : (hart : Hart) (choice : Choice) (check : Option (Tid × ℕ)) → hart.0 < 8 → IsChoice choice → IsCheckOf choice check
     → meaning_of_fields (line_fields (record { hart = hart; choice = choice; check = check })) ≡ Some (record { hart = hart; choice = choice; check = check })
-meaning-fields hart asked.Exec None h c k = rw (hart_read-text hart h) refl
-meaning-fields hart asked.Drain None h c k = rw (hart_read-text hart h) refl
-meaning-fields hart asked.Take None h c k = rw (hart_read-text hart h) refl
-meaning-fields hart asked.Done None h c k = rw (hart_read-text hart h) refl
-meaning-fields hart asked.Preempt None h c k = rw (hart_read-text hart h) refl
 meaning-fields hart (asked.Run tid) None h c k = rw (hart_read-text hart h, tid_read-decimal tid c) refl
-meaning-fields hart asked.Signal None h c k = rw (hart_read-text hart h) refl
+meaning-fields hart choice None h c k = rw (hart_read-text hart h) refl
 meaning-fields hart choice (Some check) h c k =
     read_four (hart_text hart.0) (kind_word (kind_of choice)) (decimal check.0.0) (hex_text 16 check.1) hart (kind_of choice) check.0 check.1
     (hart_read-text hart h) (kind_read-word (kind_of choice)) (tid_read-decimal check.0 k.0) (pc_read-hex_text check.1 k.1)
@@ -127,33 +107,18 @@ bare_said H choice l small fits e =
     subst (Says (hart_text H.0 ∷ kind_word (kind_of choice) ∷ run_field choice)) same (record { hart = small; choice = fits; check = tt }, refl)
 
 short_said : (H : Hart) (K : Kind) (l : Line) → H.0 < 8 → short_line H K ≡ Some l → Says (hart_text H.0 ∷ kind_word K ∷ []) l
-short_said H kind.Exec l small e = bare_said H asked.Exec l small tt e
-short_said H kind.Drain l small e = bare_said H asked.Drain l small tt e
-short_said H kind.Take l small e = bare_said H asked.Take l small tt e
-short_said H kind.Done l small e = bare_said H asked.Done l small tt e
-short_said H kind.Preempt l small e = bare_said H asked.Preempt l small tt e
 short_said H kind.Run l small e = cc
-short_said H kind.Signal l small e = bare_said H asked.Signal l small tt e
+short_said H K l small e = bare_said H (choice_for K (record { 0 = 0 })) l small tt e
 
 run_said : (H : Hart) (K : Kind) (t : Tid) (l : Line) → H.0 < 8 → t.0 < 2 ^ 32 → run_line H K t ≡ Some l
     → Says (hart_text H.0 ∷ kind_word K ∷ decimal t.0 ∷ []) l
-run_said H kind.Exec t l small thread e = cc
-run_said H kind.Drain t l small thread e = cc
-run_said H kind.Take t l small thread e = cc
-run_said H kind.Done t l small thread e = cc
-run_said H kind.Preempt t l small thread e = cc
 run_said H kind.Run t l small thread e = bare_said H (asked.Run t) l small thread e
-run_said H kind.Signal t l small thread e = cc
+run_said H K t l small thread e = cc
 
 whole_said : (H : Hart) (K : Kind) (t : Tid) (p : ℕ) → H.0 < 8 → t.0 < 2 ^ 32 → p < 2 ^ 64
     → Says (hart_text H.0 ∷ kind_word K ∷ decimal t.0 ∷ hex_text 16 p ∷ []) (whole_line (record { hart = H; kind = K; tid = t; pc = p }))
-whole_said H kind.Exec t p small thread pc = (record { hart = small; choice = tt; check = (thread, pc, tt) }, refl)
-whole_said H kind.Drain t p small thread pc = (record { hart = small; choice = tt; check = (thread, pc, tt) }, refl)
-whole_said H kind.Take t p small thread pc = (record { hart = small; choice = tt; check = (thread, pc, tt) }, refl)
-whole_said H kind.Done t p small thread pc = (record { hart = small; choice = tt; check = (thread, pc, tt) }, refl)
-whole_said H kind.Preempt t p small thread pc = (record { hart = small; choice = tt; check = (thread, pc, tt) }, refl)
 whole_said H kind.Run t p small thread pc = (record { hart = small; choice = thread; check = (thread, pc, refl) }, refl)
-whole_said H kind.Signal t p small thread pc = (record { hart = small; choice = tt; check = (thread, pc, tt) }, refl)
+whole_said H K t p small thread pc = (record { hart = small; choice = tt; check = (thread, pc, tt) }, refl)
 
 pub fields_said : (fs : List (List ℕ)) (l : Line) → meaning_of_fields fs ≡ Some l → Says fs l
 fields_said [] l e = cc

@@ -1,10 +1,10 @@
 -- The grammar of a script's lines, by what they say: each line that says something is written in just one way.
-use Rattle.std.specs.Prelude.{◌≡◌, ℕ, ◌^◌, ◌<◌, List, [], ◌∷◌, Option, Some, None}
+use Rattle.std.specs.Prelude.{◌≡◌, ℕ, ◌^◌, ◌<◌, List, [], ◌∷◌, Option, Some, None, IfSome}
 use Rattle.std.specs.Fmt.{decimal}
 use Rattle.std.specs.List.{join_with_byte, flat_map}
-use Rattle.mach_types.specs.Events.{kind_of}
+use Rattle.std.specs.Option.{option_map_or}
+use Rattle.mach_types.specs.Events.{begun_by, kind_of}
 use Rattle.mach_types.specs.declared.events.Choice.{Choice}
-use Rattle.mach_types.specs.declared.events.Choice.TheVariants.{Exec, Drain, Take, Done, Preempt, Run, Signal}
 use Rattle.mach_types.specs.declared.events.Entry.{Entry}
 use Rattle.mach_types.specs.declared.events.Tid.{Tid}
 use Rattle.step_log.specs.Text.{space, hart_text, kind_word, hex_text, entry_text}
@@ -12,13 +12,7 @@ use Rattle.step_log.specs.declared.fields.Line.{Line}
 
 -- the thread of a `run` without a check
 abbrev pub run_field : Choice → List (List ℕ)
-run_field Exec = []
-run_field Drain = []
-run_field Take = []
-run_field Done = []
-run_field Preempt = []
-run_field (Run tid) = decimal tid.0 ∷ []
-run_field Signal = []
+run_field choice = option_map_or (λ (tid : Tid). decimal tid.0 ∷ []) (begun_by choice) []
 
 -- the fields behind the kind
 abbrev pub fields_behind : Choice → Option (Tid × ℕ) → List (List ℕ)
@@ -35,23 +29,11 @@ line_text l = join_with_byte space (line_fields l)
 
 -- the thread of a `run`, if the choice is one, is this one
 abbrev pub RunsThat : Choice → Tid → Type 0
-RunsThat Exec t = Unit {0}
-RunsThat Drain t = Unit {0}
-RunsThat Take t = Unit {0}
-RunsThat Done t = Unit {0}
-RunsThat Preempt t = Unit {0}
-RunsThat (Run tid) t = tid ≡ t
-RunsThat Signal t = Unit {0}
+RunsThat choice t = IfSome (begun_by choice) (λ tid. tid ≡ t)
 
 -- a `run` has a thread number below 2 ^ 32
 abbrev pub IsChoice : Choice → Type 0
-IsChoice Exec = Unit {0}
-IsChoice Drain = Unit {0}
-IsChoice Take = Unit {0}
-IsChoice Done = Unit {0}
-IsChoice Preempt = Unit {0}
-IsChoice (Run tid) = tid.0 < 2 ^ 32
-IsChoice Signal = Unit {0}
+IsChoice choice = IfSome (begun_by choice) (λ tid. tid.0 < 2 ^ 32)
 
 -- a check has a thread number below 2 ^ 32 and a pc below 2 ^ 64; that of a `run` names its thread
 abbrev pub IsCheckOf : Choice → Option (Tid × ℕ) → Type 0

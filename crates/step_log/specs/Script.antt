@@ -1,17 +1,15 @@
 -- A script (own): lines that say which events to make. Each line is ended by a newline; the last newline may
 -- lack. Its fields are one space apart. The forms are `HART KIND TID PC`, `HART KIND` for a kind other than
 -- `run`, and `HART run TID`.
-use Rattle.std.specs.Prelude.{ℕ, ◌-◌, ◌^◌, ◌==◌, Bool, ◌&&◌, ◌||◌, not, nat_lt, nat_le, List, [], ◌∷◌, length, if◌then◌else◌, Option, Some, None, slice_index}
+use Rattle.std.specs.Prelude.{ℕ, ◌-◌, ◌^◌, ◌==◌, Bool, ◌&&◌, ◌||◌, not, nat_lt, nat_le, List, [], ◌∷◌, find, length, if◌then◌else◌, Option, Some, None, slice_index}
 use Rattle.std.specs.Char.{is_ascii_digit}
 use Rattle.std.specs.List.{slice_split, list_all}
 use Rattle.std.specs.Str.{bytes_eq}
 use Rattle.std.specs.Str.Parse.{digits_value}
-use Rattle.mach_types.specs.Events.{choice_of}
-use Rattle.mach_types.specs.declared.events.Choice.TheVariants as asked
+use Rattle.mach_types.specs.Events.{all_kinds, choice_for, choice_of, is_run}
 use Rattle.mach_types.specs.declared.events.Entry.{Entry}
 use Rattle.mach_types.specs.declared.events.Hart.{Hart}
 use Rattle.mach_types.specs.declared.events.Kind.{Kind}
-use Rattle.mach_types.specs.declared.events.Kind.TheVariants as kind
 use Rattle.mach_types.specs.declared.events.Tid.{Tid}
 use Rattle.step_log.specs.declared.fields.Line.{Line}
 use Rattle.step_log.specs.Text.{newline, space, kind_word}
@@ -45,15 +43,7 @@ hart_read (digit ∷ next ∷ more) = None
 
 -- KIND is the word of a kind
 abbrev pub kind_read : List ℕ → Option Kind
-kind_read word =
-    if bytes_eq word (kind_word kind.Exec) then Some kind.Exec
-    else if bytes_eq word (kind_word kind.Drain) then Some kind.Drain
-    else if bytes_eq word (kind_word kind.Take) then Some kind.Take
-    else if bytes_eq word (kind_word kind.Done) then Some kind.Done
-    else if bytes_eq word (kind_word kind.Preempt) then Some kind.Preempt
-    else if bytes_eq word (kind_word kind.Run) then Some kind.Run
-    else if bytes_eq word (kind_word kind.Signal) then Some kind.Signal
-    else None
+kind_read word = find (λ k. bytes_eq word (kind_word k)) all_kinds
 
 -- a 0 stands before other digits
 abbrev pub has_leading_zero : List ℕ → Bool
@@ -76,25 +66,17 @@ is_hex_digit c = is_ascii_digit c || (nat_le 97 c && nat_le c 102)
 abbrev pub pc_read : List ℕ → Option ℕ
 pc_read text = if (length text == 16) && list_all is_hex_digit text then Some (digits_value 16 text) else None
 
+-- a line without a check, by its kind; the thread is that of a `run`
+abbrev pub bare_line : Hart → Kind → Tid → Line
+bare_line hart kind tid = record { hart = hart; choice = choice_for kind tid; check = None }
+
 -- `HART KIND`, for a kind other than `run`
 abbrev pub short_line : Hart → Kind → Option Line
-short_line hart kind.Exec = Some (record { hart = hart; choice = asked.Exec; check = None })
-short_line hart kind.Drain = Some (record { hart = hart; choice = asked.Drain; check = None })
-short_line hart kind.Take = Some (record { hart = hart; choice = asked.Take; check = None })
-short_line hart kind.Done = Some (record { hart = hart; choice = asked.Done; check = None })
-short_line hart kind.Preempt = Some (record { hart = hart; choice = asked.Preempt; check = None })
-short_line hart kind.Run = None
-short_line hart kind.Signal = Some (record { hart = hart; choice = asked.Signal; check = None })
+short_line hart kind = if is_run kind then None else Some (bare_line hart kind (record { 0 = 0 }))
 
 -- `HART run TID`, and no other kind
 abbrev pub run_line : Hart → Kind → Tid → Option Line
-run_line hart kind.Exec tid = None
-run_line hart kind.Drain tid = None
-run_line hart kind.Take tid = None
-run_line hart kind.Done tid = None
-run_line hart kind.Preempt tid = None
-run_line hart kind.Run tid = Some (record { hart = hart; choice = asked.Run tid; check = None })
-run_line hart kind.Signal tid = None
+run_line hart kind tid = if is_run kind then Some (bare_line hart kind tid) else None
 
 -- `HART KIND TID PC`, as an entry of the log is printed
 abbrev pub whole_line : Entry → Line

@@ -11,6 +11,6 @@ mod reading;
 mod theorems;
 
 pub use fields::Line;
-pub use printing::{EXEC_LINE, exec_line, hex_digits, print_entry};
+pub use printing::{EXEC_LINE, exec_line, hex_digits, kind_word, print_entry};
 pub use reading::{BadLine, LineReader};
 pub use theorems::{line_has_one_text, printed_entry_is_read, printed_log_is_read};

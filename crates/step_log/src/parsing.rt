@@ -9,7 +9,7 @@ ghost use Rattle.step_log.specs.Parts as parts;
 ghost use Rattle.step_log.specs.Script as script;
 
 use crate::fields::Line;
-use mach_types::{Choice, Entry, Hart, Kind, Tid};
+use mach_types::{Entry, Hart, Kind, Tid};
 use memchr::memchr;
 
 /// The first place of a byte in a text.
@@ -171,37 +171,36 @@ fn pc_of(text: &[u8]) -> Option<u64>
     }
 }
 
+/// A line without a check, by its kind; the thread is that of a `run`.
+fn bare_line(hart: Hart, kind: Kind, tid: Tid) -> Line
+    ensures { result ≡ script.bare_line hart kind tid }
+{
+    Line {
+        hart,
+        choice: kind.choice(tid),
+        check: None,
+    }
+}
+
 /// The line `HART KIND`.
 fn short_line(hart: Hart, kind: Kind) -> Option<Line>
     ensures { result ≡ script.short_line hart kind }
 {
-    let choice = match kind {
-        Kind::Exec => Choice::Exec,
-        Kind::Drain => Choice::Drain,
-        Kind::Take => Choice::Take,
-        Kind::Done => Choice::Done,
-        Kind::Preempt => Choice::Preempt,
-        Kind::Run => return None,
-        Kind::Signal => Choice::Signal,
-    };
-    Some(Line {
-        hart,
-        choice,
-        check: None,
-    })
+    if kind.is_run() {
+        None
+    } else {
+        Some(bare_line(hart, kind, Tid(0)))
+    }
 }
 
 /// The line `HART run TID`.
 fn run_line(hart: Hart, kind: Kind, tid: Tid) -> Option<Line>
     ensures { result ≡ script.run_line hart kind tid }
 {
-    match kind {
-        Kind::Run => Some(Line {
-            hart,
-            choice: Choice::Run(tid),
-            check: None,
-        }),
-        Kind::Exec | Kind::Drain | Kind::Take | Kind::Done | Kind::Preempt | Kind::Signal => None,
+    if kind.is_run() {
+        Some(bare_line(hart, kind, tid))
+    } else {
+        None
     }
 }
 

@@ -24,7 +24,7 @@ static PAIRS: [u8; 512] = *b"\
     e0e1e2e3e4e5e6e7e8e9eaebecedeeeff0f1f2f3f4f5f6f7f8f9fafbfcfdfeff";
 
 /// The word of a kind of event.
-pub(crate) fn kind_word(kind: Kind) -> &'static [u8]
+pub fn kind_word(kind: Kind) -> &'static [u8]
     ensures { result.now ≡ kind_word kind }
 {
     match kind {
