@@ -1,5 +1,5 @@
 -- The words that several proofs of this crate speak of, in one place for their imports.
-pub use Rattle.block_model.specs.Acts.{Sequence, abort_of, begun_with, cut_or, end_at_verdict, end_before, end_so_far, hanging, hanging_after, has_died, has_killed, is_inside_at, is_instruction, is_taken_in, moved_out, sequence_on, taken_up, with_event}
+pub use Rattle.block_model.specs.Acts.{Sequence, abort_of, begun_with, cut_or, end_at_verdict, end_before, end_so_far, hanging, hanging_after, has_died, has_killed, is_inside_at, is_taken_in, moved_out, sequence_on, taken_up, with_event}
 pub use Rattle.block_model.specs.Beside.{Neighbour, is_in_segment, or_in_segment, with_segment}
 pub use Rattle.block_model.specs.Calls.{called}
 pub use Rattle.block_model.specs.Calls.Answers.{CallDone, are_writable, argument, call_number, double_written, int_argument, killed_in_call, negative, returned, said, word_written}
@@ -41,7 +41,7 @@ pub use Rattle.block_model.specs.declared.refusals.Refused.{Refused}
 pub use Rattle.block_model.specs.declared.refusals.Refused.TheVariants.{Ended, Full, NotEnabled}
 pub use Rattle.mach_types.proofs.Laws.{each_page-at, eqb_same, filtered_same, has_hart-harts_that, map_filters, map_stays, next_is_new, same_clear_numbers, same_numbers, state_of-with_child_other, state_of-with_child_same, state_of-with_clear, state_of-with_state_other, state_of-with_state_same, state_of-without_other, state_of-without_same, times_cons, times_filtered_other, times_push, word_at-read}
 pub use Rattle.mach_types.specs.Bytes.{all_stored, byte_after, byte_of, byte_over, each_byte, overlay, word_at, written}
-pub use Rattle.mach_types.specs.Events.{choice_of, choice_with}
+pub use Rattle.mach_types.specs.Events.{choice_of, choice_with, is_instruction}
 pub use Rattle.mach_types.specs.Kernel.Areas.{Words, are_words_writable, area_of, can_read_area, can_read_descriptor, descriptor_at, has_flags, interruption, is_area_of, is_clearable, is_inside, is_inside_named, is_out_of_range, is_signed, named, named_by, pointer_of, sequence_of, without_area, words_entered, words_on, words_written, writes_of}
 pub use Rattle.mach_types.specs.Kernel.Pages.{PageRun, Pages, can_read, can_write, is_in, pages_of, permission_at, permission_of, run}
 pub use Rattle.mach_types.specs.Kernel.Scheduling.{Scheduling, affinity_of, first_for, forget, has_hart, is_of, set_if, start_scheduling, with_affinity, with_ready}

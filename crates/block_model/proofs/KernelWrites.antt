@@ -1,12 +1,14 @@
 -- What the kernel writes it writes where its pages say that it may: in a call, and in an event that is no instruction and no entering of
 -- a store. So none of it lies where there is no page.
 use Rattle.std.proofs.Common.{◌≡◌, ◌≢◌, ℕ, Bool, true, false, not, cond, Option, Some, None, refl}
-use Rattle.block_model.proofs.Common.{Area, CallDone, Choice, Here, Outcome, SIGSEGV, Words, action_of, are_words_writable, area_here, call_number, called, called_here, can_write_frame, cond_both, done_done_by, done_killed, done_next, done_of, done_preempt_by, done_running, done_signal_by, done_take_by, file_interrupted, frame_writes, handled_unless_killed, interruption_here, is_handler, is_inside_here, is_writable, killed_in_call, kills, lives_on, mask_of, memory, next_for, next_id, runs, words_entered, words_on, words_to, writes_of}
+use Rattle.block_model.proofs.Common.{Area, CallDone, Choice, Done, Here, Kind, Outcome, SIGSEGV, Words, action_of, are_words_writable, area_here, call_number, called, called_here, can_write_frame, cond_both, done_killed, done_next, done_of, done_running, done_signal_by, file_interrupted, frame_writes, handled_unless_killed, interruption_here, is_handler, is_inside_here, is_writable, killed_in_call, kills, mask_of, memory, next_for, next_id, runs, words_entered, words_on, words_to, writes_of}
 use Rattle.mach_types.specs.declared.events.Choice.TheVariants as asked
+use Rattle.mach_types.specs.declared.events.Kind.TheVariants as kind
 use Rattle.mach_types.specs.declared.sequences.Outcome.TheVariants as comes_to
 use Rattle.block_model.proofs.CallEffects.{CallDeed, Answers, Bears, Ends, Exits}
 use Rattle.block_model.proofs.CallEffects.EachCall.{deed_called}
 use Rattle.block_model.proofs.CallEffects.Ending.{cleared_writable}
+use Rattle.block_model.proofs.EventEffects.{CallKills, Calls as MakesCall, Drains, EventDeed, Executes, Handles, Restarts, RunKills, Runs, SignalKills, begun_by, deed_chosen}
 use Rattle.block_model.proofs.WritableBytes.{AllWritable, area_writable, both_writable, frame_writable, interruption_writable}
 
 -- A CALL
@@ -71,27 +73,25 @@ module _ (here : Here) (t : ℕ) where
       (words_told (area_here here t) words)
   on_run false = interrupted
 
-on_take : (here : Here) (restart : Bool) (r : Option ℕ) → AllWritable (is_writable here) (done_take_by here restart r).entered
-on_take here true (Some t) = interrupted here t
-on_take here b o = tt
-
 on_signal : (here : Here) (r : Option ℕ) → AllWritable (is_writable here) (done_signal_by here r).entered
 on_signal here None = tt
 on_signal here (Some t) = on_next here t (next_for t here.kernel.signals)
 
-quiet_done : (here : Here) (r : Option ℕ) → AllWritable (is_writable here) (done_done_by here r).entered
-quiet_done here None = tt
-quiet_done here (Some t) = tt
-
-quiet_preempt : (here : Here) (r : Option ℕ) → AllWritable (is_writable here) (done_preempt_by here r).entered
-quiet_preempt here None = tt
-quiet_preempt here (Some t) = tt
+event_deed_writes : (here : Here) (tid : ℕ) {k : Kind} {d : Done} → EventDeed here tid k d → k ≢ kind.Exec → k ≢ kind.Drain → k ≢ kind.Signal
+    → AllWritable (is_writable here) d.entered
+event_deed_writes here tid (CallKills t e next calls) no_exec no_drain no_signal = absurd (no_exec refl)
+event_deed_writes here tid (MakesCall t e next calls outside) no_exec no_drain no_signal = absurd (no_exec refl)
+event_deed_writes here tid (Executes t e next) no_exec no_drain no_signal = absurd (no_exec refl)
+event_deed_writes here tid (Drains w ws waits) no_exec no_drain no_signal = absurd (no_drain refl)
+event_deed_writes here tid (Restarts t at) no_exec no_drain no_signal = interrupted here t
+event_deed_writes here tid Runs no_exec no_drain no_signal = on_run here tid true
+event_deed_writes here tid RunKills no_exec no_drain no_signal = on_run here tid false
+event_deed_writes here tid (Handles t signal at) no_exec no_drain no_signal = absurd (no_signal refl)
+event_deed_writes here tid (SignalKills t signal killer at) no_exec no_drain no_signal = absurd (no_signal refl)
+event_deed_writes here tid deed no_exec no_drain no_signal = tt
 
 pub event_writes : (here : Here) (c : Choice) → c ≢ asked.Exec → c ≢ asked.Drain → AllWritable (is_writable here) (done_of c here).entered
 event_writes here asked.Exec no_exec no_drain = absurd (no_exec refl)
 event_writes here asked.Drain no_exec no_drain = absurd (no_drain refl)
-event_writes here asked.Take no_exec no_drain = on_take here here.restart (runs here)
-event_writes here asked.Done no_exec no_drain = quiet_done here (runs here)
-event_writes here asked.Preempt no_exec no_drain = quiet_preempt here (runs here)
-event_writes here (asked.Run t) no_exec no_drain = on_run here t.0 (lives_on here t.0 (interruption_here here t.0))
 event_writes here asked.Signal no_exec no_drain = on_signal here (runs here)
+event_writes here c no_exec no_drain = event_deed_writes here (begun_by c) (deed_chosen here c) (λ e. cc) (λ e. cc) (λ e. cc)

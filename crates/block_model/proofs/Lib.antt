@@ -12,6 +12,7 @@ mod Counts
 mod Entries
 mod ErrorCalls
 pub mod EventEffects
+mod EventMakers
 mod ExamplePrograms
 mod Examples
 mod FileSteps

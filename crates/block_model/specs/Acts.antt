@@ -2,10 +2,16 @@
 -- (rseq(2)), and takes in each following event of its hart that is an instruction, a store that enters memory, or the taking of
 -- barrier requests that interrupts nothing, as long as the thread is inside before it. Every other instruction, and every other
 -- store that enters memory, is an act of its own; so is every other event, as an act of the kernel.
-use Rattle.std.specs.Prelude.{ℕ, ◌==◌, ◌&&◌, ◌||◌, Bool, true, false, not, [], ◌∷◌, if◌then◌else◌, Option, Some, None, is_none, is_some}
+use Rattle.std.specs.Prelude.{ℕ, ◌==◌, ◌&&◌, ◌||◌, Bool, true, false, not, [], ◌∷◌, if◌then◌else◌, Option, Some, None, is_some}
 use Rattle.std.specs.Option.{option_map_or}
+use Rattle.mach_types.specs.Events.{is_instruction, nature_of}
+use Rattle.mach_types.specs.declared.events.BarrierPart.{BarrierPart}
+use Rattle.mach_types.specs.declared.events.BarrierPart.TheVariants.{Apart, Takes, Returns}
 use Rattle.mach_types.specs.declared.events.Kind.{Kind}
-use Rattle.mach_types.specs.declared.events.Kind.TheVariants as kind
+use Rattle.mach_types.specs.declared.events.Maker.{Maker}
+use Rattle.mach_types.specs.declared.events.Maker.TheVariants.{Thread, Buffer, Kernel}
+use Rattle.mach_types.specs.declared.events.Movement.{Movement}
+use Rattle.mach_types.specs.declared.events.Movement.TheVariants.{Stays, Leaves, Begins}
 use Rattle.mach_types.specs.declared.sequences.Named.{Named}
 use Rattle.mach_types.specs.declared.sequences.Named.TheVariants as names
 use Rattle.mach_types.specs.declared.sequences.Outcome.{Outcome}
@@ -29,24 +35,23 @@ is_inside_at s h before = option_map_or (is_inside_here (here_in_history s befor
 
 -- WHICH EVENTS A SEQUENCE HAS
 
-abbrev pub is_instruction : Kind → Bool
-is_instruction kind.Exec = true
-is_instruction kind.Drain = false
-is_instruction kind.Take = false
-is_instruction kind.Done = false
-is_instruction kind.Preempt = false
-is_instruction kind.Run = false
-is_instruction kind.Signal = false
+-- whether a sequence takes in an event of its hart before which its thread is inside, and which interrupts a thread or doesn't: one
+-- that the hart makes; and of the kernel's, that it takes requests and interrupts nothing
+abbrev pub takes_in_of_kernel : BarrierPart → Bool → Bool
+takes_in_of_kernel Apart interrupts = false
+takes_in_of_kernel Takes interrupts = not interrupts
+takes_in_of_kernel Returns interrupts = false
 
--- whether a sequence takes in an event of its hart before which its thread is inside
+abbrev pub takes_in_by : Maker → BarrierPart → Bool → Bool
+takes_in_by Thread barriers interrupts = true
+takes_in_by Buffer barriers interrupts = true
+takes_in_by Kernel barriers interrupts = takes_in_of_kernel barriers interrupts
+
+abbrev pub takes_in : Kind → Bool → Bool
+takes_in k interrupts = takes_in_by (nature_of k).maker (nature_of k).barriers interrupts
+
 abbrev pub is_taken_in : Kind → Option Outcome → Bool
-is_taken_in kind.Exec interrupted = true
-is_taken_in kind.Drain interrupted = true
-is_taken_in kind.Take interrupted = is_none interrupted
-is_taken_in kind.Done interrupted = false
-is_taken_in kind.Preempt interrupted = false
-is_taken_in kind.Run interrupted = false
-is_taken_in kind.Signal interrupted = false
+is_taken_in k interrupted = takes_in k (is_some interrupted)
 
 -- a sequence as it is known at a place: its hart and its thread; the place before its first event, the place before the last of
 -- its instructions so far, and the place after its last event so far
@@ -85,15 +90,14 @@ sequence_on s h (e ∷ before) =
 -- SEQUENCES THAT HANG
 
 -- the sequence of thread t that hangs: its thread was preempted inside, and hasn't begun to run since
-abbrev pub hanging_after : Setting → ℕ → Event → History → Kind → Option Sequence → Option Sequence
-hanging_after s t e before kind.Preempt still =
+abbrev pub hanging_moved : Setting → Event → History → Movement → Option Sequence → Option Sequence
+hanging_moved s e before Stays still = still
+hanging_moved s e before Leaves still =
     if is_inside_at s e.entry.hart.0 before then sequence_on s e.entry.hart.0 before else None
-hanging_after s t e before kind.Run still = None
-hanging_after s t e before kind.Exec still = still
-hanging_after s t e before kind.Drain still = still
-hanging_after s t e before kind.Take still = still
-hanging_after s t e before kind.Done still = still
-hanging_after s t e before kind.Signal still = still
+hanging_moved s e before Begins still = None
+
+abbrev pub hanging_after : Setting → ℕ → Event → History → Kind → Option Sequence → Option Sequence
+hanging_after s t e before k still = hanging_moved s e before (nature_of k).movement still
 
 abbrev pub hanging : Setting → ℕ → History → Option Sequence
 hanging s t [] = None

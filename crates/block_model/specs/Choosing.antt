@@ -3,11 +3,10 @@
 -- setting each takes the seed, at which the generators begin; no rule of what an event does reads it.
 use Rattle.std.specs.Prelude.{ℕ, ◌≡◌, ◌+◌, ◌==◌, ◌&&◌, ◌||◌, Bool, true, false, List, [], ◌∷◌, length, Option, Some, None, if◌then◌else◌, nat_lt, nat_le, is_some}
 use Rattle.std.specs.Option.{option_map, option_map_or}
-use Rattle.mach_types.specs.Events.{choice_of}
+use Rattle.mach_types.specs.Events.{choice_of, number_of_choice}
 use Rattle.mach_types.specs.declared.events.Advance.{Advance}
 use Rattle.mach_types.specs.declared.events.Advance.TheVariants.{Made, NoneNow, Ended}
 use Rattle.mach_types.specs.declared.events.Choice.{Choice}
-use Rattle.mach_types.specs.declared.events.Choice.TheVariants as asked
 use Rattle.mach_types.specs.declared.events.Entry.{Entry}
 use Rattle.mach_types.specs.declared.events.Sight.{Sight}
 use Rattle.chooser.specs.declared.chooser.Pick.{Pick}
@@ -30,16 +29,6 @@ sight_with s h before l = sight_in (here_in_history s before h) (ran h before) l
 -- what is picked there, with the next word of the hart's generator
 abbrev pub pick_with : Setting → ℕ → ℕ → History → Luck → Option Pick
 pick_with s seed h before l = pick (sight_with s h before l) (word (after_words l.drawn (first_generator seed h)))
-
--- the number of a choice, of which no other choice has the same
-abbrev pub number_of_choice : Choice → ℕ
-number_of_choice asked.Exec = 0
-number_of_choice asked.Drain = 1
-number_of_choice asked.Take = 2
-number_of_choice asked.Done = 3
-number_of_choice asked.Preempt = 4
-number_of_choice asked.Signal = 5
-number_of_choice (asked.Run t) = 6 + t.0
 
 -- whether this is the choice
 abbrev pub is_choice : Option Choice → Choice → Bool

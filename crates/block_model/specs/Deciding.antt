@@ -1,10 +1,10 @@
 -- Which event may come next, what it does, and how a run has ended.
 use Rattle.std.specs.Prelude.{ℕ, List, [], ◌∷◌, if◌then◌else◌, Option, Some, None, length, nat_le, Result, Ok, Err, fold}
-use Rattle.std.specs.Option.{option_or}
-use Rattle.mach_types.specs.Events.{kind_of, choice_of}
+use Rattle.std.specs.Option.{option_map_or, option_or}
+use Rattle.mach_types.specs.Events.{begun_by, choice_of, kind_of}
 use Rattle.mach_types.specs.declared.events.Choice.{Choice}
-use Rattle.mach_types.specs.declared.events.Choice.TheVariants as asked
 use Rattle.mach_types.specs.declared.events.Entry.{Entry}
+use Rattle.mach_types.specs.declared.events.Tid.{Tid}
 use Rattle.mach_types.specs.declared.events.Why.{Why}
 use Rattle.mach_types.specs.declared.events.Why.TheVariants.{NoHart}
 use Rattle.mach_types.specs.declared.limits.End.{End}
@@ -20,13 +20,7 @@ use Rattle.block_model.specs.History.{Event, History, here_in_history, ended, ke
 
 -- the thread that an entry names: the one that begins to run, else the one that runs on the hart; 0 where there is none
 abbrev pub thread_in : Choice → Here → Option ℕ
-thread_in asked.Exec here = runs here
-thread_in asked.Drain here = runs here
-thread_in asked.Take here = runs here
-thread_in asked.Done here = runs here
-thread_in asked.Preempt here = runs here
-thread_in (asked.Run t) here = Some t.0
-thread_in asked.Signal here = runs here
+thread_in c here = option_map_or (λ (t : Tid). Some t.0) (begun_by c) (runs here)
 
 abbrev pub number_of : Option ℕ → ℕ
 number_of None = 0

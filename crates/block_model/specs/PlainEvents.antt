@@ -2,8 +2,10 @@
 -- access of one touches (own; accesses are those of the RISC-V Unprivileged ISA, "Ztso").
 use Rattle.std.specs.Prelude.{ℕ, Bool, true, false, not, ◌&&◌, List, [], ◌∷◌, Option, Some, None, is_none}
 use Rattle.std.specs.Option.{option_and_then}
+use Rattle.mach_types.specs.Events.{maker_of}
 use Rattle.mach_types.specs.declared.events.Choice.{Choice}
-use Rattle.mach_types.specs.declared.events.Choice.TheVariants as asked
+use Rattle.mach_types.specs.declared.events.Maker.{Maker}
+use Rattle.mach_types.specs.declared.events.Maker.TheVariants.{Thread, Buffer, Kernel}
 use Rattle.mach_types.specs.declared.user_memory.Store.{Store}
 use Rattle.rv_inst.specs.Class.{is_call}
 use Rattle.rv_inst.specs.declared.effects.Effect.{Effect}
@@ -21,14 +23,13 @@ abbrev pub is_plain_exec_by : Here → Option ℕ → Bool
 is_plain_exec_by here None = false
 is_plain_exec_by here (Some t) = is_plain_exec_of (next_fault here t) (next_effect here t)
 
+abbrev pub is_plain_by : Maker → Here → Bool
+is_plain_by Thread here = is_plain_exec_by here (runs here)
+is_plain_by Buffer here = true
+is_plain_by Kernel here = false
+
 abbrev pub is_plain : Choice → Here → Bool
-is_plain asked.Exec here = is_plain_exec_by here (runs here)
-is_plain asked.Drain here = true
-is_plain asked.Take here = false
-is_plain asked.Done here = false
-is_plain asked.Preempt here = false
-is_plain (asked.Run t) here = false
-is_plain asked.Signal here = false
+is_plain c here = is_plain_by (maker_of c) here
 
 -- the bytes that the access of an event reads and writes: of the instruction that the thread executes next, or of the oldest store
 -- that waits, as it enters memory
@@ -47,25 +48,23 @@ abbrev pub footprint_drain : List Store → Footprint
 footprint_drain [] = no_bytes
 footprint_drain (w ∷ ws) = record no_bytes { writes = bytes w.at w.size ∷ [] }
 
+abbrev pub footprint_by : Maker → Here → Footprint
+footprint_by Thread here = footprint_exec here (runs here)
+footprint_by Buffer here = footprint_drain (waiting_here here)
+footprint_by Kernel here = no_bytes
+
 abbrev pub footprint : Choice → Here → Footprint
-footprint asked.Exec here = footprint_exec here (runs here)
-footprint asked.Drain here = footprint_drain (waiting_here here)
-footprint asked.Take here = no_bytes
-footprint asked.Done here = no_bytes
-footprint asked.Preempt here = no_bytes
-footprint (asked.Run t) here = no_bytes
-footprint asked.Signal here = no_bytes
+footprint c here = footprint_by (maker_of c) here
 
 -- what its hart has reserved after a plain event; nothing where that is what it had
 abbrev pub reserved_exec : Here → Option ℕ → Option (Option ℕ)
 reserved_exec here None = None
 reserved_exec here (Some t) = option_and_then reserved_by (next_effect here t)
 
+abbrev pub reserved_by_maker : Maker → Here → Option (Option ℕ)
+reserved_by_maker Thread here = reserved_exec here (runs here)
+reserved_by_maker Buffer here = None
+reserved_by_maker Kernel here = None
+
 abbrev pub reserved_of : Choice → Here → Option (Option ℕ)
-reserved_of asked.Exec here = reserved_exec here (runs here)
-reserved_of asked.Drain here = None
-reserved_of asked.Take here = None
-reserved_of asked.Done here = None
-reserved_of asked.Preempt here = None
-reserved_of (asked.Run t) here = None
-reserved_of asked.Signal here = None
+reserved_of c here = reserved_by_maker (maker_of c) here

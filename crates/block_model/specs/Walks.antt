@@ -1,8 +1,8 @@
 -- Walks: stretches of a log in which a thread runs on a hart and executes instructions that make neither a
 -- fault nor a call. What other harts do meanwhile shows in what its instructions read (own).
-use Rattle.std.specs.Prelude.{ℕ, ◌≡◌, ◌≢◌, ◌==◌, ◌&&◌, ◌⊎◌, Bool, true, false, List, [], ◌∷◌, ◌++◌, fold, if◌then◌else◌, Option, None, Some}
+use Rattle.std.specs.Prelude.{ℕ, ◌≡◌, ◌≢◌, ◌==◌, ◌&&◌, ◌⊎◌, Bool, List, [], ◌∷◌, ◌++◌, fold, if◌then◌else◌, Option, None, Some}
 use Rattle.std.specs.Option.{option_map_or}
-use Rattle.mach_types.specs.Events.{choice_of}
+use Rattle.mach_types.specs.Events.{choice_of, is_instruction, kind_of}
 use Rattle.mach_types.specs.declared.events.Choice.{Choice}
 use Rattle.mach_types.specs.declared.events.Choice.TheVariants as asked
 use Rattle.mach_types.specs.declared.events.Entry.{Entry}
@@ -58,13 +58,7 @@ answer_in here = record { seen = view_of_all here; reserved = here.reserved }
 
 -- whether a choice is to execute an instruction
 abbrev pub is_exec : Choice → Bool
-is_exec asked.Exec = true
-is_exec asked.Drain = false
-is_exec asked.Take = false
-is_exec asked.Done = false
-is_exec asked.Preempt = false
-is_exec (asked.Run t) = false
-is_exec asked.Signal = false
+is_exec c = is_instruction (kind_of c)
 
 -- what an entry after a history is answered, if it is an instruction of hart h; and what the instructions of
 -- hart h are answered in a stretch, in order, each at its place

@@ -10,6 +10,9 @@ use Rattle.mach_types.specs.Kernel.SignalFrames.{can_write_frame, frame_at, fram
 use Rattle.mach_types.specs.Kernel.Signals.{action_of, is_handler, mask_of, next_for}
 use Rattle.mach_types.specs.Kernel.Threads.{is_ready}
 use Rattle.mach_types.specs.declared.address_space.TheConstants.{PAGE_SIZE}
+use Rattle.mach_types.specs.Events.{is_instruction, nature_of}
+use Rattle.mach_types.specs.declared.events.Interruption.{Interruption}
+use Rattle.mach_types.specs.declared.events.Interruption.TheVariants.{Never, Requested, Scheduled, Signalled}
 use Rattle.mach_types.specs.declared.events.Kind.{Kind}
 use Rattle.mach_types.specs.declared.events.Kind.TheVariants as kind
 use Rattle.mach_types.specs.declared.limits.End.{End}
@@ -29,7 +32,7 @@ use Rattle.mach_types.specs.declared.user_memory.Write.TheVariants.{Stored, Zero
 use Rattle.rv_inst.specs.Class.{is_call}
 use Rattle.block_model.specs.declared.acts.SeqEnd.{SeqEnd}
 use Rattle.block_model.specs.declared.acts.SeqEnd.TheVariants as ends
-use Rattle.block_model.specs.Acts.{Sequence, end_at_verdict, end_before, end_so_far, hanging, is_inside_at, is_instruction, named_at, sequence_on}
+use Rattle.block_model.specs.Acts.{Sequence, end_at_verdict, end_before, end_so_far, hanging, is_inside_at, named_at, sequence_on}
 use Rattle.block_model.specs.Events.Exec.{next_effect, next_fault}
 use Rattle.rv_inst.specs.Accesses.{Bytes}
 use Rattle.block_model.specs.Footprints.{meets}
@@ -64,14 +67,14 @@ pub record IsHandled (s : Setting) (e : Event) (before : History) (t : ℕ) (sav
   pub starts : file s t (e ∷ before) ≡ handler_file signal (action_of signal (kernel s before).signals) saved
 
 -- a thread t that an event interrupts goes on with this file: at once, or where a signal is delivered once the handler returns
+abbrev pub GoesOnFrom : Setting → Interruption → Event → History → ℕ → Saved → Type 0
+GoesOnFrom s Never e before t saved = ⊥
+GoesOnFrom s Requested e before t saved = file s t (e ∷ before) ≡ saved
+GoesOnFrom s Scheduled e before t saved = file s t (e ∷ before) ≡ saved
+GoesOnFrom s Signalled e before t saved = IsHandled s e before t saved
+
 abbrev pub GoesOnWith : Setting → Kind → Event → History → ℕ → Saved → Type 0
-GoesOnWith s kind.Exec e before t saved = ⊥
-GoesOnWith s kind.Drain e before t saved = ⊥
-GoesOnWith s kind.Take e before t saved = file s t (e ∷ before) ≡ saved
-GoesOnWith s kind.Done e before t saved = ⊥
-GoesOnWith s kind.Preempt e before t saved = ⊥
-GoesOnWith s kind.Run e before t saved = file s t (e ∷ before) ≡ saved
-GoesOnWith s kind.Signal e before t saved = IsHandled s e before t saved
+GoesOnWith s k e before t saved = GoesOnFrom s (nature_of k).interruption e before t saved
 
 -- the pointer of an area is 0, as memory is
 abbrev pub IsNull : Setting → History → ℕ → Area → Type 0
@@ -83,14 +86,14 @@ lies_on_pointer s before t area =
     meets (record { at = area.at + RSEQ_CS; count = 8 }) (frame_at (stack_pointer (file s t before))) SIGNAL_FRAME_SIZE
 
 -- an event that interrupts thread t leaves the pointer of its area 0; but the frame of a signal's handler may lie on it
+abbrev pub IsNullAfter : Setting → Interruption → Event → History → ℕ → Area → Type 0
+IsNullAfter s Never e before t area = ⊥
+IsNullAfter s Requested e before t area = IsNull s (e ∷ before) e.entry.hart.0 area
+IsNullAfter s Scheduled e before t area = IsNull s (e ∷ before) e.entry.hart.0 area
+IsNullAfter s Signalled e before t area = lies_on_pointer s before t area ≡ false → IsNull s (e ∷ before) e.entry.hart.0 area
+
 abbrev pub IsLeftNull : Setting → Kind → Event → History → ℕ → Area → Type 0
-IsLeftNull s kind.Exec e before t area = ⊥
-IsLeftNull s kind.Drain e before t area = ⊥
-IsLeftNull s kind.Take e before t area = IsNull s (e ∷ before) e.entry.hart.0 area
-IsLeftNull s kind.Done e before t area = ⊥
-IsLeftNull s kind.Preempt e before t area = ⊥
-IsLeftNull s kind.Run e before t area = IsNull s (e ∷ before) e.entry.hart.0 area
-IsLeftNull s kind.Signal e before t area = lies_on_pointer s before t area ≡ false → IsNull s (e ∷ before) e.entry.hart.0 area
+IsLeftNull s k e before t area = IsNullAfter s (nature_of k).interruption e before t area
 
 -- an interruption e after a history cut a sequence: the area of its thread named a good sequence with this abort handler, in which
 -- the thread was; the word before the handler could be read and was the signature with which the area was registered; the pointer
@@ -226,16 +229,16 @@ pub record IsKilledByDelivery (s : Setting) (e : Event) (before : History) : Typ
       → is_handler (action_of signal (kernel s before).signals) ≡ true
       → (e.done.ended ≡ Some (Killed SIGSEGV)) × (can_write_frame (can_be_written s before) (file s e.entry.tid.0 before) ≡ false)
 
--- how an interruption ends the process, by its kind; a take of requests does so only where the check of the thread finds something bad
-abbrev pub IsDeadBy : Setting → Kind → Event → History → Type 0
-IsDeadBy s kind.Exec e before = ⊥
-IsDeadBy s kind.Drain e before = ⊥
-IsDeadBy s kind.Take e before =
+-- how an interruption ends the process, by what it is; a take of requests does so only where the check of the thread finds something bad
+abbrev pub IsDeadFrom : Setting → Interruption → Event → History → Type 0
+IsDeadFrom s Never e before = ⊥
+IsDeadFrom s Requested e before =
     (e.done.ended ≡ Some (Killed SIGSEGV)) × FindsBad (here_in_history s before e.entry.hart.0) e.entry.tid.0
-IsDeadBy s kind.Done e before = ⊥
-IsDeadBy s kind.Preempt e before = ⊥
-IsDeadBy s kind.Run e before = e.done.ended ≡ Some (Killed SIGSEGV)
-IsDeadBy s kind.Signal e before = IsKilledByDelivery s e before
+IsDeadFrom s Scheduled e before = e.done.ended ≡ Some (Killed SIGSEGV)
+IsDeadFrom s Signalled e before = IsKilledByDelivery s e before
+
+abbrev pub IsDeadBy : Setting → Kind → Event → History → Type 0
+IsDeadBy s k e before = IsDeadFrom s (nature_of k).interruption e before
 
 -- PREEMPTED
 
