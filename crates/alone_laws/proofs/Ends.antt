@@ -2,7 +2,7 @@
 use Rattle.std.proofs.Common.{◌≡◌, ℕ, [], ◌∷◌, List, refl, sym, ap, ◌∙◌, Bool, true, false, not, ◌&&◌}
 use Rattle.std.proofs.Common.{◌||◌, Option, Some, None, is_some, cond, inl, inr}
 use Rattle.std.proofs.lemmas.Bool.{false≢true}
-use Rattle.mach_types.specs.Events.{choice_with}
+use Rattle.mach_types.specs.Events.{choice_with, is_instruction}
 use Rattle.mach_types.specs.Kernel.Areas.{is_inside, is_inside_named}
 use Rattle.mach_types.specs.declared.events.Kind.{Kind}
 use Rattle.mach_types.specs.declared.events.Kind.TheVariants as kind
@@ -14,7 +14,7 @@ use Rattle.mach_types.specs.declared.user_memory.Store.{Store}
 use Rattle.block_model.specs.declared.acts.SeqEnd.{SeqEnd}
 use Rattle.block_model.specs.declared.acts.SeqEnd.TheVariants as ends
 use Rattle.block_model.specs.Acts.{Sequence, abort_of, cut_or, end_before, end_so_far, has_died, is_fatal}
-use Rattle.block_model.specs.Acts.{is_inside_at, is_instruction, is_taken_in, left_or_dropped, moved_out}
+use Rattle.block_model.specs.Acts.{is_inside_at, is_taken_in, left_or_dropped, moved_out}
 use Rattle.block_model.specs.Acts.{named_at, sequence_on}
 use Rattle.block_model.specs.Events.{done_of}
 use Rattle.block_model.specs.Events.Drain.{done_drain_of}

@@ -3,14 +3,14 @@ use Rattle.std.proofs.Common.{◌≡◌, ◌≢◌, ℕ, List, [], ◌∷◌, re
 use Rattle.std.proofs.Common.{cond, eqb, Option, Some, None}
 use Rattle.std.specs.Option.{option_map_or, option_or}
 use Rattle.std.proofs.lemmas.Bool.{eqb-true, eqb-false, false≢true}
-use Rattle.mach_types.specs.Events.{choice_of, choice_with}
+use Rattle.mach_types.specs.Events.{choice_of, choice_with, is_instruction}
 use Rattle.mach_types.specs.Kernel.Areas.{is_inside, is_inside_named}
 use Rattle.mach_types.specs.declared.limits.End.{End}
 use Rattle.mach_types.specs.declared.sequences.Named.{Named}
 use Rattle.mach_types.specs.declared.sequences.Named.TheVariants as names
 use Rattle.mach_types.specs.declared.sequences.Seq.{Seq}
 use Rattle.mach_types.specs.declared.threads.Saved.{Saved}
-use Rattle.block_model.specs.Acts.{Sequence, begun_with, is_inside_at, is_instruction, is_taken_in, named_at}
+use Rattle.block_model.specs.Acts.{Sequence, begun_with, is_inside_at, is_taken_in, named_at}
 use Rattle.block_model.specs.Acts.{sequence_on, taken_up, with_event}
 use Rattle.block_model.specs.History.{Event, History, ended, file, file_among, here_in_history, running}
 use Rattle.mach_types.specs.declared.events.Kind.{Kind}

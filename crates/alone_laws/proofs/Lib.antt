@@ -3,7 +3,6 @@ pub mod Described
 pub mod Ends
 pub mod Entered
 pub mod Entering
-pub mod EventKinds
 pub mod OneStep
 pub mod OpenSequences
 pub mod PathLaw

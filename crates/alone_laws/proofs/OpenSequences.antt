@@ -1,10 +1,10 @@
 -- What one event makes of the sequence that is open on a hart.
 use Rattle.std.proofs.Common.{◌≡◌, ℕ, ◌∷◌, refl, ap, ◌∙◌, Bool, true, false, not, cond, eqb, Option, Some, None}
 use Rattle.mach_types.proofs.Laws.{eqb_same}
-use Rattle.mach_types.specs.Events.{choice_with}
+use Rattle.mach_types.specs.Events.{choice_with, is_instruction}
 use Rattle.mach_types.specs.declared.events.Entry.{Entry}
 use Rattle.mach_types.specs.declared.events.Kind.TheVariants as kind
-use Rattle.block_model.specs.Acts.{Sequence, begun_with, is_inside_at, is_instruction, is_taken_in, sequence_on}
+use Rattle.block_model.specs.Acts.{Sequence, begun_with, is_inside_at, is_taken_in, sequence_on}
 use Rattle.block_model.specs.Acts.{taken_up, with_event}
 use Rattle.block_model.specs.Deciding.{number_of, thread_in}
 use Rattle.block_model.specs.History.{Event, History, here_in_history, running}

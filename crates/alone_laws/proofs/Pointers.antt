@@ -8,9 +8,9 @@ use Rattle.std.specs.Prelude.{Contains}
 use Rattle.std.specs.Option.{option_map_or}
 use Rattle.std.proofs.lemmas.Bool.{eqb-true, eqb-false, false≢true}
 use Rattle.std.proofs.lemmas.Bool.Decides.{nat_tests}
-use Rattle.mach_types.proofs.Laws.{eqb_same}
+use Rattle.mach_types.proofs.Laws.{eqb_same, kind_is, kind_is_not}
 use Rattle.mach_types.specs.Bytes.{byte_after, byte_over, overlay, word_at, written}
-use Rattle.mach_types.specs.Events.{choice_with}
+use Rattle.mach_types.specs.Events.{choice_with, is_kind}
 use Rattle.mach_types.specs.Kernel.Areas.{Words, area_of, can_read_area, can_read_descriptor, descriptor_at}
 use Rattle.mach_types.specs.Kernel.Areas.{has_flags, is_inside, is_inside_named, is_out_of_range, is_signed}
 use Rattle.mach_types.specs.Kernel.Areas.{named, named_by, number_at, pointer_of, sequence_of, words_entered}
@@ -54,7 +54,6 @@ use Rattle.alone_laws.specs.Spans.{Leaves, seen_at}
 use Rattle.alone_laws.specs.Uses.{AlwaysOutside, CanAlwaysBegin, CanBegin, Placed, is_before}
 use Rattle.alone_laws.proofs.Arrivals.{IsOnOrOff, awaits_open, begun_is, is_off, is_on, no_one, no_reason, on_or_off}
 use Rattle.alone_laws.proofs.Arrivals.{signal_empty, take_empty}
-use Rattle.alone_laws.proofs.EventKinds.{is_kind, kind_is, kind_is_not}
 use Rattle.alone_laws.proofs.Sequences.{each_among}
 use Rattle.alone_laws.proofs.StoredWords.{among_low, beside_word, stored_word}
 use Rattle.alone_laws.proofs.Steps.{IsIdle, drain_idle, overlay_append, sees_apart, sees_idle, take_idle}

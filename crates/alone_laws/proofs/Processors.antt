@@ -5,6 +5,7 @@ use Rattle.std.proofs.Common.{append-nil}
 use Rattle.std.proofs.lemmas.Bool.{eqb-true, eqb-false, false≢true}
 use Rattle.mach_types.specs.Bytes.{byte_after, byte_over, each_byte, overlay, word_at, written}
 use Rattle.mach_types.specs.Events.{choice_with}
+use Rattle.mach_types.proofs.Laws.{kind_is_not}
 use Rattle.mach_types.specs.Kernel.Areas.{area_of, words_entered, words_on, words_written, writes_of}
 use Rattle.mach_types.specs.Kernel.Threads.{is_ready, running_on}
 use Rattle.mach_types.specs.declared.events.Kind.{Kind}
@@ -30,7 +31,6 @@ use Rattle.block_model.proofs.Laws.{runs_apart, stays_area, step_of}
 use Rattle.alone_laws.specs.Areas.{LeavesProcessor, ProcessorKept}
 use Rattle.alone_laws.specs.Blocks.{among}
 use Rattle.alone_laws.specs.Spans.{Leaves, seen_at, sees}
-use Rattle.alone_laws.proofs.EventKinds.{kind_is_not}
 use Rattle.alone_laws.proofs.Sequences.{each_among}
 use Rattle.alone_laws.proofs.StoredWords.{beside_word, stored_word}
 use Rattle.alone_laws.proofs.Steps.{IsIdle, drain_idle, overlay_append, sees_idle, sees_apart, word_same}

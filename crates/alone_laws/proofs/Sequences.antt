@@ -5,7 +5,7 @@ use Rattle.std.proofs.Common.{leb, ltb, inl, inr, ⊎_elim, is_none}
 use Rattle.std.specs.Option.{option_map_or}
 use Rattle.std.proofs.lemmas.Bool.{eqb-false, false≢true, le-leb, lt-ltb, cases_lt}
 use Rattle.mach_types.specs.Bytes.{each_byte, word_at}
-use Rattle.mach_types.specs.Events.{choice_with}
+use Rattle.mach_types.specs.Events.{choice_with, is_instruction}
 use Rattle.mach_types.specs.Kernel.Areas.{can_read_area, can_read_descriptor, descriptor_at, has_flags}
 use Rattle.mach_types.specs.Kernel.Areas.{is_inside, is_inside_named, is_out_of_range, is_signed, named}
 use Rattle.mach_types.specs.Kernel.Areas.{named_by, number_at, pointer_of, sequence_of}
@@ -23,7 +23,7 @@ use Rattle.mach_types.specs.declared.sequences.TheConstants.{RSEQ_CS}
 use Rattle.mach_types.specs.declared.threads.Saved.{Saved}
 use Rattle.rv_inst.specs.Execution.{seen_byte}
 use Rattle.alone.specs.Alone.{Stand}
-use Rattle.block_model.specs.Acts.{Sequence, is_inside_at, is_instruction, is_taken_in}
+use Rattle.block_model.specs.Acts.{Sequence, is_inside_at, is_taken_in}
 use Rattle.block_model.specs.Acts.{sequence_on}
 use Rattle.block_model.specs.Here.{view}
 use Rattle.block_model.specs.History.{Event, History, here_in_history, running}

@@ -3,9 +3,9 @@ use Rattle.std.proofs.Common.{◌≡◌, ℕ, suc, ◌+◌, ◌<◌, List, [], �
 use Rattle.std.proofs.Common.{subst, Bool, true, false, ◌&&◌, ◌⊎◌, inl, inr, cond, eqb, append_assoc, append-nil}
 use Rattle.std.proofs.lemmas.Bool.{eqb-true}
 use Rattle.mach_types.proofs.Laws.{eqb_same}
+use Rattle.mach_types.specs.Events.{is_instruction}
 use Rattle.mach_types.specs.declared.events.Entry.{Entry}
 use Rattle.mach_types.specs.declared.events.Kind.TheVariants as kind
-use Rattle.block_model.specs.Acts.{is_instruction}
 use Rattle.block_model.specs.Deciding.{event, history}
 use Rattle.block_model.specs.History.{Event, History}
 use Rattle.block_model.specs.Run.{IsBlockRun, IsRunHistory}

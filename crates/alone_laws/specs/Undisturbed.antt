@@ -1,9 +1,9 @@
 -- Stretches of a log in which a hart is left undisturbed: it executes instructions, its stores enter memory,
 -- and nothing else happens on it (own).
 use Rattle.std.specs.Prelude.{ℕ, ◌≡◌, ◌+◌, ◌<◌, ◌==◌, ◌&&◌, ◌⊎◌, Bool, List, [], ◌∷◌, ◌++◌, if◌then◌else◌}
+use Rattle.mach_types.specs.Events.{is_instruction}
 use Rattle.mach_types.specs.declared.events.Entry.{Entry}
 use Rattle.mach_types.specs.declared.events.Kind.TheVariants as kind
-use Rattle.block_model.specs.Acts.{is_instruction}
 use Rattle.block_model.specs.Deciding.{history}
 use Rattle.block_model.specs.History.{History}
 use Rattle.block_model.specs.Setting.{Setting}

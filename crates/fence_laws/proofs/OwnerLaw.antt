@@ -2,7 +2,8 @@
 use Rattle.std.proofs.Common.{◌≡◌, ◌≢◌, ℕ, List, [], ◌∷◌, ◌++◌, eqb, refl, sym, ap, ◌∙◌, subst, Bool, true}
 use Rattle.std.proofs.Common.{false, inl, inr, Option, Some, None}
 use Rattle.std.proofs.lemmas.Bool.{eqb-true}
-use Rattle.mach_types.specs.Events.{choice_with}
+use Rattle.mach_types.specs.Events.{choice_with, is_kind}
+use Rattle.mach_types.proofs.Laws.{kind_is, kind_is_not}
 use Rattle.mach_types.specs.declared.events.Kind.TheVariants as kind
 use Rattle.mach_types.specs.declared.user_memory.Store.{Store}
 use Rattle.block_model.specs.Events.{done_of, refusal_of}
@@ -13,7 +14,6 @@ use Rattle.block_model.specs.Run.{IsRunHistory}
 use Rattle.block_model.specs.Sequences.{interruption_here}
 use Rattle.block_model.specs.Setting.{Setting}
 use Rattle.block_model.proofs.Laws.{IsStep, ran_before, run_ready, runs_apart, step_of, waits_apart}
-use Rattle.alone_laws.proofs.EventKinds.{is_kind, kind_is, kind_is_not}
 use Rattle.fence_laws.specs.Kept.{AreBeside, AreStoredBy, IsStoredBy}
 use Rattle.fence_laws.proofs.WordLaw.{beside_append, beside_drop, run_executes}
 

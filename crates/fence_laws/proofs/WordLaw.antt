@@ -5,7 +5,8 @@ use Rattle.std.proofs.Common.{eqb, arith, refl, sym, ap, ◌∙◌, subst, Bool,
 use Rattle.std.proofs.Common.{append-nil, append_assoc}
 use Rattle.std.proofs.lemmas.Bool.{cases_eq, eqb-false, eqb-true, false≢true}
 use Rattle.mach_types.specs.Bytes.{byte_of, overlay, written}
-use Rattle.mach_types.specs.Events.{choice_of, choice_with}
+use Rattle.mach_types.specs.Events.{choice_of, choice_with, is_kind, kind_of}
+use Rattle.mach_types.proofs.Laws.{kind_is_not}
 use Rattle.mach_types.specs.declared.events.Choice.{Choice}
 use Rattle.mach_types.specs.declared.events.Choice.TheVariants as asked
 use Rattle.mach_types.specs.declared.events.Kind.{Kind}
@@ -22,7 +23,6 @@ use Rattle.block_model.specs.Sequences.{interruption_here}
 use Rattle.block_model.specs.Setting.{Setting}
 use Rattle.alone_laws.specs.Spans.{Leaves, sees}
 use Rattle.block_model.proofs.Laws.{IsStep, drains_none, step_of}
-use Rattle.alone_laws.proofs.EventKinds.{is_kind, kind_is_not}
 use Rattle.alone_laws.proofs.Steps.{IsIdle, drain_idle, overlay_append, sees_apart, sees_idle}
 use Rattle.fence_laws.specs.Kept.{AreBeside, AreQuiet, IsQuiet}
 
@@ -118,8 +118,7 @@ run_executes here t true = refl
 run_executes here t false = refl
 
 abbrev is_drain : Choice → Bool
-is_drain asked.Drain = true
-is_drain other = false
+is_drain c = is_kind (kind_of c) kind.Drain
 
 not_drain : (c : Choice) → is_drain c ≡ false → c ≢ asked.Drain
 not_drain c isnt same = false≢true (sym isnt ∙ ap is_drain same)
@@ -141,13 +140,8 @@ not_of e k is isnt never =
     (λ same. not_drain (choice_with k e.entry) never (sym (ap (λ j. choice_with j e.entry) is) ∙ same))
 
 pub drain_or_not : (e : Event) (k : Kind) → e.entry.kind ≡ k → IsDrainOrNot k e
-drain_or_not e kind.Exec is = not_of e kind.Exec is refl refl
 drain_or_not e kind.Drain is = it_drains is (ap (λ j. choice_with j e.entry) is)
-drain_or_not e kind.Take is = not_of e kind.Take is refl refl
-drain_or_not e kind.Done is = not_of e kind.Done is refl refl
-drain_or_not e kind.Preempt is = not_of e kind.Preempt is refl refl
-drain_or_not e kind.Run is = not_of e kind.Run is refl refl
-drain_or_not e kind.Signal is = not_of e kind.Signal is refl refl
+drain_or_not e k is = not_of e k is refl refl
 
 -- WHAT HARTS SEE
 

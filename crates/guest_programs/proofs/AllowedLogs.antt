@@ -2,7 +2,8 @@
 -- event is computed once, where a script that is played computes a place anew for each of its lines.
 use Rattle.std.proofs.Common.{◌≡◌, List, [], ◌∷◌, refl, ap, Bool, true, false, ◌&&◌, eqb, Result, Ok, Err, fold}
 use Rattle.std.proofs.lemmas.Bool.{and_parts, eqb-true, false≢true}
-use Rattle.mach_types.specs.Events.{choice_of}
+use Rattle.mach_types.specs.Events.{choice_of, is_kind}
+use Rattle.mach_types.proofs.Laws.{kind_is}
 use Rattle.mach_types.specs.declared.events.Entry.{Entry}
 use Rattle.block_model.specs.Deciding.{decide, event, history}
 use Rattle.block_model.specs.declared.refusals.Refused.{Refused}
@@ -10,7 +11,6 @@ use Rattle.block_model.specs.History.{History}
 use Rattle.block_model.specs.Run.{IsBlockRun, IsRunHistory}
 use Rattle.block_model.specs.Setting.{Setting}
 use Rattle.block_model.proofs.Laws.{block_run}
-use Rattle.alone_laws.proofs.EventKinds.{is_kind, kind_is}
 
 -- two entries that are the same
 abbrev is_entry : Entry → Entry → Bool

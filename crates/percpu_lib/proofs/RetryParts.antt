@@ -2,6 +2,8 @@
 -- computation.
 use Rattle.std.proofs.Common.{◌≡◌, ℕ, List, [], ◌∷◌, ◌++◌, ◌⊎◌, inl, inr, Bool, true, ◌&&◌, ◌||◌, eqb}
 use Rattle.std.proofs.lemmas.Bool.{and_parts, eqb-true}
+use Rattle.mach_types.specs.Events.{is_kind}
+use Rattle.mach_types.proofs.Laws.{kind_is}
 use Rattle.mach_types.specs.Kernel.Areas.{is_inside}
 use Rattle.mach_types.specs.declared.events.Entry.{Entry}
 use Rattle.mach_types.specs.declared.events.Kind.{Kind}
@@ -12,7 +14,6 @@ use Rattle.block_model.specs.Setting.{Setting}
 use Rattle.alone_laws.specs.Retries.{Retries, begins, goes_on, walks}
 use Rattle.alone_laws.specs.Undisturbed.{IsUndisturbed}
 use Rattle.alone_laws.specs.Uses.{Placed}
-use Rattle.alone_laws.proofs.EventKinds.{is_kind, kind_is}
 use Rattle.percpu_lib.proofs.RetryTests.{registers_are, same_registers, walk_found, walks_at_work}
 use Rattle.percpu_lib.proofs.UseTests.{either, is_just, just_is}
 

@@ -90,11 +90,7 @@ module _ (s : Setting) (b : Placed) (h t : ℕ) where
             ∙ parts.1);
       }))
   of_walk before e kind.Drain is fine = inl (ap (λ k. choice_with k e) is)
-  of_walk before e kind.Take is fine = absurd (false≢true fine)
-  of_walk before e kind.Done is fine = absurd (false≢true fine)
-  of_walk before e kind.Preempt is fine = absurd (false≢true fine)
-  of_walk before e kind.Run is fine = absurd (false≢true fine)
-  of_walk before e kind.Signal is fine = absurd (false≢true fine)
+  of_walk before e k is fine = absurd (false≢true fine)
 
   each : (stretch log : List Entry) → walks_at_work log stretch ≡ true → AreOfWalk s h t (history s log) stretch
   each [] log fine = tt

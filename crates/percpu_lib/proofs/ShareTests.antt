@@ -5,13 +5,13 @@ use Rattle.std.proofs.Common.{false, not, ◌&&◌, ◌||◌, ◌⊎◌, inl, in
 use Rattle.std.specs.Prelude.{Contains}
 use Rattle.std.proofs.lemmas.Bool.{and_from, and_parts, eqb-true, false≢true}
 use Rattle.mach_types.specs.Bytes.{overlay, word_at}
+use Rattle.mach_types.specs.Events.{is_instruction, is_kind}
 use Rattle.mach_types.specs.Kernel.Areas.{descriptor_at, sequence_of}
 use Rattle.mach_types.specs.declared.events.Kind.TheVariants as kind
 use Rattle.mach_types.specs.declared.sequences.Area.{Area}
 use Rattle.mach_types.specs.declared.sequences.Seq.{Seq}
 use Rattle.mach_types.specs.declared.sequences.TheConstants.{RSEQ_CS}
 use Rattle.mach_types.specs.declared.user_memory.Store.{Store}
-use Rattle.block_model.specs.Acts.{is_instruction}
 use Rattle.block_model.specs.Here.{view}
 use Rattle.block_model.specs.History.{Event, History, file, here_in_history, kernel, running}
 use Rattle.block_model.specs.Run.{IsRunHistory}
@@ -21,7 +21,6 @@ use Rattle.alone_laws.specs.Pointers.{AlwaysDescribed, AreDescribed, KeepsPointe
 use Rattle.alone_laws.specs.Pointers.{StoresTable, WritesPointer, has_area, has_had, pointer_at}
 use Rattle.alone_laws.specs.Spans.{Leaves, seen_at}
 use Rattle.alone_laws.specs.Uses.{Placed, is_before}
-use Rattle.alone_laws.proofs.EventKinds.{is_kind}
 use Rattle.percpu_lib.specs.Forms.{Form, SharesAreaWith, placed_of}
 use Rattle.percpu_lib.proofs.UseTests.{IsTested, are_beside, are_fine, begins_to_run, either, follows, implies}
 use Rattle.percpu_lib.proofs.UseTests.{is_fine, is_just, just_is, not_both, not_named, not_own, on_own}

@@ -5,10 +5,11 @@ use Rattle.std.proofs.Common.{◌∙◌, arith, subst, Bool, true, false, not, �
 use Rattle.std.proofs.Common.{eqb, leb, Option, Some, None}
 use Rattle.std.specs.Option.{option_map_or}
 use Rattle.std.proofs.lemmas.Bool.Decides.{nat_tests}
-use Rattle.mach_types.proofs.Laws.{eqb_same}
+use Rattle.mach_types.proofs.Laws.{eqb_same, kind_is}
 use Rattle.std.proofs.lemmas.Bool.{and_from, and_parts, cases_eq, eqb-true, false≢true, leb-true}
 use Rattle.std.proofs.lemmas.Bool.{not-true}
 use Rattle.mach_types.specs.Bytes.{byte_over, each_byte, overlay, written}
+use Rattle.mach_types.specs.Events.{is_instruction, is_kind}
 use Rattle.mach_types.specs.Kernel.Areas.{area_of, can_read_area, can_read_descriptor, descriptor_at}
 use Rattle.mach_types.specs.Kernel.Areas.{has_flags, is_inside, is_signed, sequence_of}
 use Rattle.mach_types.specs.Kernel.Pages.{can_read, can_write, permission_at, permission_of}
@@ -21,7 +22,7 @@ use Rattle.mach_types.specs.declared.user_memory.Store.{Store}
 use Rattle.mach_types.specs.declared.threads.Saved.{Saved}
 use Rattle.mach_types.specs.declared.user_memory.Write.{Write}
 use Rattle.mach_types.specs.declared.user_memory.Write.TheVariants as write
-use Rattle.block_model.specs.Acts.{Sequence, is_instruction, sequence_on}
+use Rattle.block_model.specs.Acts.{Sequence, sequence_on}
 use Rattle.block_model.specs.Events.Signal.{file_interrupted}
 use Rattle.block_model.specs.Here.{memory, view}
 use Rattle.block_model.specs.History.{Event, History, file, here_in_history, kernel, running}
@@ -36,7 +37,6 @@ use Rattle.alone_laws.specs.Uses.{AreUsed, Arrives, CanAlwaysBegin, CanBegin, Ha
 use Rattle.alone_laws.specs.Uses.{came_back, in_block}
 use Rattle.alone_laws.specs.Uses.{is_before}
 use Rattle.alone_laws.specs.Uses.{DeliversNone, at_first, executed, interrupted, stayed}
-use Rattle.alone_laws.proofs.EventKinds.{is_kind, kind_is}
 use Rattle.alone_laws.proofs.OpenSequences.{still_open}
 use Rattle.alone_laws.proofs.Sequences.{exec_kind}
 use Rattle.alone_laws.proofs.StoredWords.{among_low}
