@@ -2,7 +2,8 @@
 -- credit; or else the last one's by the word, where it can act; or else any that can, each as likely as the next. What it does is its
 -- turn by the same word.
 use Rattle.std.specs.Prelude.{ℕ, ◌-◌, ◌<◌, ◌≤◌, ◌==◌, ◌&&◌, Bool, not, List, length, Option, Some, None, if◌then◌else◌, nat_lt, slice_get, slice_index_or, slice_set}
-use Rattle.std.specs.Option.{option_and_then, option_map}
+use Rattle.std.specs.Option.{option_and_then, option_map, option_map_or}
+use Rattle.mach_types.specs.Events.{begun_by}
 use Rattle.mach_types.specs.declared.events.Choice.{Choice}
 use Rattle.mach_types.specs.declared.events.Choice.TheVariants as asked
 use Rattle.mach_types.specs.declared.events.Tid.{Tid}
@@ -49,13 +50,7 @@ turn_at scene d h w =
 
 -- the thread that ran last on each hart, after an event of hart h
 abbrev pub ran_after : ℕ → Choice → List (Option Tid) → List (Option Tid)
-ran_after h asked.Exec ran = ran
-ran_after h asked.Drain ran = ran
-ran_after h asked.Take ran = ran
-ran_after h asked.Done ran = ran
-ran_after h asked.Preempt ran = ran
-ran_after h (asked.Run t) ran = slice_set ran h (Some t)
-ran_after h asked.Signal ran = ran
+ran_after h c ran = option_map_or (λ (t : Tid). slice_set ran h (Some t)) (begun_by c) ran
 
 -- a turn of hart h, and what is kept after it with these priorities and this generator
 abbrev pub after_turn : ℕ → Turn → Lots → Drawing → Drawing

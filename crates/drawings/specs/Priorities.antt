@@ -1,8 +1,10 @@
 -- Priorities (own; after partial order sampling: Yuan, Yang and Gu, "Partial Order Aware Concurrency Sampling", 2018). Of the
 -- actors that can act the one with the highest priority does. Actor 2h is hart h, actor 2h + 1 its oldest waiting store.
 use Rattle.std.specs.Prelude.{ℕ, zero, suc, ◌+◌, ◌/◌, ◌%◌, ◌==◌, ◌&&◌, ◌||◌, Bool, List, Option, Some, None, if◌then◌else◌, is_some, nat_lt, slice_index, slice_index_or, slice_set}
+use Rattle.mach_types.specs.Events.{maker_of}
 use Rattle.mach_types.specs.declared.events.Choice.{Choice}
-use Rattle.mach_types.specs.declared.events.Choice.TheVariants as asked
+use Rattle.mach_types.specs.declared.events.Maker.{Maker}
+use Rattle.mach_types.specs.declared.events.Maker.TheVariants.{Thread, Buffer, Kernel}
 use Rattle.chooser.specs.Cases.{has_stores}
 use Rattle.chooser.specs.Generators.{next_generator, word}
 use Rattle.draw_policies.specs.Accesses.{race}
@@ -55,14 +57,13 @@ abbrev pub next_of : Scene → ℕ → Option Access
 next_of scene actor = if is_hart actor then scene.next_access (hart_of actor) else scene.oldest_store (hart_of actor)
 
 -- what an event of hart h accesses
+abbrev pub access_of : Scene → ℕ → Maker → Option Access
+access_of scene h Thread = scene.next_access h
+access_of scene h Buffer = scene.oldest_store h
+access_of scene h Kernel = None
+
 abbrev pub access_by : Scene → ℕ → Choice → Option Access
-access_by scene h asked.Exec = scene.next_access h
-access_by scene h asked.Drain = scene.oldest_store h
-access_by scene h asked.Take = None
-access_by scene h asked.Done = None
-access_by scene h asked.Preempt = None
-access_by scene h (asked.Run t) = None
-access_by scene h asked.Signal = None
+access_by scene h c = access_of scene h (maker_of c)
 
 -- whether an actor gets a new priority: it acted, or its next access races with the one that was made
 abbrev pub is_drawn_anew : Scene → ℕ → Option Access → ℕ → Bool

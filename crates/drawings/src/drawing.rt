@@ -150,14 +150,8 @@ impl Drawing {
         requires { hart < 8 }
         ensures { self.new ≡ record self.old { ran = drawings.ran_after hart choice self.old.ran } }
     {
-        match choice {
-            Choice::Run(tid) => self.ran[hart as usize] = Some(tid),
-            Choice::Exec
-            | Choice::Drain
-            | Choice::Take
-            | Choice::Done
-            | Choice::Preempt
-            | Choice::Signal => {}
+        if let Some(tid) = choice.begun() {
+            self.ran[hart as usize] = Some(tid);
         }
     }
 

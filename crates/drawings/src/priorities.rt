@@ -7,7 +7,7 @@ ghost use Rattle.drawings.specs.Priorities as priorities;
 
 use crate::harts::Harts;
 use draw_policies::{Access, Aim, race, still_due};
-use mach_types::{Choice, Hart};
+use mach_types::{Choice, Hart, Maker};
 use rand_core::utils::NextWord;
 use rand_xoshiro::Xoshiro256PlusPlus;
 
@@ -134,10 +134,10 @@ pub fn access_by<H: Harts>(harts: &H, hart: Hart, choice: Choice) -> Option<Acce
     requires { hart.0 < (H.scene harts.now).harts }
     ensures { result ≡ priorities.access_by (H.scene harts.now) hart.0 choice }
 {
-    match choice {
-        Choice::Exec => harts.next_access(hart),
-        Choice::Drain => harts.oldest_store(hart),
-        Choice::Take | Choice::Done | Choice::Preempt | Choice::Run(_) | Choice::Signal => None,
+    match choice.maker() {
+        Maker::Thread => harts.next_access(hart),
+        Maker::Buffer => harts.oldest_store(hart),
+        Maker::Kernel => None,
     }
 }
 

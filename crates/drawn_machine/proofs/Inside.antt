@@ -2,12 +2,12 @@
 use Rattle.std.proofs.Common.{◌≡◌, ℕ, ◌+◌, ◌<◌, ◌≤◌, Bool, true, false, cond, leb, List, [], ◌∷◌, ◌++◌, length, length-append, Option, Some, None, Result, Ok, Err, refl, sym, ap, ap₂, ◌∙◌, subst, arith}
 use mir.Val.{bool_byte}
 use Rattle.std.proofs.lemmas.Bool.{leb-false}
+use Rattle.mach_types.proofs.Laws.{kind_back}
 use Rattle.mach_types.specs.Events.{choice_of, kind_of}
 use Rattle.mach_types.specs.declared.events.Choice.{Choice}
 use Rattle.mach_types.specs.declared.events.Entry.{Entry}
 use Rattle.mach_types.specs.declared.events.Hart.{Hart}
 use Rattle.mach_types.specs.declared.events.Kind.{Kind}
-use Rattle.mach_types.specs.declared.events.Kind.TheVariants as kind
 use Rattle.mach_types.specs.declared.events.Why.TheVariants.{NoHart}
 use Rattle.mach_types.specs.declared.limits.End.{End}
 use Rattle.drawings.specs.declared.drawing.DrawnEvent.{DrawnEvent}
@@ -58,16 +58,6 @@ pub of_the_machine : (s : Setting) (before : History) (h : ℕ) (c : Choice) (en
 unfolding decide
 of_the_machine s before h c entry is = by_decision (length before) (over_at s before) c (here_in_history s before h) entry is
 
--- the kind of an entry is that of its choice
-pub kind_again : (e : Entry) (k : Kind) → e.kind ≡ k → kind_of (choice_of e) ≡ e.kind
-kind_again e kind.Exec is = rw is refl
-kind_again e kind.Drain is = rw is refl
-kind_again e kind.Take is = rw is refl
-kind_again e kind.Done is = rw is refl
-kind_again e kind.Preempt is = rw is refl
-kind_again e kind.Run is = rw is refl
-kind_again e kind.Signal is = rw is refl
-
 -- 1 for a truth
 abbrev pub one_if : Bool → ℕ
 one_if b = cond b 1 0
@@ -84,7 +74,7 @@ as_number false = refl
 pub leaves_as_entry : (s : Setting) (before : History) (x : Entry) (e : DrawnEvent) (b : Bool) → x.hart ≡ e.hart → choice_of x ≡ e.choice
     → b ≡ leaves_inside s before e.hart.0 (kind_of e.choice) → b ≡ leaves_inside s before x.hart.0 x.kind
 leaves_as_entry s before x e b hart choice is =
-    let kind : x.kind ≡ kind_of e.choice = sym (kind_again x x.kind refl) ∙ ap kind_of choice in
+    let kind : x.kind ≡ kind_of e.choice = sym (kind_back x.kind x.tid) ∙ ap kind_of choice in
     is ∙ sym (ap₂ (λ (h : Hart) (k : Kind). leaves_inside s before h.0 k) hart kind)
 
 -- so one more is a number of 32 bits

@@ -5,15 +5,15 @@ use Rattle.std.specs.Prelude.{min}
 use Rattle.std.proofs.lemmas.Bool.{cases_eq, eqb-true, ne_eqb}
 use Rattle.std.proofs.lemmas.List.{get_or-set_other, get_or-set_same, length-map, length-replicate, length-set, length-take}
 use Rattle.std.proofs.lemmas.List.Elements.{All-replicate, All-set, All-weaker, recursion_from_All}
-use Rattle.mach_types.proofs.Laws.{eqb_same}
-use Rattle.mach_types.specs.Events.{choice_of, kind_of}
+use Rattle.mach_types.proofs.Laws.{eqb_same, kind_back}
+use Rattle.mach_types.specs.Events.{choice_of, kind_of, maker_of, nature_of}
 use Rattle.mach_types.specs.Limits.{InRange}
 use Rattle.mach_types.specs.declared.events.Choice.{Choice}
 use Rattle.mach_types.specs.declared.events.Choice.TheVariants as asked
 use Rattle.mach_types.specs.declared.events.Entry.{Entry}
 use Rattle.mach_types.specs.declared.events.Kind.{Kind}
-use Rattle.mach_types.specs.declared.events.Kind.TheVariants as kind
-use Rattle.mach_types.specs.declared.sequences.Outcome.{Outcome}
+use Rattle.mach_types.specs.declared.events.Maker.{Maker}
+use Rattle.mach_types.specs.declared.events.Maker.TheVariants.{Thread, Buffer, Kernel}
 use Rattle.mach_types.specs.declared.user_memory.Store.{Store}
 use Rattle.rv_inst.specs.Class.{is_call, is_plain_store}
 use Rattle.rv_inst.specs.declared.effects.Effect.{Effect}
@@ -22,24 +22,17 @@ use Rattle.block_model.specs.Deciding.{event, history}
 use Rattle.block_model.specs.Events.{done_of, refusal_of}
 use Rattle.block_model.specs.Events.Drain.{done_drain_of, refusal_drain_of}
 use Rattle.block_model.specs.Events.Exec.{by_call, by_effect, by_outcome, called_here, done_exec_by, has_handler, next_effect, next_fault, outcome_of, refusal_exec_by}
-use Rattle.block_model.specs.Events.Finish.{done_done_by}
-use Rattle.block_model.specs.Events.Preempt.{done_preempt_by}
-use Rattle.block_model.specs.Events.Run.{done_killed, done_run_by, done_running, lives_on}
-use Rattle.block_model.specs.Events.Signal.{done_next, done_signal_by, handled_unless_killed, kills}
-use Rattle.block_model.specs.Events.Take.{done_take_by}
 use Rattle.block_model.specs.Here.{Done, Here, runs, view_of_all, waiting_here}
 use Rattle.block_model.specs.History.{Event, History, here_in_history, waiting}
 use Rattle.block_model.specs.Run.{IsBlockRun, IsRunHistory}
-use Rattle.block_model.specs.Sequences.{interruption_here}
 use Rattle.block_model.specs.Setting.{Seen, Setting}
-use Rattle.block_model.proofs.Laws.{IsStep, history-append, history-nil, length-history, run_before, step_of, waits_apart, within_limit}
-use Rattle.mach_types.specs.Kernel.Signals.{next_for}
+use Rattle.block_model.proofs.Laws.{IsStep, is_by_kernel, of_kernel, history-append, history-nil, length-history, run_before, step_of, waits_apart, within_limit}
 use Rattle.drawings.specs.declared.drawing.Drawing.{Drawing}
 use Rattle.drawn_runs.specs.declared.manner.Manner.{Manner}
 use Rattle.drawn_machine.specs.OnTheWay.{GoesOn, IsOnItsWay}
-use Rattle.drawn_machine.specs.Waits.{Clock, clock, clock_after, clock_behind, clock_by, counts_of, first_clock, no_waits, oldest_waits, wait_counts, wait_counts_in, waits, waits_behind, waits_by, with_wait, with_waits}
+use Rattle.drawn_machine.specs.Waits.{Clock, clock, clock_after, clock_behind, clock_by, clock_made, counts_of, first_clock, no_waits, oldest_waits, wait_counts, wait_counts_in, waits, waits_behind, waits_by, waits_made, with_wait, with_waits}
 use Rattle.drawn_machine.specs.declared.store_waits.TheConstants.{LONG_WAIT}
-use Rattle.drawn_machine.proofs.Inside.{kind_again, of_the_machine}
+use Rattle.drawn_machine.proofs.Inside.{of_the_machine}
 
 -- WHAT AN EVENT DID
 
@@ -56,38 +49,6 @@ IsIdle d = HasDone 0 0 0 d
 either : (n m most : ℕ) (b : Bool) (x y : Done) → HasDone n m most x → HasDone n m most y → HasDone n m most (cond b x y)
 either n m most true x y one other = one
 either n m most false x y one other = other
-
-idle_take : (here : Here) (restart : Bool) (r : Option ℕ) → IsIdle (done_take_by here restart r)
-idle_take here false r = record { instructions = refl; drained = refl; executed = omega arith }
-idle_take here true None = record { instructions = refl; drained = refl; executed = omega arith }
-idle_take here true (Some t) = record { instructions = refl; drained = refl; executed = omega arith }
-
-idle_done : (here : Here) (r : Option ℕ) → IsIdle (done_done_by here r)
-idle_done here None = record { instructions = refl; drained = refl; executed = omega arith }
-idle_done here (Some t) = record { instructions = refl; drained = refl; executed = omega arith }
-
-idle_preempt : (here : Here) (r : Option ℕ) → IsIdle (done_preempt_by here r)
-idle_preempt here None = record { instructions = refl; drained = refl; executed = omega arith }
-idle_preempt here (Some t) = record { instructions = refl; drained = refl; executed = omega arith }
-
-idle_run : (here : Here) (t : ℕ) (o : Outcome) → IsIdle (done_run_by here t o)
-idle_run here t o =
-    either 0 0 0 (lives_on here t o) (done_running here t o) (done_killed here t o)
-    (record { instructions = refl; drained = refl; executed = omega arith })
-    (record { instructions = refl; drained = refl; executed = omega arith })
-
-idle_handled : (here : Here) (t signal : ℕ) (o : Outcome) (killer : Option ℕ) → IsIdle (handled_unless_killed here t signal o killer)
-idle_handled here t signal o None = record { instructions = refl; drained = refl; executed = omega arith }
-idle_handled here t signal o (Some killer) = record { instructions = refl; drained = refl; executed = omega arith }
-
-idle_next : (here : Here) (t : ℕ) (next : Option ℕ) → IsIdle (done_next here t next)
-idle_next here t None = record { instructions = refl; drained = refl; executed = omega arith }
-idle_next here t (Some signal) =
-    let o = interruption_here here t in idle_handled here t signal o (kills here t signal o)
-
-idle_signal : (here : Here) (r : Option ℕ) → IsIdle (done_signal_by here r)
-idle_signal here None = record { instructions = refl; drained = refl; executed = omega arith }
-idle_signal here (Some t) = idle_next here t (next_for t here.kernel.signals)
 
 one_entered : (here : Here) (ws : List Store) → refusal_drain_of ws ≡ None → HasDone 0 1 0 (done_drain_of here ws)
 one_entered here [] free = absurd cc
@@ -119,23 +80,23 @@ one_executed here None free = absurd cc
 one_executed here (Some t) free = executed_effect here t (next_fault here t) (next_effect here t)
 
 -- by its kind
+abbrev IsMadeBy : Maker → Done → Type 0
+IsMadeBy Thread d = HasDone 1 0 1 d
+IsMadeBy Buffer d = HasDone 0 1 0 d
+IsMadeBy Kernel d = IsIdle d
+
 abbrev IsOfKind : Kind → Done → Type 0
-IsOfKind kind.Exec d = HasDone 1 0 1 d
-IsOfKind kind.Drain d = HasDone 0 1 0 d
-IsOfKind kind.Take d = IsIdle d
-IsOfKind kind.Done d = IsIdle d
-IsOfKind kind.Preempt d = IsIdle d
-IsOfKind kind.Run d = IsIdle d
-IsOfKind kind.Signal d = IsIdle d
+IsOfKind k d = IsMadeBy (nature_of k).maker d
+
+idle_event : (here : Here) (c : Choice) → is_by_kernel (maker_of c) ≡ true → IsIdle (done_of c here)
+idle_event here c is =
+    let did = of_kernel here c is in
+    record { instructions = did.instructions; drained = did.drained; executed = let none = ap length did.executed in omega arith }
 
 of_choice : (here : Here) (c : Choice) → refusal_of c here ≡ None → IsOfKind (kind_of c) (done_of c here)
 of_choice here asked.Exec free = one_executed here (runs here) free
 of_choice here asked.Drain free = one_entered here (waiting_here here) free
-of_choice here asked.Take free = idle_take here here.restart (runs here)
-of_choice here asked.Done free = idle_done here (runs here)
-of_choice here asked.Preempt free = idle_preempt here (runs here)
-of_choice here (asked.Run t) free = idle_run here t.0 (interruption_here here t.0)
-of_choice here asked.Signal free = idle_signal here (runs here)
+of_choice here c free = idle_event here c refl
 
 of_event : (s : Setting) (e : Event) (before : History) → IsStep s e before → IsOfKind e.entry.kind e.done
 of_event s e before step =
@@ -143,7 +104,7 @@ of_event s e before step =
     let c = choice_of e.entry in
     let P : Kind → Done → Type 0 = IsOfKind in
     subst (λ (d : Done). P e.entry.kind d) (sym step.did)
-    (subst (λ (k : Kind). P k (done_of c here)) (kind_again e.entry e.entry.kind refl) (of_choice here c step.free))
+    (subst (λ (k : Kind). P k (done_of c here)) (kind_back e.entry.kind e.entry.tid) (of_choice here c step.free))
 
 -- at most one of each
 pub record IsFew (d : Done) : Type 0 where
@@ -158,14 +119,13 @@ few_done n m most d one two three did = record {
   executed = omega (arith, did.executed);
 }
 
+few_made : (m : Maker) (d : Done) → IsMadeBy m d → IsFew d
+few_made Thread d did = few_done 1 0 1 d (omega arith) (omega arith) (omega arith) did
+few_made Buffer d did = few_done 0 1 0 d (omega arith) (omega arith) (omega arith) did
+few_made Kernel d did = few_done 0 0 0 d (omega arith) (omega arith) (omega arith) did
+
 few_of_kind : (k : Kind) (d : Done) → IsOfKind k d → IsFew d
-few_of_kind kind.Exec d did = few_done 1 0 1 d (omega arith) (omega arith) (omega arith) did
-few_of_kind kind.Drain d did = few_done 0 1 0 d (omega arith) (omega arith) (omega arith) did
-few_of_kind kind.Take d did = few_done 0 0 0 d (omega arith) (omega arith) (omega arith) did
-few_of_kind kind.Done d did = few_done 0 0 0 d (omega arith) (omega arith) (omega arith) did
-few_of_kind kind.Preempt d did = few_done 0 0 0 d (omega arith) (omega arith) (omega arith) did
-few_of_kind kind.Run d did = few_done 0 0 0 d (omega arith) (omega arith) (omega arith) did
-few_of_kind kind.Signal d did = few_done 0 0 0 d (omega arith) (omega arith) (omega arith) did
+few_of_kind k d did = few_made (nature_of k).maker d did
 
 -- CLOCKS
 
@@ -253,31 +213,30 @@ unmoved_by d c idle =
     ∙ same_clock 0 0 0 d.instructions d.drained (length d.executed) c (sym idle.instructions) (sym idle.drained)
     (let none = idle.executed in omega (arith, none))
 
-behind_of_kind : (k : Kind) (d : Done) (c : Clock) (waiting : ℕ) → IsOfKind k d → waiting ≡ length c.marks + length d.executed - d.drained
-    → clock_behind k waiting c ≡ clock_after d c
-behind_of_kind kind.Exec d c waiting did is =
+behind_made : (m : Maker) (d : Done) (c : Clock) (waiting : ℕ) → IsMadeBy m d → waiting ≡ length c.marks + length d.executed - d.drained
+    → clock_made m waiting c ≡ clock_after d c
+behind_made Thread d c waiting did is =
     same_clock 1 0 (waiting - length c.marks) d.instructions d.drained (length d.executed) c (sym did.instructions) (sym did.drained)
     (omega (arith, is, did.drained))
-behind_of_kind kind.Drain d c waiting did is =
+behind_made Buffer d c waiting did is =
     same_clock 0 1 0 d.instructions d.drained (length d.executed) c (sym did.instructions) (sym did.drained)
     (let none = did.executed in omega (arith, none))
-behind_of_kind kind.Take d c waiting did is = unmoved_by d c did
-behind_of_kind kind.Done d c waiting did is = unmoved_by d c did
-behind_of_kind kind.Preempt d c waiting did is = unmoved_by d c did
-behind_of_kind kind.Run d c waiting did is = unmoved_by d c did
-behind_of_kind kind.Signal d c waiting did is = unmoved_by d c did
+behind_made Kernel d c waiting did is = unmoved_by d c did
+
+behind_of_kind : (k : Kind) (d : Done) (c : Clock) (waiting : ℕ) → IsOfKind k d → waiting ≡ length c.marks + length d.executed - d.drained
+    → clock_behind k waiting c ≡ clock_after d c
+behind_of_kind k d c waiting did is = behind_made (nature_of k).maker d c waiting did is
 
 none_entered : (d : Done) (c : Clock) → d.drained ≡ 0 → [] ≡ waits_by d c
 none_entered d c none = ap (λ (n : ℕ). oldest_waits n c) (sym none)
 
+waits_by_maker : (m : Maker) (d : Done) (c : Clock) → IsMadeBy m d → waits_made m c ≡ waits_by d c
+waits_by_maker Thread d c did = none_entered d c did.drained
+waits_by_maker Buffer d c did = ap (λ (n : ℕ). oldest_waits n c) (sym did.drained)
+waits_by_maker Kernel d c did = none_entered d c did.drained
+
 waits_of_kind : (k : Kind) (d : Done) (c : Clock) → IsOfKind k d → waits_behind k c ≡ waits_by d c
-waits_of_kind kind.Exec d c did = none_entered d c did.drained
-waits_of_kind kind.Drain d c did = ap (λ (n : ℕ). oldest_waits n c) (sym did.drained)
-waits_of_kind kind.Take d c did = none_entered d c did.drained
-waits_of_kind kind.Done d c did = none_entered d c did.drained
-waits_of_kind kind.Preempt d c did = none_entered d c did.drained
-waits_of_kind kind.Run d c did = none_entered d c did.drained
-waits_of_kind kind.Signal d c did = none_entered d c did.drained
+waits_of_kind k d c did = waits_by_maker (nature_of k).maker d c did
 
 -- COUNTS
 

@@ -1,22 +1,12 @@
 -- Preemptions inside restartable sequences (own): how often a thread left its hart while it was inside a good sequence, as its hart sees
 -- memory.
-use Rattle.std.specs.Prelude.{ℕ, ◌+◌, ◌&&◌, Bool, true, false, [], ◌∷◌, if◌then◌else◌}
+use Rattle.std.specs.Prelude.{ℕ, ◌+◌, ◌&&◌, Bool, [], ◌∷◌, if◌then◌else◌}
+use Rattle.mach_types.specs.Events.{is_preempt}
 use Rattle.mach_types.specs.declared.events.Kind.{Kind}
-use Rattle.mach_types.specs.declared.events.Kind.TheVariants as kind
 use Rattle.block_model.specs.Deciding.{history}
 use Rattle.block_model.specs.History.{History}
 use Rattle.block_model.specs.Setting.{Seen, Setting}
 use Rattle.drawn_runs.specs.DrawnRuns.{scene_at}
-
--- whether a thread leaves its hart by an event of this kind
-abbrev pub is_preempt : Kind → Bool
-is_preempt kind.Exec = false
-is_preempt kind.Drain = false
-is_preempt kind.Take = false
-is_preempt kind.Done = false
-is_preempt kind.Preempt = true
-is_preempt kind.Run = false
-is_preempt kind.Signal = false
 
 -- whether it leaves inside a sequence by an event of hart h at this place
 abbrev pub leaves_inside : Setting → History → ℕ → Kind → Bool

@@ -1,8 +1,10 @@
 -- How long stores wait (own): how many instructions a hart executes behind one of its plain stores until that enters memory. The
 -- instruction of the store itself isn't counted.
 use Rattle.std.specs.Prelude.{ℕ, ◌+◌, ◌-◌, List, [], ◌∷◌, ◌++◌, drop, length, map, min, replicate, slice_index, slice_set, take, if◌then◌else◌}
+use Rattle.mach_types.specs.Events.{nature_of}
 use Rattle.mach_types.specs.declared.events.Kind.{Kind}
-use Rattle.mach_types.specs.declared.events.Kind.TheVariants as kind
+use Rattle.mach_types.specs.declared.events.Maker.{Maker}
+use Rattle.mach_types.specs.declared.events.Maker.TheVariants.{Thread, Buffer, Kernel}
 use Rattle.block_model.specs.Deciding.{history}
 use Rattle.block_model.specs.Here.{Done}
 use Rattle.block_model.specs.History.{History, is_of_hart}
@@ -75,22 +77,20 @@ wait_counts_in m = wait_counts (history m.setting m.log)
 
 -- WHAT IS SEEN OF AN EVENT FROM OUTSIDE
 
--- a clock after an event of its hart of this kind, behind which so many stores of the hart wait
+-- a clock after an event of its hart, by who makes it, behind which so many stores of the hart wait
+abbrev pub clock_made : Maker → ℕ → Clock → Clock
+clock_made Thread waiting c = clock_by 1 0 (waiting - length c.marks) c
+clock_made Buffer waiting c = clock_by 0 1 0 c
+clock_made Kernel waiting c = c
+
 abbrev pub clock_behind : Kind → ℕ → Clock → Clock
-clock_behind kind.Exec waiting c = clock_by 1 0 (waiting - length c.marks) c
-clock_behind kind.Drain waiting c = clock_by 0 1 0 c
-clock_behind kind.Take waiting c = c
-clock_behind kind.Done waiting c = c
-clock_behind kind.Preempt waiting c = c
-clock_behind kind.Run waiting c = c
-clock_behind kind.Signal waiting c = c
+clock_behind k waiting c = clock_made (nature_of k).maker waiting c
 
 -- how long the stores waited that enter memory by it
+abbrev pub waits_made : Maker → Clock → List ℕ
+waits_made Thread c = []
+waits_made Buffer c = oldest_waits 1 c
+waits_made Kernel c = []
+
 abbrev pub waits_behind : Kind → Clock → List ℕ
-waits_behind kind.Exec c = []
-waits_behind kind.Drain c = oldest_waits 1 c
-waits_behind kind.Take c = []
-waits_behind kind.Done c = []
-waits_behind kind.Preempt c = []
-waits_behind kind.Run c = []
-waits_behind kind.Signal c = []
+waits_behind k c = waits_made (nature_of k).maker c

@@ -17,7 +17,7 @@ use crate::store_waits::StoreWaits;
 use drawings::{Drawing, DrawnEvent, Harts};
 use drawn_runs::Manner;
 use elf_load::Image;
-use mach_types::{Choice, End, Entry, Hart, Limits};
+use mach_types::{End, Entry, Hart, Limits};
 use machine_core::Machine;
 use std::alloc::{AllocError, Global};
 
@@ -191,15 +191,7 @@ fn leaves_inside(machine: &Machine, event: DrawnEvent) -> bool
     ensures { let m = machine.now in
         result ≡ leaves_inside m.setting (history m.setting m.log) event.hart.0 (kind_of event.choice) }
 {
-    match event.choice {
-        Choice::Preempt => SeenHarts { machine }.is_inside(event.hart),
-        Choice::Exec
-        | Choice::Drain
-        | Choice::Take
-        | Choice::Done
-        | Choice::Run(_)
-        | Choice::Signal => false,
-    }
+    event.choice.kind().is_preempt() && SeenHarts { machine }.is_inside(event.hart)
 }
 
 /// Whether the run goes on: it hasn't ended, and the log isn't full.

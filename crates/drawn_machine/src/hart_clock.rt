@@ -4,7 +4,7 @@ ghost use Rattle.std.specs.Prelude.{◌≡◌, ◌<◌, ◌≤◌, ◌+◌, ◌-
 ghost use Rattle.drawn_machine.specs.Waits.{clock_behind, clock_by, first_clock, oldest_waits, waits_behind};
 
 use arrayvec::ArrayVec;
-use mach_types::Kind;
+use mach_types::{Kind, Maker};
 use std::marker::Model;
 
 /// What is counted of a hart.
@@ -47,13 +47,13 @@ impl HartClock {
         ensures clock { self.new ≡ clock_behind kind waiting self.old }
         ensures wait { option_to_list result ≡ waits_behind kind self.old }
     {
-        match kind {
-            Kind::Exec => {
+        match kind.nature().maker {
+            Maker::Thread => {
                 self.execute(waiting);
                 None
             }
-            Kind::Drain => self.drain(),
-            Kind::Take | Kind::Done | Kind::Preempt | Kind::Run | Kind::Signal => None,
+            Maker::Buffer => self.drain(),
+            Maker::Kernel => None,
         }
     }
 

@@ -5,6 +5,7 @@ use Rattle.std.specs.Option.{IfSome}
 use Rattle.std.specs.Prelude.{◌==◌}
 use Rattle.std.proofs.lemmas.List.Elements.{All-from_recursion, All-push, All-weaker, recursion_from_All}
 use Rattle.std.proofs.lemmas.List.Sums.{count_by-le-length}
+use Rattle.mach_types.specs.Events.{is_preempt}
 use Rattle.mach_types.specs.declared.events.Entry.{Entry}
 use Rattle.explored_runs.specs.declared.explored.Found.{Found}
 use Rattle.explored_runs.specs.declared.explored.Others.{Others}
@@ -16,7 +17,7 @@ use Rattle.block_model.specs.History.{History}
 use Rattle.block_model.specs.Run.{IsBlockRun}
 use Rattle.block_model.specs.Setting.{Setting}
 use Rattle.block_model.proofs.Laws.{length-history}
-use Rattle.drawn_machine.specs.Preemptions.{is_preempt, leaves_inside, left_inside}
+use Rattle.drawn_machine.specs.Preemptions.{leaves_inside, left_inside}
 use Rattle.drawn_machine.proofs.Waiting.{few_more, few_wait_counts}
 use Rattle.explored_runs.specs.Tallies.{IsShort, harts_in, ran_on, switches_from, switches_in, tally_of}
 use Rattle.explored_runs.proofs.Outcomes.{once_more}

@@ -1,25 +1,14 @@
 -- What was tried in a run (own): on how many harts threads ran, how often another hart went on, how often a thread was preempted, and
 -- inside a restartable sequence, and how many stores waited how long.
-use Rattle.std.specs.Prelude.{ℕ, zero, suc, ◌≤◌, ◌+◌, ◌==◌, ◌&&◌, Bool, true, false, List, [], ◌∷◌, All, count_by, if◌then◌else◌}
+use Rattle.std.specs.Prelude.{ℕ, zero, suc, ◌≤◌, ◌+◌, ◌==◌, ◌&&◌, Bool, List, [], ◌∷◌, All, count_by, if◌then◌else◌}
 use Rattle.std.specs.List.{list_any}
+use Rattle.mach_types.specs.Events.{is_preempt, is_run}
 use Rattle.mach_types.specs.declared.events.Entry.{Entry}
-use Rattle.mach_types.specs.declared.events.Kind.{Kind}
-use Rattle.mach_types.specs.declared.events.Kind.TheVariants as kind
 use Rattle.block_model.specs.Deciding.{history}
 use Rattle.block_model.specs.Setting.{Setting}
-use Rattle.drawn_machine.specs.Preemptions.{is_preempt, left_inside}
+use Rattle.drawn_machine.specs.Preemptions.{left_inside}
 use Rattle.drawn_machine.specs.Waits.{wait_counts}
 use Rattle.explored_runs.specs.declared.tallies.Tally.{Tally}
-
--- whether a thread begins to run by an event of this kind
-abbrev pub is_run : Kind → Bool
-is_run kind.Exec = false
-is_run kind.Drain = false
-is_run kind.Take = false
-is_run kind.Done = false
-is_run kind.Preempt = false
-is_run kind.Run = true
-is_run kind.Signal = false
 
 -- whether a thread began to run on hart h
 abbrev pub ran_on : ℕ → List Entry → Bool

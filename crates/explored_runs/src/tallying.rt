@@ -6,7 +6,7 @@ ghost use Rattle.explored_runs.specs.Tallies.{IsShort, harts_in, preemptions_in,
 
 use crate::tallies::{Tally, Tried};
 use crate::waits::Waits;
-use mach_types::{Entry, Hart, Kind};
+use mach_types::{Entry, Hart};
 use std::alloc::{AllocError, Global};
 
 impl Tally {
@@ -53,7 +53,7 @@ fn ran_on(hart: u8, log: &[Entry]) -> bool
     ensures { result ≡ ran_on hart log.now }
 {
     log.iter()
-        .any(|entry| entry.kind == Kind::Run && entry.hart.0 == hart)
+        .any(|entry| entry.kind.is_run() && entry.hart.0 == hart)
 }
 
 /// How many entries are of another hart than the entry before them.
@@ -87,7 +87,7 @@ fn preemptions(log: &[Entry]) -> usize
     ensures few { result ≤ length log.now }
 {
     log.iter()
-        .filter(|entry| entry.kind == Kind::Preempt)
+        .filter(|entry| entry.kind.is_preempt())
         .count()
 }
 
