@@ -3,18 +3,19 @@ use Rattle.std.proofs.Common.{◌≡◌, ◌≢◌, ℕ, ◌+◌, ◌<◌, ◌^�
 use Rattle.std.specs.Option.{option_map}
 use Rattle.std.proofs.lemmas.Bool.{cases_eq, eqb-true, false_from_ne_true, false≢true}
 use Rattle.std.proofs.lemmas.List.{get_or_default, map-append}
-use Rattle.mach_types.proofs.Laws.{eqb_same}
+use Rattle.mach_types.proofs.Laws.{eqb_same, instruction_runs_none}
+use Rattle.mach_types.specs.Events.{is_instruction, is_preempt, is_run}
 use Rattle.mach_types.specs.declared.events.Hart.{Hart}
 use Rattle.mach_types.specs.declared.events.Kind.{Kind}
 use Rattle.mach_types.specs.declared.events.Kind.TheVariants as kind
 use Rattle.mach_types.specs.declared.events.Tid.{Tid}
+use Rattle.block_model.specs.Acts.{takes_in}
 use Rattle.block_model.specs.declared.acts.SeqEnd.{SeqEnd}
 use Rattle.block_model.specs.declared.acts.SeqEnd.TheVariants as ends
-use Rattle.block_model.specs.Acts.{is_instruction}
-use Rattle.block_view.specs.Acts.{form_alone, is_preempt, is_run}
+use Rattle.block_view.specs.Acts.{form_alone}
 use Rattle.block_view.specs.Counters.{CanEnd, CanNote, CountsAs, KeptCounts, count_noted, count_settled, count_settled_by, ended_one, halted, hart_in, hart_noted, hart_noted_of, hart_of, hung_as, hung_now, hung_of, is_hung, nothing_done, with_alone, with_begun, with_ended}
 use Rattle.block_view.specs.Counting.{counted, counts_of, total}
-use Rattle.block_view.specs.Ledgers.{Kept, act_by, begins, begun, course_by, end_by, going_on, gone_by, gone_on, hanging_of, is_more, is_of, leaves_inside, noted, settled, settled_by, stopped, taken_in, takes, verdict_by, with_act_alone, with_end_at, with_going, with_hanging}
+use Rattle.block_view.specs.Ledgers.{Kept, act_by, begins, begun, course_by, end_by, going_on, gone_by, gone_on, hanging_of, is_more, is_of, leaves_inside, noted, settled, settled_by, stopped, taken_in, verdict_by, with_act_alone, with_end_at, with_going, with_hanging}
 use Rattle.block_view.specs.declared.counter.HartCount.{HartCount}
 use Rattle.block_view.specs.declared.counter.Hung.{Hung}
 use Rattle.block_view.specs.declared.course.Course.{Course}
@@ -164,15 +165,10 @@ counted_none : (acts : List Act) (p : Passed) (form : Form) (j : ℕ) → j ≢ 
 counted_none acts p form j other = counts_other acts (act_by p form) j (apart p.entry.hart.0 j other)
 
 -- an entry that a sequence takes in preempts no thread
-takes_stays : (k : Kind) (interrupts inside : Bool) → (inside && takes k interrupts) ≡ true → (inside && is_preempt k) ≡ false
+takes_stays : (k : Kind) (interrupts inside : Bool) → (inside && takes_in k interrupts) ≡ true → (inside && is_preempt k) ≡ false
 takes_stays k interrupts false is = refl
-takes_stays kind.Exec interrupts true is = refl
-takes_stays kind.Drain interrupts true is = refl
-takes_stays kind.Take interrupts true is = refl
-takes_stays kind.Done interrupts true is = refl
 takes_stays kind.Preempt interrupts true is = absurd (false≢true is)
-takes_stays kind.Run interrupts true is = refl
-takes_stays kind.Signal interrupts true is = refl
+takes_stays k interrupts true is = refl
 
 and_false : (b : Bool) → (b && false) ≡ false
 and_false true = refl
@@ -181,13 +177,7 @@ and_false false = refl
 -- an instruction begins to run no thread
 begins_stays : (k : Kind) (inside : Bool) → (inside && is_instruction k) ≡ true → is_run k ≡ false
 begins_stays k false is = absurd (false≢true is)
-begins_stays kind.Exec true is = refl
-begins_stays kind.Drain true is = refl
-begins_stays kind.Take true is = refl
-begins_stays kind.Done true is = refl
-begins_stays kind.Preempt true is = refl
-begins_stays kind.Run true is = absurd (false≢true is)
-begins_stays kind.Signal true is = refl
+begins_stays k true is = instruction_runs_none k is
 
 module _ (k : Kept) (t : KeptCounts) (p : Passed) (was : CountsAs k t) (lt : p.entry.hart.0 < length k.going) where
   abbrev h : ℕ

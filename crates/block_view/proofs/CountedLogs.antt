@@ -4,6 +4,7 @@ use Rattle.std.specs.Option.{option_map}
 use Rattle.std.proofs.lemmas.Bool.{cases_eq, cases_lt, eqb-true, false_from_ne_true}
 use Rattle.std.proofs.lemmas.List.{get_or-replicate, length-map, length-replicate}
 use Rattle.mach_types.specs.Limits.{InRange}
+use Rattle.mach_types.specs.Events.{is_run}
 use Rattle.mach_types.specs.declared.events.Entry.{Entry}
 use Rattle.mach_types.specs.declared.events.Tid.{Tid}
 use Rattle.block_model.specs.Acts.{Sequence as Known, end_so_far, is_inside_at, sequence_on}
@@ -12,7 +13,7 @@ use Rattle.block_model.specs.History.{Event, History}
 use Rattle.block_model.specs.Run.{IsBlockRun, IsRunHistory}
 use Rattle.block_model.specs.Setting.{Seen, Setting}
 use Rattle.block_model.proofs.Laws.{length-history, within_limit}
-use Rattle.block_view.specs.Acts.{act_of, acts_of, is_run}
+use Rattle.block_view.specs.Acts.{act_of, acts_of}
 use Rattle.block_view.specs.Counters.{CanEnd, CanNote, CountsAs, HasCounts, IsCountOf, KeptCounts, count_noted, counts_at_end, counts_by, hart_in, hart_of, nothing_counted, nothing_done}
 use Rattle.block_view.specs.Counting.{counts_of}
 use Rattle.block_view.specs.Ledgers.{Kept, changed_at, end_here, going_on, hanging_of, noted, nothing_kept, with_end}

@@ -2,6 +2,7 @@
 use Rattle.std.proofs.Common.{◌≡◌, ℕ, ◌+◌, ◌<◌, ◌^◌, List, [], ◌∷◌, ◌++◌, length, map, take, drop, get_or, option_to_list, replicate, reverse, refl, sym, ap, ◌∙◌, subst, arith, eqb, ltb, ◌&&◌, Bool, true, false, cond, Option, Some, None, Result, Ok, Err}
 use Rattle.std.proofs.lemmas.Bool.{eqb-true, false≢true, ltb-false, ltb-true}
 use Rattle.std.proofs.lemmas.List.{get_or-replicate, get_or_past, length-map, length-replicate, map-append, take-append-drop, drop_more}
+use Rattle.mach_types.proofs.Laws.{kind_back}
 use Rattle.mach_types.specs.Events.{choice_of, kind_of}
 use Rattle.mach_types.specs.Limits.{InRange}
 use Rattle.mach_types.specs.declared.events.Entry.{Entry}
@@ -24,7 +25,7 @@ use Rattle.block_view.specs.declared.ledger.Going.{Going as KeptGoing}
 use Rattle.block_view.specs.declared.passing.Passed.{Passed}
 use Rattle.block_view.proofs.Growing.{at-the-end}
 use Rattle.block_view.proofs.Made.{made_at}
-use Rattle.block_view.proofs.Seeing.{history_after, kind_back, run_after}
+use Rattle.block_view.proofs.Seeing.{history_after, run_after}
 use Rattle.block_view.proofs.Ties.{tied_next}
 use Rattle.block_view.proofs.TurnsTold.{turns_told}
 
@@ -154,7 +155,7 @@ both false b is = absurd (false≢true is)
 same_entry : (made entry : Entry) → made.hart.0 ≡ entry.hart.0 → choice_of made ≡ choice_of entry → is_as_said (line_of entry).check made ≡ true → made ≡ entry
 same_entry made entry hart choice said =
     let parts = both (eqb made.tid.0 entry.tid.0) (eqb made.pc entry.pc) said in
-    let kinds : made.kind ≡ entry.kind = sym (kind_back made.kind made) ∙ ap kind_of choice ∙ kind_back entry.kind entry in
+    let kinds : made.kind ≡ entry.kind = sym (kind_back made.kind made.tid) ∙ ap kind_of choice ∙ kind_back entry.kind entry.tid in
     let tid = eqb-true made.tid.0 entry.tid.0 parts.0 in
     let pc = eqb-true made.pc entry.pc parts.1 in
     λ i. record { hart = record { 0 = hart i }; kind = kinds i; tid = record { 0 = tid i }; pc = pc i }

@@ -2,12 +2,13 @@
 use Rattle.std.proofs.Common.{◌≡◌, ◌≤◌, ◌<◌, ℕ, zero, suc, ◌+◌, ◌&&◌, not, [], ◌∷◌, length, slice_get, refl, sym, ap, ◌∙◌, subst, arith, Bool, true, false, cond, Option, Some, None}
 use Rattle.std.proofs.lemmas.Bool.{eqb-false, false≢true}
 use Rattle.std.proofs.lemmas.Option.{slice_get_within}
+use Rattle.mach_types.specs.Events.{is_preempt}
 use Rattle.mach_types.specs.declared.events.Entry.{Entry}
 use Rattle.mach_types.specs.declared.events.Hart.{Hart}
 use Rattle.block_model.specs.Acts.{Sequence, end_at_verdict, end_before, is_inside_at, is_taken_in, sequence_on, with_event}
 use Rattle.block_model.specs.History.{Event, History, is_of_hart}
 use Rattle.block_model.specs.Setting.{Setting}
-use Rattle.block_view.specs.Acts.{act_alone, act_of, begins_to_run, is_preempt}
+use Rattle.block_view.specs.Acts.{act_alone, act_of, begins_to_run}
 use Rattle.block_view.specs.Entries.{HasEntry, IsWithin}
 use Rattle.block_view.specs.Standing.{Standing, after, begun, begun_by, listed, standings}
 use Rattle.block_view.specs.Standing.Standing.{Over, Going, Hanging}

@@ -3,8 +3,8 @@
 use Rattle.std.proofs.Common.{◌≡◌, ℕ, [], ◌∷◌, ◌&&◌, eqb, slice_get, refl, sym, ap, ◌∙◌, Bool, true, false, cond, Option, Some, None}
 use Rattle.std.specs.Option.{option_map_or}
 use Rattle.std.proofs.lemmas.Bool.{eqb-true, false≢true}
-use Rattle.mach_types.proofs.Laws.{eqb_same}
-use Rattle.mach_types.specs.Events.{choice_with}
+use Rattle.mach_types.proofs.Laws.{eqb_same, preempt_is}
+use Rattle.mach_types.specs.Events.{choice_with, is_run}
 use Rattle.mach_types.specs.Kernel.Threads.{is_ready, is_ready_state}
 use Rattle.mach_types.specs.declared.events.Entry.{Entry}
 use Rattle.mach_types.specs.declared.events.Kind.{Kind}
@@ -20,18 +20,13 @@ use Rattle.block_model.specs.History.{Event, History, here_in_history, kernel, r
 use Rattle.block_model.specs.Run.{IsRunHistory}
 use Rattle.block_model.specs.Setting.{Setting}
 use Rattle.block_model.proofs.Laws.{running_is}
-use Rattle.block_view.specs.Acts.{begins_to_run, is_preempt, is_run}
+use Rattle.block_view.specs.Acts.{begins_to_run}
 use Rattle.block_view.specs.Standing.{Standing, standings}
 use Rattle.block_view.specs.Standing.Standing.{Hanging}
 use Rattle.block_view.proofs.Logs.{allowed_at, whole_place}
 use Rattle.block_view.proofs.Places.{Began, Hangs, Hung, Left, Stood, came, going_is_on, hangs, never_hanging, one_going}
 
 -- WHAT IS PREEMPTED RAN
-
--- the one kind that preempts
-preempt_is : (k : Kind) → is_preempt k ≡ true → k ≡ kind.Preempt
-preempt_is kind.Preempt is = refl
-preempt_is other is = absurd (false≢true is)
 
 -- a hart on which a thread may be preempted runs one
 preempted_ran : (here : Here) (r : Option ℕ) → refusal_preempt_by here r ≡ None → r ≡ Some (number_of r)
@@ -80,13 +75,9 @@ module _ (s : Setting) (e : Event) (before : History) (q : Sequence) (run : IsRu
 
   still_by : (k : Kind) → e.entry.kind ≡ k → e.entry.tid.0 ≡ q.thread → is_run k ≡ false → hanging s q.thread before ≡ Some q
       → acts.hanging_after s q.thread e before k (hanging s q.thread before) ≡ Some q
-  still_by kind.Exec is own isnt was = was
-  still_by kind.Drain is own isnt was = was
-  still_by kind.Take is own isnt was = was
-  still_by kind.Done is own isnt was = was
   still_by kind.Preempt is own isnt was = absurd (not_preempted is own was)
   still_by kind.Run is own isnt was = absurd (false≢true (sym isnt))
-  still_by kind.Signal is own isnt was = was
+  still_by k is own isnt was = was
 
   run_only : (k b : Bool) → k && b ≡ false → b ≡ true → k ≡ false
   run_only true true both own = both

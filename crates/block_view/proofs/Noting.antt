@@ -2,7 +2,7 @@
 use Rattle.std.proofs.Common.{◌≡◌, ℕ, ◌<◌, List, length, get_or, refl, sym, ap, ◌∙◌, subst, arith, Bool, true, false, cond, Option, Some, None}
 use Rattle.std.specs.Option.{option_map}
 use Rattle.std.proofs.lemmas.List.{get_or_default}
-use Rattle.block_view.specs.Acts.{is_run}
+use Rattle.mach_types.specs.Events.{is_run}
 use Rattle.block_view.specs.Ledgers.{HasPlaces, Kept, begins, begun, ended_at, going_on, hanging_of, is_more, noted, noted_in, settled, settled_act, settled_act_by, settled_by, stopped, stopped_act, taken_in, turn_in, turn_noted, verdict_by, with_act_alone, with_end, with_end_at, without_hanging}
 use Rattle.block_view.specs.declared.forms.Act.{Act}
 use Rattle.block_view.specs.declared.ledger.Going.{Going}

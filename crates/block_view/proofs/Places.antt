@@ -5,7 +5,8 @@ use Rattle.std.proofs.lemmas.Bool.{eqb-true}
 use Rattle.block_model.specs.Acts.{Sequence, end_at_verdict, end_before, is_inside_at, is_taken_in, sequence_on, with_event}
 use Rattle.block_model.specs.History.{Event, History, is_of_hart}
 use Rattle.block_model.specs.Setting.{Setting}
-use Rattle.block_view.specs.Acts.{act_of, begins_to_run, is_preempt}
+use Rattle.block_view.specs.Acts.{act_of, begins_to_run}
+use Rattle.mach_types.specs.Events.{is_preempt}
 use Rattle.block_view.specs.Standing.{Standing, after, begun, begun_by, standings}
 use Rattle.block_view.specs.Standing.Standing.{Over, Going, Hanging}
 use Rattle.block_view.specs.declared.forms.Act.{Act}

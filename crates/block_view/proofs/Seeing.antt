@@ -2,13 +2,13 @@
 use Rattle.std.proofs.Common.{◌≡◌, ℕ, ◌+◌, ◌<◌, ◌≤◌, ◌^◌, [], ◌∷◌, ◌++◌, leb, length, length-append, refl, sym, ap, ◌∙◌, subst, arith, cond, Bool, true, false, Option, Some, None, is_none, is_some, Ok}
 use Rattle.std.specs.Option.{option_map_or, option_or}
 use Rattle.std.proofs.lemmas.Bool.{leb-false}
-use Rattle.mach_types.specs.Events.{choice_of, choice_with, kind_of}
+use Rattle.mach_types.proofs.Laws.{kind_back}
+use Rattle.mach_types.specs.Events.{choice_of, kind_of}
 use Rattle.mach_types.specs.Limits.{InRange}
 use Rattle.mach_types.specs.declared.events.Choice.{Choice}
 use Rattle.mach_types.specs.declared.events.Entry.{Entry}
 use Rattle.mach_types.specs.declared.events.Hart.{Hart}
 use Rattle.mach_types.specs.declared.events.Kind.{Kind}
-use Rattle.mach_types.specs.declared.events.Kind.TheVariants as kind
 use Rattle.mach_types.specs.declared.limits.End.{End}
 use Rattle.mach_types.specs.declared.limits.End.TheVariants.{Limit, Stuck, Unended}
 use Rattle.mach_types.specs.declared.sequences.Seq.{Seq}
@@ -142,15 +142,6 @@ pub entry_again : (m m' : Seen) (entry : Entry) (passed : Passed) → IsMadeAgai
 unfolding passed_of
 entry_again m m' entry passed again = ap (λ (p : Passed). p.entry) again.seen
 
-pub kind_back : (k : Kind) (entry : Entry) → kind_of (choice_with k entry) ≡ k
-kind_back kind.Exec entry = refl
-kind_back kind.Drain entry = refl
-kind_back kind.Take entry = refl
-kind_back kind.Done entry = refl
-kind_back kind.Preempt entry = refl
-kind_back kind.Run entry = refl
-kind_back kind.Signal entry = refl
-
 module _ (m m' : Seen) (hart : Hart) (c : Choice) (entry : Entry) (is : decide m.setting (history m.setting m.log) hart.0 c ≡ Ok entry)
     (of : (entry.hart ≡ hart) × (choice_of entry ≡ c)) where
   -- a step that is allowed makes the entry that is decided
@@ -164,5 +155,5 @@ module _ (m m' : Seen) (hart : Hart) (c : Choice) (entry : Entry) (is : decide m
   -- and what was seen ahead of it was seen ahead of the entry
   pub ahead_of_step : (k : Kind) (ahead : Ahead) → k ≡ kind_of c → IsAheadOf m hart.0 k ahead → IsAhead m entry ahead
   ahead_of_step k ahead asked seen =
-      let kinds : k ≡ entry.kind = asked ∙ ap kind_of (sym of.1) ∙ kind_back entry.kind entry in
+      let kinds : k ≡ entry.kind = asked ∙ ap kind_of (sym of.1) ∙ kind_back entry.kind entry.tid in
       subst (λ (h : Hart). IsAheadOf m h.0 entry.kind ahead) (sym of.0) (subst (λ x. IsAheadOf m hart.0 x ahead) kinds seen)

@@ -2,7 +2,7 @@
 use Rattle.std.proofs.Common.{◌≡◌, ℕ, List, [], ◌∷◌, ◌&&◌, refl, sym, ap, ◌∙◌, Bool, true, false, cond, not, Option, Some, None, is_none, is_some}
 use Rattle.std.specs.Option.{option_map_or}
 use Rattle.std.proofs.lemmas.Bool.{eqb-false, false≢true}
-use Rattle.mach_types.specs.Events.{choice_with}
+use Rattle.mach_types.specs.Events.{choice_with, is_instruction, is_preempt}
 use Rattle.mach_types.specs.Kernel.Areas.{is_inside, is_inside_named}
 use Rattle.mach_types.specs.declared.events.Entry.{Entry}
 use Rattle.mach_types.specs.declared.events.Kind.{Kind}
@@ -10,11 +10,10 @@ use Rattle.mach_types.specs.declared.events.Kind.TheVariants as kind
 use Rattle.mach_types.specs.declared.limits.End.{End}
 use Rattle.mach_types.specs.declared.sequences.Named.{Named}
 use Rattle.mach_types.specs.declared.sequences.Named.TheVariants as names
-use Rattle.mach_types.specs.declared.sequences.Outcome.{Outcome}
 use Rattle.mach_types.specs.declared.sequences.Seq.{Seq}
 use Rattle.mach_types.specs.declared.threads.Saved.{Saved}
 use Rattle.mach_types.specs.declared.user_memory.Store.{Store}
-use Rattle.block_model.specs.Acts.{Sequence as Known, has_killed, is_inside_at, is_instruction, is_taken_in, moved_out, named_at, sequence_on, with_event}
+use Rattle.block_model.specs.Acts.{Sequence as Known, has_killed, is_inside_at, is_taken_in, moved_out, named_at, sequence_on, with_event}
 use Rattle.block_model.specs.Events.{done_of}
 use Rattle.block_model.specs.Events.Drain.{done_drain_of}
 use Rattle.block_model.specs.Events.Take.{done_take_by}
@@ -23,8 +22,7 @@ use Rattle.block_model.specs.History.{Event, History, file, file_among, here_in_
 use Rattle.block_model.specs.Run.{IsRunHistory}
 use Rattle.block_model.specs.Sequences.{is_inside_here, named_here}
 use Rattle.block_model.specs.Setting.{Setting}
-use Rattle.block_view.specs.Acts.{is_preempt}
-use Rattle.block_view.specs.Ledgers.{begins, gone_on, is_more, leaves_inside, moves_out, takes}
+use Rattle.block_view.specs.Ledgers.{begins, gone_on, is_more, leaves_inside, moves_out}
 use Rattle.block_view.specs.Passing.{inside_at, is_by_signal, is_killed, passed_of, pc_at, sequence_inside}
 use Rattle.block_view.specs.Tied.{going_at}
 use Rattle.block_view.proofs.Logs.{whole_place}
@@ -67,22 +65,10 @@ seen_named s h before sequence is = named_good (named_at s h before) (pc_at s h 
 
 -- WHAT AN EVENT IS TO A SEQUENCE
 
-takes_as : (k : Kind) (o : Option Outcome) → takes k (is_some o) ≡ is_taken_in k o
-takes_as kind.Exec o = refl
-takes_as kind.Drain o = refl
-takes_as kind.Take None = refl
-takes_as kind.Take (Some outcome) = refl
-takes_as kind.Done o = refl
-takes_as kind.Preempt o = refl
-takes_as kind.Run o = refl
-takes_as kind.Signal o = refl
-
 module _ (s : Setting) (e : Event) (before : History) where
   pub more_as : is_more (passed_of s e before) ≡ (is_inside_at s e.entry.hart.0 before && is_taken_in e.entry.kind e.done.interrupted)
   unfolding passed_of
-  more_as =
-      ap (λ b. b && takes e.entry.kind (is_some e.done.interrupted)) (seen_inside s e.entry.hart.0 before)
-      ∙ ap (λ b. is_inside_at s e.entry.hart.0 before && b) (takes_as e.entry.kind e.done.interrupted)
+  more_as = ap (λ b. b && is_taken_in e.entry.kind e.done.interrupted) (seen_inside s e.entry.hart.0 before)
 
   pub begins_as : begins (passed_of s e before) ≡ (is_inside_at s e.entry.hart.0 before && is_instruction e.entry.kind)
   unfolding passed_of
@@ -123,10 +109,7 @@ taken_sets : (k : Kind) (entry : Entry) (here : Here) → is_instruction k ≡ f
 taken_sets kind.Exec entry here other taken = absurd (false≢true (sym other))
 taken_sets kind.Drain entry here other taken = drain_sets here (waiting_here here)
 taken_sets kind.Take entry here other taken = take_sets here here.restart (runs here) taken
-taken_sets kind.Done entry here other taken = absurd (false≢true taken)
-taken_sets kind.Preempt entry here other taken = absurd (false≢true taken)
-taken_sets kind.Run entry here other taken = absurd (false≢true taken)
-taken_sets kind.Signal entry here other taken = absurd (false≢true taken)
+taken_sets k entry here other taken = absurd (false≢true taken)
 
 -- HOW A SEQUENCE GOES ON
 

@@ -1,7 +1,8 @@
 -- How the sequence that a hart's newest event is of comes from the one before it.
 use Rattle.std.proofs.Common.{◌≡◌, ℕ, not, [], ◌∷◌, refl, sym, ap, ◌∙◌, Bool, true, false, cond, Option, Some, None}
 use Rattle.mach_types.proofs.Laws.{eqb_same}
-use Rattle.block_model.specs.Acts.{Sequence, begun_with, is_inside_at, is_instruction, is_taken_in, sequence_on, taken_up, with_event}
+use Rattle.block_model.specs.Acts.{Sequence, begun_with, is_inside_at, is_taken_in, sequence_on, taken_up, with_event}
+use Rattle.mach_types.specs.Events.{is_instruction}
 use Rattle.block_model.specs.History.{Event, History, is_of_hart}
 use Rattle.block_model.specs.Setting.{Setting}
 

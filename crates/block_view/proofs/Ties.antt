@@ -2,21 +2,20 @@
 use Rattle.std.proofs.Common.{◌≡◌, ◌≢◌, ℕ, suc, ◌+◌, ◌<◌, inl, inr, List, [], ◌∷◌, ◌++◌, ◌&&◌, append-nil, length, length-set, map, set, slice_get, find, filter, refl, sym, ap, ◌∙◌, subst, arith, add-one, eqb, Bool, true, false, cond, not, Option, Some, None}
 use Rattle.std.proofs.lemmas.Bool.{cases_eq, eqb-true, false_from_ne_true, false≢true, ne_eqb}
 use Rattle.std.proofs.lemmas.List.{length-map, map-append}
-use Rattle.mach_types.proofs.Laws.{eqb_same}
-use Rattle.mach_types.specs.Events.{choice_with}
+use Rattle.mach_types.proofs.Laws.{eqb_same, instruction_runs_none, preempt_is, run_is}
+use Rattle.mach_types.specs.Events.{choice_with, is_instruction, is_preempt, is_run}
 use Rattle.mach_types.specs.declared.events.Kind.{Kind}
-use Rattle.mach_types.specs.declared.events.Kind.TheVariants as kind
 use Rattle.mach_types.specs.declared.events.Tid.{Tid}
 use Rattle.block_model.specs.declared.acts.SeqEnd.{SeqEnd}
 use Rattle.block_model.specs.declared.acts.SeqEnd.TheVariants.{Unended}
-use Rattle.block_model.specs.Acts.{Sequence as Known, begun_with, end_at_verdict, end_before, is_inside_at, is_instruction, is_taken_in, sequence_on, taken_up, with_event}
+use Rattle.block_model.specs.Acts.{Sequence as Known, begun_with, end_at_verdict, end_before, is_inside_at, is_taken_in, sequence_on, taken_up, with_event}
 use Rattle.block_model.specs.Acts as acts_of_model
 use Rattle.block_model.specs.Events.{refusal_of}
 use Rattle.block_model.specs.History.{Event, History, here_in_history, is_of_hart}
 use Rattle.block_model.specs.Run.{IsRunHistory}
 use Rattle.block_model.specs.Setting.{Setting}
 use Rattle.block_model.proofs.Laws.{run_ready}
-use Rattle.block_view.specs.Acts.{act_alone, act_of, begins_to_run, is_preempt, is_run}
+use Rattle.block_view.specs.Acts.{act_alone, act_of, begins_to_run}
 use Rattle.block_view.specs.Ledgers.{Kept, act_by, begins, begun, changed_at, course_by, end_by, going_on, gone_on, hanging_of, is_more, is_of, leaves_inside, noted, settled, stopped, taken_in, verdict_by, with_act_alone, with_end, with_end_at, with_going, with_hanging, with_last, without_hanging}
 use Rattle.block_view.specs.Passing.{passed_of}
 use Rattle.block_view.specs.Standing.{Standing, after, begun_by, listed, standings}
@@ -46,14 +45,6 @@ both false b is = absurd (false≢true is)
 pub second : (a b : Bool) → (a && b) ≡ true → b ≡ true
 second true b is = is
 second false b is = absurd (false≢true is)
-
-pub run_is : (k : Kind) → is_run k ≡ true → k ≡ kind.Run
-run_is kind.Run is = refl
-run_is other is = absurd (false≢true is)
-
-preempt_is : (k : Kind) → is_preempt k ≡ true → k ≡ kind.Preempt
-preempt_is kind.Preempt is = refl
-preempt_is other is = absurd (false≢true is)
 
 something : {X : Type 0} {x : X} → Some x ≡ None → ⊥
 something is = cc
@@ -488,10 +479,6 @@ module _ (s : Setting) (e : Event) (before : History) (k : Kept) (run : IsRunHis
       and_false true = refl
       and_false false = refl
 
-  run_isnt : (k : Kind) → is_instruction k ≡ true → is_run k ≡ false
-  run_isnt kind.Run is = absurd (false≢true is)
-  run_isnt other is = refl
-
   by_run : (none : on h ≡ None) (b : Bool) → is_run e.entry.kind ≡ b → begins (passed_of s e before) ≡ false → IsTied s (e ∷ before) (noted (passed_of s e before) k)
   by_run none true runs other = tied_run none (none_now none other) runs other
   by_run none false isnt other = tied_other none isnt (none_now none other) other
@@ -500,7 +487,7 @@ module _ (s : Setting) (e : Event) (before : History) (k : Kept) (run : IsRunHis
   by_start none true starts =
       let is = sym (begins_as s e before) ∙ starts in
       let instruction = second (is_inside_at s h before) (is_instruction e.entry.kind) is in
-      tied_begun none (run_isnt e.entry.kind instruction) (both (is_inside_at s h before) (is_instruction e.entry.kind) is) instruction starts
+      tied_begun none (instruction_runs_none e.entry.kind instruction) (both (is_inside_at s h before) (is_instruction e.entry.kind) is) instruction starts
   by_start none false other = by_run none (is_run e.entry.kind) refl other
 
   by_sequence : (o : Option Known) → on h ≡ o → IsTied s (e ∷ before) (noted (passed_of s e before) k)

@@ -2,20 +2,19 @@
 use Rattle.std.proofs.Common.{◌≡◌, ◌≢◌, ℕ, zero, suc, List, [], ◌∷◌, ◌++◌, ◌&&◌, eqb, map, option_to_list, slice_get, refl, sym, ap, ◌∙◌, arith, Bool, true, false, cond, Option, Some, None}
 use Rattle.std.specs.List.{cons_option, filter_map}
 use Rattle.std.specs.Option.{option_map}
-use Rattle.std.proofs.lemmas.Bool.{false_from_ne_true, false≢true}
+use Rattle.std.proofs.lemmas.Bool.{false_from_ne_true}
 use Rattle.std.proofs.lemmas.Option.{slice_get-map}
-use Rattle.mach_types.proofs.Laws.{eqb_same}
-use Rattle.mach_types.specs.declared.events.Kind.{Kind}
-use Rattle.mach_types.specs.declared.events.Kind.TheVariants as kind
+use Rattle.mach_types.proofs.Laws.{eqb_same, instruction_runs_none, run_is}
+use Rattle.mach_types.specs.Events.{is_instruction, is_preempt, is_run}
 use Rattle.mach_types.specs.declared.events.Tid.{Tid}
 use Rattle.mach_types.specs.declared.sequences.Seq.{Seq}
 use Rattle.block_model.specs.declared.acts.SeqEnd.{SeqEnd}
-use Rattle.block_model.specs.Acts.{Sequence as Known, begun_with, end_at_verdict, end_before, is_inside_at, is_instruction, is_taken_in, sequence_on, taken_up, with_event}
+use Rattle.block_model.specs.Acts.{Sequence as Known, begun_with, end_at_verdict, end_before, is_inside_at, is_taken_in, sequence_on, taken_up, with_event}
 use Rattle.block_model.specs.Acts as acts_of_model
 use Rattle.block_model.specs.History.{Event, History}
 use Rattle.block_model.specs.Run.{IsRunHistory}
 use Rattle.block_model.specs.Setting.{Setting}
-use Rattle.block_view.specs.Acts.{act_of, begins_to_run, is_preempt, is_run}
+use Rattle.block_view.specs.Acts.{act_of, begins_to_run}
 use Rattle.block_view.specs.Ledgers.{Kept, begins, end_by, ended_at, hanging_of, is_more, leaves_inside, settled, settled_act, settled_act_by, stopped_act, turn_in, turn_noted, verdict_by, with_end}
 use Rattle.block_view.specs.Passing.{inside_at, passed_of}
 use Rattle.block_view.specs.Standing.{Standing, after, begun_by, listed, standings, unended}
@@ -31,7 +30,7 @@ use Rattle.block_view.proofs.HangingPlaces.{hanging_hangs, one_hanging}
 use Rattle.block_view.proofs.Places.{takes_in}
 use Rattle.block_view.proofs.SeenInside.{begins_as, leaves_as, more_as}
 use Rattle.block_view.proofs.Sequences.{own_hart, taken_on}
-use Rattle.block_view.proofs.Ties.{among, becomes_by, both, fixed, its_thread, kept_on, no_going, none_now, other_acts, over_by, own, own_event, own_inside, own_on, run_is, second, settled_so}
+use Rattle.block_view.proofs.Ties.{among, becomes_by, both, fixed, its_thread, kept_on, no_going, none_now, other_acts, over_by, own, own_event, own_inside, own_on, second, settled_so}
 use Rattle.block_view.proofs.Verdicts.{verdict_as}
 
 -- LISTS OF WHAT A FEW ELEMENTS GIVE
@@ -72,11 +71,6 @@ turns_begun (Some q) = refl
 turns_ended : (act : Option Act) → map Ends (option_to_list act) ≡ option_to_list (option_map Ends act)
 turns_ended None = refl
 turns_ended (Some act) = refl
-
--- an instruction begins to run no thread
-instruction_isnt : (k : Kind) → is_instruction k ≡ true → is_run k ≡ false
-instruction_isnt kind.Run is = absurd (false≢true is)
-instruction_isnt other is = refl
 
 module _ (s : Setting) (e : Event) (before : History) (k : Kept) (run : IsRunHistory s (e ∷ before)) (tied : IsTied s before k) where
   abbrev h : ℕ
@@ -123,7 +117,7 @@ module _ (s : Setting) (e : Event) (before : History) (k : Kept) (run : IsRunHis
         ∙ ap (λ b. cond b (taken_up h e before (sequence_on s h before)) None) inside
         ∙ ap (taken_up h e before) none
         ∙ ap (λ b. cond b (Some q) None) instruction in
-        let isnt : is_run e.entry.kind ≡ false = instruction_isnt e.entry.kind instruction in
+        let isnt : is_run e.entry.kind ≡ false = instruction_runs_none e.entry.kind instruction in
         let ends_none = given_none (ended_by s e before) acts (λ j y at. unended_by y
         (fixed s e before k run tied y (no_going s e before k run tied none j y at) (λ r same. ap (λ b. b && eqb e.entry.tid.0 r.thread) isnt))) in
         ap (λ xs. map Begins (sequences_begun s e before) ++ map Ends xs) ends_none

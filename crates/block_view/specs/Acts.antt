@@ -1,11 +1,13 @@
 -- The acts of a log (own): its events, grouped. A restartable sequence (rseq(2)) is one act, from the instruction with which it
 -- begins on; each other event is an act of its own. What a sequence takes in is decided by the events that follow it, and so is how
 -- it ends.
-use Rattle.std.specs.Prelude.{ℕ, ◌+◌, ◌==◌, ◌&&◌, Bool, true, false, not, List, [], ◌∷◌, ◌++◌, if◌then◌else◌, length, reverse, Option, Some, None}
+use Rattle.std.specs.Prelude.{ℕ, ◌+◌, ◌==◌, ◌&&◌, Bool, not, List, [], ◌∷◌, ◌++◌, if◌then◌else◌, length, reverse, Option, Some, None}
 use Rattle.std.specs.Option.{option_to_list}
+use Rattle.mach_types.specs.Events.{is_preempt, is_run, nature_of}
 use Rattle.mach_types.specs.declared.events.Entry.{Entry}
 use Rattle.mach_types.specs.declared.events.Kind.{Kind}
-use Rattle.mach_types.specs.declared.events.Kind.TheVariants as kind
+use Rattle.mach_types.specs.declared.events.Maker.{Maker}
+use Rattle.mach_types.specs.declared.events.Maker.TheVariants as maker
 use Rattle.block_model.specs.declared.acts.SeqEnd.{SeqEnd}
 use Rattle.block_model.specs.declared.acts.SeqEnd.TheVariants as ends
 use Rattle.block_model.specs.Acts.{Sequence as Known, end_at_verdict, end_before, end_so_far, is_inside_at, is_taken_in, sequence_on, with_event}
@@ -22,24 +24,6 @@ use Rattle.block_view.specs.declared.forms.Form.TheVariants.{Step, Kernel, Seque
 pub record Whole : Type 0 where
   pub sequence : Known
   pub end : SeqEnd
-
-abbrev pub is_preempt : Kind → Bool
-is_preempt kind.Exec = false
-is_preempt kind.Drain = false
-is_preempt kind.Take = false
-is_preempt kind.Done = false
-is_preempt kind.Preempt = true
-is_preempt kind.Run = false
-is_preempt kind.Signal = false
-
-abbrev pub is_run : Kind → Bool
-is_run kind.Exec = false
-is_run kind.Drain = false
-is_run kind.Take = false
-is_run kind.Done = false
-is_run kind.Preempt = false
-is_run kind.Run = true
-is_run kind.Signal = false
 
 -- whether thread t begins to run by an event
 abbrev pub begins_to_run : ℕ → Event → Bool
@@ -69,14 +53,13 @@ abbrev pub next_number : History → ℕ
 next_number before = length before + 1
 
 -- the act that an event is by itself: a step, where it is an instruction or a store that enters memory, or one of the kernel
+abbrev pub form_by : Maker → Form
+form_by maker.Thread = Step
+form_by maker.Buffer = Step
+form_by maker.Kernel = Kernel
+
 abbrev pub form_alone : Kind → Form
-form_alone kind.Exec = Step
-form_alone kind.Drain = Step
-form_alone kind.Take = Kernel
-form_alone kind.Done = Kernel
-form_alone kind.Preempt = Kernel
-form_alone kind.Run = Kernel
-form_alone kind.Signal = Kernel
+form_alone k = form_by (nature_of k).maker
 
 abbrev pub act_alone : Event → History → Act
 act_alone e before = record {

@@ -3,12 +3,13 @@
 use Rattle.std.specs.Prelude.{ℕ, ◌+◌, ◌-◌, ◌≡◌, ◌<◌, ◌≤◌, ◌^◌, ◌==◌, List, [], ◌∷◌, ◌++◌, length, map, filter, find, replicate, slice_get, slice_set, slice_index_or, Bool, ◌&&◌, not, if◌then◌else◌, Option, Some, None, is_some}
 use Rattle.std.specs.Option.{option_map}
 use Rattle.mach_types.specs.Limits.{InRange}
+use Rattle.mach_types.specs.Events.{is_run}
 use Rattle.mach_types.specs.declared.events.Entry.{Entry}
 use Rattle.mach_types.specs.declared.events.Tid.{Tid}
 use Rattle.block_model.specs.declared.acts.SeqEnd.{SeqEnd}
 use Rattle.block_model.specs.declared.acts.SeqEnd.TheVariants as ends
 use Rattle.block_model.specs.Setting.{Seen, Setting}
-use Rattle.block_view.specs.Acts.{acts_of, form_alone, is_run}
+use Rattle.block_view.specs.Acts.{acts_of, form_alone}
 use Rattle.block_view.specs.Counting.{counted, counted_end, counts_of, no_counts, total}
 use Rattle.block_view.specs.Ledgers.{Kept, begins, course_by, end_by, end_here, going_on, gone_by, is_more, leaves_inside, verdict_by}
 use Rattle.block_view.specs.Passing.{IsMadeAgain}

@@ -1,15 +1,14 @@
 -- What an entry makes of the acts so far, as a ledger keeps them.
 use Rattle.std.specs.Prelude.{ℕ, ◌+◌, ◌≡◌, ◌<◌, ◌==◌, zero, suc, List, [], ◌∷◌, ◌++◌, length, filter, find, replicate, slice_get, slice_set, slice_index_or, Bool, true, false, ◌&&◌, ◌||◌, not, if◌then◌else◌, Option, Some, None, is_none, is_some}
 use Rattle.std.specs.Option.{option_map, option_map_or}
+use Rattle.mach_types.specs.Events.{is_instruction, is_preempt, is_run}
 use Rattle.mach_types.specs.Kernel.Areas.{is_inside}
-use Rattle.mach_types.specs.declared.events.Kind.{Kind}
-use Rattle.mach_types.specs.declared.events.Kind.TheVariants as kind
 use Rattle.mach_types.specs.declared.events.Tid.{Tid}
 use Rattle.mach_types.specs.declared.sequences.Seq.{Seq}
+use Rattle.block_model.specs.Acts.{takes_in}
 use Rattle.block_model.specs.declared.acts.SeqEnd.{SeqEnd}
 use Rattle.block_model.specs.declared.acts.SeqEnd.TheVariants as ends
-use Rattle.block_model.specs.Acts.{is_instruction}
-use Rattle.block_view.specs.Acts.{form_alone, is_preempt, is_run}
+use Rattle.block_view.specs.Acts.{form_alone}
 use Rattle.block_view.specs.declared.course.Course.{Course}
 use Rattle.block_view.specs.declared.forms.Act.{Act}
 use Rattle.block_view.specs.declared.forms.Form.{Form}
@@ -32,17 +31,8 @@ abbrev pub begins : Passed → Bool
 begins p = is_some p.inside && is_instruction p.entry.kind
 
 -- the sequence that its hart was in takes it in
-abbrev pub takes : Kind → Bool → Bool
-takes kind.Exec interrupts = true
-takes kind.Drain interrupts = true
-takes kind.Take interrupts = not interrupts
-takes kind.Done interrupts = false
-takes kind.Preempt interrupts = false
-takes kind.Run interrupts = false
-takes kind.Signal interrupts = false
-
 abbrev pub is_more : Passed → Bool
-is_more p = is_some p.inside && takes p.entry.kind p.interrupts
+is_more p = is_some p.inside && takes_in p.entry.kind p.interrupts
 
 -- it preempted its thread inside
 abbrev pub leaves_inside : Passed → Bool

@@ -1,11 +1,10 @@
 -- What is seen of an entry as it is made again: of its hart before it, of what it did, and of its hart after it.
-use Rattle.std.specs.Prelude.{ℕ, ◌≡◌, ◌++◌, [], ◌∷◌, Bool, true, false, ◌&&◌, not, if◌then◌else◌, Ok, Option, Some, None, is_none, is_some}
+use Rattle.std.specs.Prelude.{ℕ, ◌≡◌, ◌++◌, [], ◌∷◌, Bool, true, false, not, if◌then◌else◌, Ok, Option, Some, None, is_none, is_some}
 use Rattle.std.specs.Option.{option_map_or}
-use Rattle.mach_types.specs.Events.{choice_of}
+use Rattle.mach_types.specs.Events.{choice_of, is_interrupting, nature_of}
 use Rattle.mach_types.specs.Kernel.Areas.{is_inside}
 use Rattle.mach_types.specs.declared.events.Entry.{Entry}
 use Rattle.mach_types.specs.declared.events.Kind.{Kind}
-use Rattle.mach_types.specs.declared.events.Kind.TheVariants as kind
 use Rattle.mach_types.specs.declared.limits.End.{End}
 use Rattle.mach_types.specs.declared.limits.End.TheVariants as over
 use Rattle.mach_types.specs.declared.sequences.Named.{Named}
@@ -37,13 +36,7 @@ inside_at s h before = sequence_inside (named_at s h before) (pc_at s h before)
 -- whether an event of this kind interrupts a thread on its hart, where a request there asks for a restart or doesn't, and the hart is
 -- idle or isn't
 abbrev pub would_interrupt : Kind → Bool → Bool → Bool
-would_interrupt kind.Exec restart idle = false
-would_interrupt kind.Drain restart idle = false
-would_interrupt kind.Take restart idle = restart && not idle
-would_interrupt kind.Done restart idle = false
-would_interrupt kind.Preempt restart idle = false
-would_interrupt kind.Run restart idle = true
-would_interrupt kind.Signal restart idle = true
+would_interrupt k restart idle = is_interrupting (nature_of k).interruption restart (not idle)
 
 -- whether a signal ended the process
 abbrev pub is_by_signal : End → Bool

@@ -5,7 +5,8 @@ use Rattle.block_model.specs.declared.acts.SeqEnd.TheVariants as ends
 use Rattle.block_model.specs.Acts.{Sequence as Known, end_at_verdict, end_before, is_inside_at, is_taken_in, sequence_on, with_event}
 use Rattle.block_model.specs.History.{Event, History, is_of_hart}
 use Rattle.block_model.specs.Setting.{Setting}
-use Rattle.block_view.specs.Acts.{act_alone, act_of, begins_to_run, followed, is_preempt, verdict}
+use Rattle.block_view.specs.Acts.{act_alone, act_of, begins_to_run, followed, verdict}
+use Rattle.mach_types.specs.Events.{is_preempt}
 use Rattle.block_view.specs.declared.forms.Act.{Act}
 
 -- an act at a place

@@ -5,17 +5,18 @@ ghost use Rattle.std.specs.Option.{option_map};
 ghost use Rattle.mach_types.specs.Limits.{InRange};
 ghost use Rattle.block_model.specs.Deciding.{decide, history};
 ghost use Rattle.block_model.specs.History.{restart, running};
-ghost use Rattle.block_model.specs.Acts.{is_instruction, named_at};
+ghost use Rattle.block_model.specs.Acts.{named_at, takes_in};
+ghost use Rattle.mach_types.specs.Events.{is_instruction, is_run};
 ghost use Rattle.block_model.specs.Setting.{Seen};
-ghost use Rattle.block_view.specs.Acts.{form_alone, is_run};
-ghost use Rattle.block_view.specs.Ledgers.{begins, is_fatal, is_more, leaves_inside, moves_out, takes, verdict_by};
+ghost use Rattle.block_view.specs.Acts.{form_alone};
+ghost use Rattle.block_view.specs.Ledgers.{begins, is_fatal, is_more, leaves_inside, moves_out, verdict_by};
 ghost use Rattle.block_view.specs.Passing.{IsAhead, IsAheadOf, IsDecided, IsMadeAgain, IsMadeBy, inside_at, is_by_signal, would_interrupt};
 ghost use Rattle.block_view.specs.declared.turns.Turn.TheVariants.{Begins};
 
 use crate::forms::Form;
 use crate::turns::Turn;
 use block_model::{Refused, SeqEnd};
-use mach_types::{Choice, End, Entry, Hart, Kind, Named, Seq};
+use mach_types::{BarrierPart, Choice, End, Entry, Hart, Interruption, Kind, Maker, Named, Seq};
 use machine_core::Machine;
 
 /// An entry that was made.
@@ -54,14 +55,14 @@ impl Passed {
     pub fn executes(&self) -> bool
         ensures { result ≡ is_instruction self.now.entry.kind }
     {
-        matches!(self.entry.kind, Kind::Exec)
+        self.entry.kind.is_instruction()
     }
 
     /// Whether its thread begins to run by it.
     pub fn runs(&self) -> bool
         ensures { result ≡ is_run self.now.entry.kind }
     {
-        matches!(self.entry.kind, Kind::Run)
+        self.entry.kind.is_run()
     }
 
     /// Whether a sequence begins with it, where its hart was in none.
@@ -85,28 +86,23 @@ impl Passed {
     pub fn is_taken_in(&self) -> bool
         ensures { result ≡ is_more self.now }
     {
-        self.inside.is_some()
-            && match self.entry.kind {
-                Kind::Exec | Kind::Drain => true,
-                Kind::Take => !self.interrupts,
-                Kind::Done | Kind::Preempt | Kind::Run | Kind::Signal => false,
-            }
+        self.inside.is_some() && takes_in(self.entry.kind, self.interrupts)
     }
 
     /// Whether it preempted its thread inside a sequence.
     pub fn leaves_inside(&self) -> bool
         ensures { result ≡ leaves_inside self.now }
     {
-        self.inside.is_some() && matches!(self.entry.kind, Kind::Preempt)
+        self.inside.is_some() && self.entry.kind.is_preempt()
     }
 
     /// The act that it is by itself.
     pub fn form_alone(&self) -> Form
         ensures { result ≡ form_alone self.now.entry.kind }
     {
-        match self.entry.kind {
-            Kind::Exec | Kind::Drain => Form::Step,
-            Kind::Take | Kind::Done | Kind::Preempt | Kind::Run | Kind::Signal => Form::Kernel,
+        match self.entry.kind.nature().maker {
+            Maker::Thread | Maker::Buffer => Form::Step,
+            Maker::Kernel => Form::Kernel,
         }
     }
 
@@ -132,6 +128,17 @@ impl Passed {
         } else {
             SeqEnd::Cut(self.pc)
         }
+    }
+}
+
+/// Whether a sequence takes in an event of this kind, before which its thread is inside, and which interrupts a thread or doesn't.
+fn takes_in(kind: Kind, interrupts: bool) -> bool
+    ensures { result ≡ takes_in kind interrupts }
+{
+    let nature = kind.nature();
+    match nature.maker {
+        Maker::Thread | Maker::Buffer => true,
+        Maker::Kernel => matches!(nature.barriers, BarrierPart::Takes) && !interrupts,
     }
 }
 
@@ -161,13 +168,13 @@ fn interrupts(machine: &Machine, hart: Hart, kind: Kind) -> bool
     ensures { result ≡ would_interrupt kind (restart hart.0 (history machine.now.setting machine.now.log))
         (is_none (running machine.now.setting hart.0 (history machine.now.setting machine.now.log))) }
 {
-    match kind {
-        Kind::Run | Kind::Signal => true,
-        Kind::Take => {
+    match kind.nature().interruption {
+        Interruption::Never => false,
+        Interruption::Requested => {
             let state = machine.hart(hart);
             state.restart && !state.is_idle()
         }
-        Kind::Exec | Kind::Drain | Kind::Done | Kind::Preempt => false,
+        Interruption::Scheduled | Interruption::Signalled => true,
     }
 }
 

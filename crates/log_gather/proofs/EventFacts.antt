@@ -2,7 +2,7 @@
 use Rattle.std.proofs.Common.{◌≡◌, ℕ, [], ◌∷◌, ◌++◌, length, refl, sym, ap, ◌∙◌, Bool, true, false, cond, not, ◌&&◌, Option, Some, None, is_none, is_some}
 use Rattle.std.specs.Option.{option_and_then, option_map, option_map_or}
 use Rattle.std.specs.Prelude.{IfSome, unwrap_or}
-use Rattle.mach_types.specs.Events.{choice_of}
+use Rattle.mach_types.specs.Events.{choice_of, is_instruction}
 use Rattle.mach_types.specs.Kernel.Areas.{is_inside_named}
 use Rattle.mach_types.specs.Kernel.Threads.{running_on}
 use Rattle.mach_types.specs.declared.events.Entry.{Entry}
@@ -11,7 +11,7 @@ use Rattle.mach_types.specs.declared.sequences.Named.TheVariants as names
 use Rattle.rseq_area.specs.Lookups.{looked_at}
 use Rattle.rseq_area.specs.declared.lookups.Lookups.{Lookups}
 use Rattle.process.specs.Sequences.{looked_at_on, named_on}
-use Rattle.block_model.specs.Acts.{is_instruction, is_taken_in}
+use Rattle.block_model.specs.Acts.{is_taken_in}
 use Rattle.block_model.specs.Deciding.{done, event, history}
 use Rattle.block_model.specs.Events.{done_of}
 use Rattle.block_model.specs.Footprints.{bytes_of_all}

@@ -5,7 +5,7 @@ use Rattle.std.specs.List.{AllByRecursion, fold}
 use Rattle.std.specs.Option.{option_map_or}
 use Rattle.std.proofs.lemmas.Bool.{cases_Bool, eqb-false, eqb-true, false≢true}
 use Rattle.mach_types.proofs.Laws.{eqb_same}
-use Rattle.mach_types.specs.Events.{choice_of, choice_with}
+use Rattle.mach_types.specs.Events.{choice_of, choice_with, is_instruction, is_preempt}
 use Rattle.mach_types.specs.Kernel.Areas.{is_inside_named}
 use Rattle.mach_types.specs.Kernel.Threads.{running_on}
 use Rattle.mach_types.specs.declared.events.Entry.{Entry}
@@ -15,7 +15,7 @@ use Rattle.mach_types.specs.declared.sequences.Named.TheVariants as names
 use Rattle.mach_types.specs.declared.threads.Saved.{Saved}
 use Rattle.mach_types.specs.declared.user_memory.Store.{Store}
 use Rattle.block_model.proofs.Laws.{IsFit, history-append, next_event, run_before, same_here}
-use Rattle.block_model.specs.Acts.{Sequence as Known, abort_of, cut_or, end_at_verdict, end_before, end_so_far, has_died, has_killed, is_fatal, is_inside_at, is_instruction, is_taken_in, left_or_dropped, moved_out, named_at, with_event}
+use Rattle.block_model.specs.Acts.{Sequence as Known, abort_of, cut_or, end_at_verdict, end_before, end_so_far, has_died, has_killed, is_fatal, is_inside_at, is_taken_in, left_or_dropped, moved_out, named_at, with_event}
 use Rattle.block_model.specs.declared.acts.SeqEnd.TheVariants as ends
 use Rattle.block_model.specs.Deciding.{done, event, history}
 use Rattle.block_model.specs.Events.{done_of}
@@ -26,7 +26,7 @@ use Rattle.block_model.specs.Record.{Kernel}
 use Rattle.block_model.specs.Run.{IsBlockRun}
 use Rattle.block_model.specs.Sequences.{is_inside_waiting, named_here}
 use Rattle.block_model.specs.Setting.{Setting}
-use Rattle.block_view.specs.Acts.{Whole, begins_to_run, followed, is_preempt, verdict}
+use Rattle.block_view.specs.Acts.{Whole, begins_to_run, followed, verdict}
 use Rattle.block_view.specs.Counting.{is_left}
 use Rattle.log_gather.specs.LogEvents.{LogEvent, entry_of, is_own, log_event, log_events, facts_of}
 use Rattle.log_gather.specs.Spans.{after_act, begins_act, goes_on, is_inside_at_place, is_inside_next, rest_of_act}
@@ -51,11 +51,7 @@ fit_after s earlier e run =
 pub plain_kind : (k : Kind) (e : Entry) (here : Here) → is_plain (choice_with k e) here ≡ true → (k ≡ kind.Exec) ⊎ (k ≡ kind.Drain)
 plain_kind kind.Exec e here plain = inl refl
 plain_kind kind.Drain e here plain = inr refl
-plain_kind kind.Take e here plain = absurd (false≢true plain)
-plain_kind kind.Done e here plain = absurd (false≢true plain)
-plain_kind kind.Preempt e here plain = absurd (false≢true plain)
-plain_kind kind.Run e here plain = absurd (false≢true plain)
-plain_kind kind.Signal e here plain = absurd (false≢true plain)
+plain_kind k e here plain = absurd (false≢true plain)
 
 -- a plain event leaves the record, and ends nothing
 pub record IsQuiet (s : Setting) (before : History) (e : Entry) : Type 0 where

@@ -6,12 +6,12 @@ use Rattle.std.specs.Option.{option_to_list}
 use Rattle.std.proofs.lemmas.List.{reverse-append}
 use Rattle.std.proofs.lemmas.Bool.{cases_Bool, eqb-true}
 use Rattle.mach_types.proofs.Laws.{eqb_same}
-use Rattle.mach_types.specs.Events.{choice_of}
+use Rattle.mach_types.specs.Events.{choice_of, is_instruction, is_preempt}
 use Rattle.mach_types.specs.declared.events.Entry.{Entry}
 use Rattle.mach_types.specs.declared.events.Kind.{Kind}
 use Rattle.mach_types.specs.declared.events.Kind.TheVariants as kind
 use Rattle.block_model.proofs.Laws.{history-append, run_before, same_here}
-use Rattle.block_model.specs.Acts.{Sequence as Known, begun_with, is_inside_at, is_instruction, is_taken_in, sequence_on, taken_up, with_event}
+use Rattle.block_model.specs.Acts.{Sequence as Known, begun_with, is_inside_at, is_taken_in, sequence_on, taken_up, with_event}
 use Rattle.block_model.specs.Deciding.{done, event, history}
 use Rattle.block_model.specs.Events.{done_of}
 use Rattle.block_model.specs.Here.{runs}
@@ -19,7 +19,7 @@ use Rattle.block_model.specs.History.{Event, History, here_in_history, is_of_har
 use Rattle.block_model.specs.Plain.{here_in_plain, plain_after}
 use Rattle.block_model.specs.Run.{IsBlockRun}
 use Rattle.block_model.specs.Setting.{Setting}
-use Rattle.block_view.specs.Acts.{Whole, act_begun_by, acts_after, acts_of, followed, form_alone, is_preempt}
+use Rattle.block_view.specs.Acts.{Whole, act_begun_by, acts_after, acts_of, followed, form_alone}
 use Rattle.block_view.specs.declared.forms.Act.{Act}
 use Rattle.log_gather.specs.Gathered.{is_sequence_form, names_in}
 use Rattle.log_gather.specs.LogEvents.{LogEvent, Name, log_events}
@@ -132,12 +132,7 @@ followed_hart s q before (e ∷ later) =
 
 alone_is_none : (k : Kind) → is_sequence_form (form_alone k) ≡ false
 alone_is_none kind.Exec = refl
-alone_is_none kind.Drain = refl
-alone_is_none kind.Take = refl
-alone_is_none kind.Done = refl
-alone_is_none kind.Preempt = refl
-alone_is_none kind.Run = refl
-alone_is_none kind.Signal = refl
+alone_is_none k = refl
 
 -- how many acts came before, with one more
 abbrev with_act : ℕ → (ℕ → ℕ) → ℕ → ℕ

@@ -4,13 +4,13 @@ use Rattle.std.specs.List.{AllByRecursion}
 use Rattle.std.specs.Option.{option_to_list}
 use Rattle.std.proofs.lemmas.Bool.{and_parts, cases_Bool, eqb-true, false≢true}
 use Rattle.mach_types.proofs.Laws.{eqb_same}
-use Rattle.mach_types.specs.Events.{choice_of, choice_with}
+use Rattle.mach_types.specs.Events.{choice_of, choice_with, is_instruction, is_preempt}
 use Rattle.mach_types.specs.declared.events.Choice.TheVariants as asked
 use Rattle.mach_types.specs.declared.events.Entry.{Entry}
 use Rattle.mach_types.specs.declared.events.Kind.{Kind}
 use Rattle.mach_types.specs.declared.events.Kind.TheVariants as kind
 use Rattle.block_model.proofs.Laws.{history-append, next_event, run_before, same_here}
-use Rattle.block_model.specs.Acts.{Sequence as Known, begun_with, is_inside_at, is_instruction, is_taken_in, end_before, sequence_on, with_event}
+use Rattle.block_model.specs.Acts.{Sequence as Known, begun_with, is_inside_at, is_taken_in, end_before, sequence_on, with_event}
 use Rattle.block_model.specs.Deciding.{event, history, number_of, thread_in}
 use Rattle.block_model.specs.Events.{done_of}
 use Rattle.block_model.specs.Here.{Here, runs}
@@ -20,7 +20,7 @@ use Rattle.mach_types.specs.Kernel.Threads.{running_on}
 use Rattle.block_model.specs.Record.{Kernel}
 use Rattle.block_model.specs.Run.{IsBlockRun}
 use Rattle.block_model.specs.Setting.{Setting}
-use Rattle.block_view.specs.Acts.{Whole, act_alone, act_begun_by, act_of, acts_after, acts_of, followed, form_alone, is_preempt, verdict}
+use Rattle.block_view.specs.Acts.{Whole, act_alone, act_begun_by, act_of, acts_after, acts_of, followed, form_alone, verdict}
 use Rattle.block_view.specs.Counting.{is_ended, is_left}
 use Rattle.block_view.specs.declared.forms.Act.{Act}
 use Rattle.log_gather.specs.Gathered.{nth_act}
@@ -221,12 +221,7 @@ nth_other h (suc n) a as' other = ap (λ b. cond b (nth_act h n as') (nth_act h 
 
 alone_left : (k : Kind) → is_ended is_left (form_alone k) ≡ false
 alone_left kind.Exec = refl
-alone_left kind.Drain = refl
-alone_left kind.Take = refl
-alone_left kind.Done = refl
-alone_left kind.Preempt = refl
-alone_left kind.Run = refl
-alone_left kind.Signal = refl
+alone_left k = refl
 
 begun_is : (s : Setting) (x : Event) (before : History) (q : Known) → sequence_on s x.entry.hart.0 before ≡ None → sequence_on s x.entry.hart.0 (x ∷ before) ≡ Some q → begun_with x.entry.hart.0 x before ≡ q
 begun_is s x before q none is =

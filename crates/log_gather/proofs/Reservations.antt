@@ -64,11 +64,7 @@ plain_reserves_of asked.Exec here plain = go (runs here)
     go None = refl
     go (Some t) = effect_reserves here t (next_effect here t)
 plain_reserves_of asked.Drain here plain = drain_reserves here.reserved (waiting_here here)
-plain_reserves_of asked.Take here plain = absurd (false≢true plain)
-plain_reserves_of asked.Done here plain = absurd (false≢true plain)
-plain_reserves_of asked.Preempt here plain = absurd (false≢true plain)
-plain_reserves_of (asked.Run t) here plain = absurd (false≢true plain)
-plain_reserves_of asked.Signal here plain = absurd (false≢true plain)
+plain_reserves_of c here plain = absurd (false≢true plain)
 
 -- the reservations after a plain event, by its facts
 pub reserved_is : (s : Setting) (p : Place) (e : Entry) → (facts_at s p e).plain ≡ true → (next_place s p e).machine.reserved ≡ reserved_next (facts_at s p e) p.machine.reserved

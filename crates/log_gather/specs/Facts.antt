@@ -2,13 +2,13 @@
 -- event that is moved takes its facts with it (own).
 use Rattle.std.specs.Prelude.{ℕ, ◌==◌, ◌&&◌, Bool, false, not, List, [], ◌∷◌, ◌++◌, filter, fold, if◌then◌else◌, Option, None}
 use Rattle.std.specs.Option.{option_map_or}
-use Rattle.mach_types.specs.Events.{choice_of}
+use Rattle.mach_types.specs.Events.{choice_of, is_instruction}
 use Rattle.mach_types.specs.declared.events.Choice.{Choice}
 use Rattle.mach_types.specs.declared.events.Entry.{Entry}
 use Rattle.mach_types.specs.declared.sequences.Outcome.{Outcome}
 use Rattle.mach_types.specs.declared.threads.Saved.{Saved}
 use Rattle.mach_types.specs.Kernel.Areas.{is_inside_named}
-use Rattle.block_model.specs.Acts.{is_instruction, is_taken_in}
+use Rattle.block_model.specs.Acts.{is_taken_in}
 use Rattle.block_model.specs.Events.{done_of}
 use Rattle.rv_inst.specs.Accesses.{Bytes}
 use Rattle.block_model.specs.Footprints.{Footprint, bytes_of_all}

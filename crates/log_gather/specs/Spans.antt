@@ -1,7 +1,7 @@
 -- Gathered logs by the events alone: the span of each sequence is found by the facts of the events, and no act is looked at (own).
 use Rattle.std.specs.Prelude.{ℕ, zero, suc, ◌+◌, ◌==◌, ◌&&◌, ◌||◌, Bool, true, false, not, List, [], ◌∷◌, ◌++◌, fold, map, if◌then◌else◌}
+use Rattle.mach_types.specs.Events.{is_instruction}
 use Rattle.mach_types.specs.declared.events.Entry.{Entry}
-use Rattle.block_model.specs.Acts.{is_instruction}
 use Rattle.block_model.specs.Here.{runs}
 use Rattle.block_model.specs.Plain.{here_in_plain}
 use Rattle.block_model.specs.Setting.{Setting}

@@ -1,7 +1,7 @@
 //! The events of a log as they are moved: what is large of an event stays where it is, and a mark has its number.
 
 ghost use Rattle.std.specs.Prelude.{◌≡◌, ◌<◌, ◌||◌, not, true, IfOk, None, length, slice_index_or};
-ghost use Rattle.block_model.specs.Acts as act;
+ghost use Rattle.mach_types.specs.Events as events;
 ghost use Rattle.log_gather.specs.Accesses.{bytes_in};
 ghost use Rattle.log_gather.specs.Facts as facts;
 ghost use Rattle.log_gather.specs.LogEvents.{held_by};
@@ -83,9 +83,9 @@ impl Mark {
 
     /// Whether it is an instruction.
     pub(crate) fn is_instruction(&self) -> bool
-        ensures { result ≡ act.is_instruction self.now.kind }
+        ensures { result ≡ events.is_instruction self.now.kind }
     {
-        matches!(self.kind, Kind::Exec)
+        self.kind.is_instruction()
     }
 
     /// Puts down what is reserved before it, by its number. Most often nothing else is, and it isn't written.

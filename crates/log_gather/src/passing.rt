@@ -186,7 +186,7 @@ fn access_of_entry(machine: &Machine, entry: Entry) -> Option<Access>
     match entry.kind {
         Kind::Exec => access_of_next(machine, entry.hart),
         Kind::Drain => Some(access_of_drain(machine.hart(entry.hart).buffer.oldest())),
-        Kind::Take | Kind::Done | Kind::Preempt | Kind::Run | Kind::Signal => None,
+        _ => None,
     }
 }
 
