@@ -3,7 +3,6 @@ use Rattle.std.proofs.Common.{◌≡◌, ℕ, List, [], ◌∷◌, refl, sym, ap
 use Rattle.std.proofs.lemmas.Bool.{false≢true}
 use Rattle.std.specs.Option.{option_map}
 use Rattle.std.specs.Prelude.{slice_get}
-use Rattle.mach_types.specs.Kernel.Signals.{next_for}
 use Rattle.mach_types.specs.Kernel.Threads.{running_on, state_of}
 use Rattle.mach_types.specs.declared.events.Choice.{Choice}
 use Rattle.mach_types.specs.declared.events.Choice.TheVariants as asked
@@ -18,16 +17,17 @@ use Rattle.block_model.specs.Deciding.{number_of, thread_in}
 use Rattle.block_model.specs.Events.{done_of, refusal_of}
 use Rattle.block_model.specs.Events.Drain.{refusal_drain_of}
 use Rattle.block_model.specs.Events.Exec.{by_call, by_effect, by_outcome, called_here, done_exec_by, has_handler, next_effect, next_fault, outcome_of, refusal_exec_by}
-use Rattle.block_model.specs.Events.Finish.{done_done_by, refusal_done_by}
+use Rattle.block_model.specs.Events.Finish.{refusal_done_by}
 use Rattle.block_model.specs.Events.Preempt.{done_preempt_by}
 use Rattle.block_model.specs.Events.Run.{done_killed, done_running, lives_on}
-use Rattle.block_model.specs.Events.Signal.{done_next, done_signal_by, handled_unless_killed, kills, refusal_signal_by}
+use Rattle.block_model.specs.Events.Signal.{refusal_signal_by}
 use Rattle.block_model.specs.Events.Take.{done_take_by}
 use Rattle.block_model.specs.Here.{Done, Here, runs, waiting_here}
 use Rattle.block_model.specs.History.{file_among}
 use Rattle.block_model.specs.PlainEvents.{is_plain, is_plain_exec_by, is_plain_exec_of}
 use Rattle.block_model.specs.Sequences.{interruption_here}
 use Rattle.block_model.specs.Sights.{effect_here, effect_on, fault_here, fault_on}
+use Rattle.block_model.proofs.Laws.{of_kernel}
 use Rattle.block_model.proofs.Swaps.PlainEvents.{plain_parts}
 use Rattle.process.specs.Foresight.{foreseen_writes}
 use Rattle.process.specs.Harts.{file_on}
@@ -57,11 +57,7 @@ no_store (w ∷ ws) free none = cc
 pub not_plain : (c : Choice) (here : Here) → refusal_of c here ≡ None → plain_event_of c here ≡ None → is_plain c here ≡ false
 not_plain asked.Exec here free none = no_instruction here (runs here) (is_plain_exec_by here (runs here)) refl none
 not_plain asked.Drain here free none = absurd (no_store (waiting_here here) free none)
-not_plain asked.Take here free none = refl
-not_plain asked.Done here free none = refl
-not_plain asked.Preempt here free none = refl
-not_plain (asked.Run t) here free none = refl
-not_plain asked.Signal here free none = refl
+not_plain c here free none = refl
 
 -- STORES
 
@@ -90,51 +86,15 @@ quiet_exec : (here : Here) (o : Option ℕ) → is_plain_exec_by here o ≡ fals
 quiet_exec here None plain = quiet _ refl refl
 quiet_exec here (Some t) plain = quiet_next here t (next_fault here t) (next_effect here t) plain
 
-quiet_take : (here : Here) (restart : Bool) (o : Option ℕ) → IsQuiet (done_take_by here restart o)
-quiet_take here false o = quiet _ refl refl
-quiet_take here true None = quiet _ refl refl
-quiet_take here true (Some t) = quiet _ refl refl
-
-quiet_done : (here : Here) (o : Option ℕ) → IsQuiet (done_done_by here o)
-quiet_done here None = quiet _ refl refl
-quiet_done here (Some t) = quiet _ refl refl
-
-quiet_preempt : (here : Here) (o : Option ℕ) → IsQuiet (done_preempt_by here o)
-quiet_preempt here None = quiet _ refl refl
-quiet_preempt here (Some t) = quiet _ refl refl
-
-quiet_delivery : (here : Here) (t signal : ℕ) (o : Outcome) (killer : Option ℕ) → IsQuiet (handled_unless_killed here t signal o killer)
-quiet_delivery here t signal o None = quiet _ refl refl
-quiet_delivery here t signal o (Some killer) = quiet _ refl refl
-
-quiet_for : (here : Here) (t : ℕ) (next : Option ℕ) → IsQuiet (done_next here t next)
-quiet_for here t None = quiet _ refl refl
-quiet_for here t (Some signal) = quiet_delivery here t signal (interruption_here here t) (kills here t signal (interruption_here here t))
-
-quiet_signal : (here : Here) (o : Option ℕ) → IsQuiet (done_signal_by here o)
-quiet_signal here None = quiet _ refl refl
-quiet_signal here (Some t) = quiet_for here t (next_for t here.kernel.signals)
-
 pub is_quiet : (c : Choice) (here : Here) → is_plain c here ≡ false → IsQuiet (done_of c here)
 is_quiet asked.Exec here plain = quiet_exec here (runs here) plain
 is_quiet asked.Drain here plain = absurd (false≢true (sym plain))
-is_quiet asked.Take here plain = quiet_take here here.restart (runs here)
-is_quiet asked.Done here plain = quiet_done here (runs here)
-is_quiet asked.Preempt here plain = quiet_preempt here (runs here)
-is_quiet (asked.Run t) here plain =
-    quiet_either (lives_on here t.0 (interruption_here here t.0)) (done_running here t.0 (interruption_here here t.0)) (done_killed here t.0 (interruption_here here t.0))
-    (quiet _ refl refl) (quiet _ refl refl)
-is_quiet asked.Signal here plain = quiet_signal here (runs here)
+is_quiet c here plain = let did = of_kernel here c refl in record { executed = did.executed; drained = did.drained }
 
 -- it executes no instruction that reads anything
 pub executes_none : (c : Choice) (here : Here) → is_plain c here ≡ false → executed_by c here ≡ None
 executes_none asked.Exec here plain = ap (λ b. cond b (effect_here here) None) plain
-executes_none asked.Drain here plain = refl
-executes_none asked.Take here plain = refl
-executes_none asked.Done here plain = refl
-executes_none asked.Preempt here plain = refl
-executes_none (asked.Run t) here plain = refl
-executes_none asked.Signal here plain = refl
+executes_none c here plain = refl
 
 -- CALLS
 
@@ -172,12 +132,7 @@ calls_on here (Some t) call is = calls_next (next_fault here t) (next_effect her
 
 pub is_calling_here : (c : Choice) (here : Here) (call : SystemCall) → call_by c here ≡ Some call → IsCalling c here
 is_calling_here asked.Exec here call is = let both = calls_on here (runs here) call is in record { choice = refl; effect = both.0; fault = both.1 }
-is_calling_here asked.Drain here call is = absurd cc
-is_calling_here asked.Take here call is = absurd cc
-is_calling_here asked.Done here call is = absurd cc
-is_calling_here asked.Preempt here call is = absurd cc
-is_calling_here (asked.Run t) here call is = absurd cc
-is_calling_here asked.Signal here call is = absurd cc
+is_calling_here c here call is = absurd cc
 
 -- a fault writes nothing
 fault_either : (b : Bool) (x y : Done) → x.entered ≡ [] → y.entered ≡ [] → (cond b x y).entered ≡ []
@@ -202,11 +157,7 @@ fault_on_hart here (Some t) plain none = fault_next here t (next_fault here t) (
 pub all_foreseen : (c : Choice) (here : Here) → is_plain c here ≡ false → call_by c here ≡ None → foreseen_writes c here ≡ (done_of c here).entered
 all_foreseen asked.Exec here plain none = sym (fault_on_hart here (runs here) plain none)
 all_foreseen asked.Drain here plain none = absurd (false≢true (sym plain))
-all_foreseen asked.Take here plain none = refl
-all_foreseen asked.Done here plain none = refl
-all_foreseen asked.Preempt here plain none = refl
-all_foreseen (asked.Run t) here plain none = refl
-all_foreseen asked.Signal here plain none = refl
+all_foreseen c here plain none = refl
 
 -- THE REGISTERS OF ITS THREAD
 

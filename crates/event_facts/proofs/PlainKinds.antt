@@ -64,11 +64,7 @@ executes asked.Drain here e is = no_drain (slice_get (waiting_here here) 0) is
     no_drain : (o : Option Store) → option_map Drain o ≡ Some (Instruction e) → Executes asked.Drain here e
     no_drain None is = absurd cc
     no_drain (Some w) is = absurd cc
-executes asked.Take here e is = absurd cc
-executes asked.Done here e is = absurd cc
-executes asked.Preempt here e is = absurd cc
-executes (asked.Run t) here e is = absurd cc
-executes asked.Signal here e is = absurd cc
+executes c here e is = absurd cc
 
 -- and does this
 pub instruction_done : (c : Choice) (here : Here) (e : Effect) (x : Executes c here e) → done_of c here ≡ as_done here.kernel (plain_outcome x.thread (outcome_of here x.thread e))
@@ -97,11 +93,7 @@ drains asked.Exec here w is = no_instruction (executed_by asked.Exec here) is
     no_instruction None is = absurd cc
     no_instruction (Some e) is = absurd cc
 drains asked.Drain here w is = record { choice = refl; oldest = same_store (slice_get (waiting_here here) 0) w is; by = refl }
-drains asked.Take here w is = absurd cc
-drains asked.Done here w is = absurd cc
-drains asked.Preempt here w is = absurd cc
-drains (asked.Run t) here w is = absurd cc
-drains asked.Signal here w is = absurd cc
+drains c here w is = absurd cc
 
 -- what is done as this store enters memory
 abbrev pub drained : Here → Store → Done

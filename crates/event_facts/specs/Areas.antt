@@ -1,11 +1,11 @@
 -- The facts of the words of areas (rseq(2); uapi linux/rseq.h, `struct rseq`): which words of the area of an event's thread have another
 -- number after an event of the kernel. They are read at the places before it and after it. What a program stores there is told as any
 -- other store is.
-use Rattle.std.specs.Prelude.{ℕ, ◌==◌, Bool, true, false, List, [], ◌∷◌, ◌++◌, if◌then◌else◌, Option, Some, None, is_some}
+use Rattle.std.specs.Prelude.{ℕ, ◌==◌, ◌&&◌, ◌||◌, Bool, true, false, List, [], ◌∷◌, ◌++◌, if◌then◌else◌, Option, Some, None, is_some}
 use Rattle.std.specs.Option.{option_map, option_map_or}
 use Rattle.mach_types.specs.Bytes.{word_at}
+use Rattle.mach_types.specs.Events.{is_instruction, is_interrupting, kind_of, nature_of}
 use Rattle.mach_types.specs.declared.events.Choice.{Choice}
-use Rattle.mach_types.specs.declared.events.Choice.TheVariants as asked
 use Rattle.mach_types.specs.declared.sequences.Area.{Area}
 use Rattle.mach_types.specs.declared.sequences.TheConstants.{CPU_ID, FLAGS, MM_CID, NODE_ID, RSEQ_CS}
 use Rattle.rv_inst.specs.Words.{sum_64}
@@ -72,15 +72,9 @@ area_words None byte (Some area) = kept_words (words_of byte area)
 
 -- OF AN EVENT
 
--- whether the kernel writes in events of this choice, which are this call or none
+-- whether the kernel writes in events of this choice, which are this call or none: in those that may interrupt a thread, and in calls
 abbrev pub is_of_kernel : Choice → Option SystemCall → Bool
-is_of_kernel asked.Exec call = is_some call
-is_of_kernel asked.Drain call = false
-is_of_kernel asked.Take call = true
-is_of_kernel asked.Done call = false
-is_of_kernel asked.Preempt call = false
-is_of_kernel (asked.Run t) call = true
-is_of_kernel asked.Signal call = true
+is_of_kernel c call = is_interrupting (nature_of (kind_of c)).interruption true true || (is_instruction (kind_of c) && is_some call)
 
 -- an area, and what stands there; that of thread t
 abbrev pub area_with : (ℕ → Option ℕ) → Area → AreaBefore

@@ -4,8 +4,8 @@ use Rattle.std.specs.Prelude.{ℕ, ◌-◌, ◌^◌, ◌==◌, ◌&&◌, ◌||�
 use Rattle.std.specs.Option.{option_map_or}
 use Rattle.mach_types.specs.Kernel.Threads.{state_of}
 use Rattle.mach_types.specs.Registers.{register}
+use Rattle.mach_types.specs.Events.{is_instruction, kind_of}
 use Rattle.mach_types.specs.declared.events.Choice.{Choice}
-use Rattle.mach_types.specs.declared.events.Choice.TheVariants as asked
 use Rattle.mach_types.specs.declared.events.Entry.{Entry}
 use Rattle.mach_types.specs.declared.limits.End.{End}
 use Rattle.mach_types.specs.declared.limits.End.TheVariants.{Exit, Killed, Stuck, Limit, Unended}
@@ -44,13 +44,7 @@ call_on here (Some t) = if is_calling (next_fault here t) (next_effect here t) t
 
 -- the call that an event is, if it is one
 abbrev pub call_by : Choice → Here → Option SystemCall
-call_by asked.Exec here = call_on here (runs here)
-call_by asked.Drain here = None
-call_by asked.Take here = None
-call_by asked.Done here = None
-call_by asked.Preempt here = None
-call_by (asked.Run t) here = None
-call_by asked.Signal here = None
+call_by c here = if is_instruction (kind_of c) then call_on here (runs here) else None
 
 abbrev pub call_facts : Option SystemCall → List Fact
 call_facts None = []

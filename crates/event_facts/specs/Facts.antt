@@ -1,13 +1,12 @@
 -- The facts of an event (own): what it read and where that came from, the store that it executed, the writes that entered memory with it,
 -- what it made of reservations, and which registers of its thread changed. All that is read off the definition of what the event did.
-use Rattle.std.specs.Prelude.{ℕ, ◌==◌, Bool, List, [], ◌∷◌, ◌++◌, map, if◌then◌else◌, Option, Some, None}
+use Rattle.std.specs.Prelude.{ℕ, ◌==◌, ◌&&◌, Bool, List, [], ◌∷◌, ◌++◌, map, if◌then◌else◌, Option, Some, None}
 use Rattle.std.specs.List.{flat_map, list_all, range_with_len}
 use Rattle.mach_types.specs.Bytes.{after_writes}
-use Rattle.mach_types.specs.Events.{choice_of}
+use Rattle.mach_types.specs.Events.{choice_of, is_instruction, kind_of}
 use Rattle.mach_types.specs.Kernel.Threads.{running_on, state_of}
 use Rattle.mach_types.specs.Registers.{register}
 use Rattle.mach_types.specs.declared.events.Choice.{Choice}
-use Rattle.mach_types.specs.declared.events.Choice.TheVariants as asked
 use Rattle.mach_types.specs.declared.events.Entry.{Entry}
 use Rattle.mach_types.specs.declared.registers.Regs.{Regs}
 use Rattle.mach_types.specs.declared.threads.Saved.{Saved}
@@ -39,13 +38,7 @@ use Rattle.event_facts.specs.declared.facts.Source.{Source}
 
 -- the effect of the instruction that an event executes, where it makes neither a fault nor a call
 abbrev pub executed_by : Choice → Here → Option Effect
-executed_by asked.Exec here = if is_plain asked.Exec here then effect_here here else None
-executed_by asked.Drain here = None
-executed_by asked.Take here = None
-executed_by asked.Done here = None
-executed_by asked.Preempt here = None
-executed_by (asked.Run t) here = None
-executed_by asked.Signal here = None
+executed_by c here = if is_instruction (kind_of c) && is_plain c here then effect_here here else None
 
 -- the bytes whose number an instruction with this effect reads: a load, an AMO and an LR do (RISC-V Unprivileged ISA, chapters RV32I,
 -- RV64I and "A")

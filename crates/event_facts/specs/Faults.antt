@@ -2,8 +2,8 @@
 -- address. It is read at the place before the event.
 use Rattle.std.specs.Prelude.{ℕ, ◌==◌, List, [], if◌then◌else◌, Option, Some, None}
 use Rattle.std.specs.Option.{option_map, option_to_list}
+use Rattle.mach_types.specs.Events.{is_instruction, kind_of}
 use Rattle.mach_types.specs.declared.events.Choice.{Choice}
-use Rattle.mach_types.specs.declared.events.Choice.TheVariants as asked
 use Rattle.mach_types.specs.declared.signals.TheConstants.{SIGBUS, SIGSEGV, SIGTRAP}
 use Rattle.rv_inst.specs.Class.{asks}
 use Rattle.rv_inst.specs.declared.class.Access.{Access}
@@ -44,10 +44,4 @@ fault_of here (Some t) = option_map (fault_told (next_effect here t) (here.file 
 
 -- that of an event
 abbrev pub fault_facts : Choice → Here → List Fact
-fault_facts asked.Exec here = option_to_list (fault_of here (runs here))
-fault_facts asked.Drain here = []
-fault_facts asked.Take here = []
-fault_facts asked.Done here = []
-fault_facts asked.Preempt here = []
-fault_facts (asked.Run t) here = []
-fault_facts asked.Signal here = []
+fault_facts c here = if is_instruction (kind_of c) then option_to_list (fault_of here (runs here)) else []

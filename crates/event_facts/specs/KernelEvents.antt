@@ -1,12 +1,12 @@
 -- The facts of an event that isn't plain, as code finds them: by what the kernel wrote in it, by the reservations before it, and by its
 -- hart and the registers of its thread before it and after it.
-use Rattle.std.specs.Prelude.{ℕ, ◌==◌, List, [], ◌++◌, map, slice_get, unwrap_or, if◌then◌else◌, Option, Some, None}
+use Rattle.std.specs.Prelude.{ℕ, ◌==◌, ◌||◌, Bool, List, [], ◌++◌, map, slice_get, unwrap_or, if◌then◌else◌, Option, Some, None}
 use Rattle.std.specs.List.{flat_map, range_with_len}
-use Rattle.mach_types.specs.Events.{choice_of}
+use Rattle.mach_types.specs.Events.{choice_of, is_instruction, is_return, kind_of}
 use Rattle.mach_types.specs.Kernel.Threads.{state_of}
 use Rattle.mach_types.specs.declared.events.Choice.{Choice}
-use Rattle.mach_types.specs.declared.events.Choice.TheVariants as asked
 use Rattle.mach_types.specs.declared.events.Entry.{Entry}
+use Rattle.mach_types.specs.declared.events.Kind.{Kind}
 use Rattle.mach_types.specs.declared.registers.Regs.{Regs}
 use Rattle.mach_types.specs.declared.user_memory.Write.{Write}
 use Rattle.mach_types.specs.declared.user_memory.Write.TheVariants.{Stored, Zeroed}
@@ -17,6 +17,7 @@ use Rattle.block_model.specs.Setting.{Seen}
 use Rattle.event_facts.specs.Facts.{changed_registers, kernel_fact, registers_seen}
 use Rattle.event_facts.specs.Reservations.{ended_facts, lost_facts}
 use Rattle.event_facts.specs.Telling.{here_on}
+use Rattle.event_facts.specs.Pending.{is_signal}
 use Rattle.event_facts.specs.declared.facts.Fact.{Fact}
 
 -- RESERVATIONS
@@ -46,16 +47,14 @@ lost_from h kept ws k = if h == k then [] else lost_facts k (reservation_in kept
 abbrev pub registers_after : Here → ℕ → Option Regs
 registers_after after t = registers_seen (runs after) (state_of t after.kernel.threads) t (after.file t)
 
--- of an event of this choice, whose hart had these registers before it, and whose thread has those after it: an instruction, a barrier that
--- returns and the delivery of a signal set registers of the thread that runs there; and what else isn't plain sets none
+-- whether an event sets registers of the thread that runs on its hart: an instruction, a barrier that returns and the delivery of a
+-- signal do; and what else isn't plain sets none
+abbrev pub sets_own : Kind → Bool
+sets_own k = is_instruction k || is_return k || is_signal k
+
+-- of an event of this choice, whose hart had these registers before it, and whose thread has those after it
 abbrev pub changed_own : Choice → Regs → Option Regs → List Fact
-changed_own asked.Exec before after = changed_registers before after
-changed_own asked.Drain before after = []
-changed_own asked.Take before after = []
-changed_own asked.Done before after = changed_registers before after
-changed_own asked.Preempt before after = []
-changed_own (asked.Run t) before after = []
-changed_own asked.Signal before after = changed_registers before after
+changed_own c before after = if sets_own (kind_of c) then changed_registers before after else []
 
 -- ALL
 

@@ -1,13 +1,16 @@
 -- The facts of signals (signal(7), sigaction(2), tkill(2)): which one was delivered, which came to be pending for a thread, and which is
 -- pending no longer. They are read off the signals before an event and after it.
-use Rattle.std.specs.Prelude.{ℕ, ◌+◌, ◌==◌, ◌&&◌, Bool, false, not, List, [], ◌∷◌, map, slice_get, unwrap_or, if◌then◌else◌, Option, Some, None}
+use Rattle.std.specs.Prelude.{ℕ, ◌+◌, ◌==◌, ◌&&◌, Bool, true, false, not, List, [], ◌∷◌, map, slice_get, unwrap_or, if◌then◌else◌, Option, Some, None}
 use Rattle.std.specs.List.{flat_map, range_with_len}
 use Rattle.std.specs.Option.{option_map_or, option_to_list}
 use Rattle.mach_types.specs.Kernel.Signals.{Signalling, has_signal, is_held, next_for, pending_of}
 use Rattle.mach_types.specs.Registers.{register}
+use Rattle.mach_types.specs.Events.{kind_of, nature_of}
 use Rattle.mach_types.specs.declared.events.Choice.{Choice}
-use Rattle.mach_types.specs.declared.events.Choice.TheVariants as asked
 use Rattle.mach_types.specs.declared.events.Entry.{Entry}
+use Rattle.mach_types.specs.declared.events.Interruption.{Interruption}
+use Rattle.mach_types.specs.declared.events.Interruption.TheVariants.{Never, Requested, Scheduled, Signalled}
+use Rattle.mach_types.specs.declared.events.Kind.{Kind}
 use Rattle.mach_types.specs.declared.threads.Saved.{Saved}
 use Rattle.block_model.specs.Deciding.{end_of}
 use Rattle.block_model.specs.Here.{runs}
@@ -25,15 +28,19 @@ use Rattle.event_facts.specs.declared.facts.Fact.TheVariants.{DeliveryKills, Han
 abbrev pub next_held : ℕ → Signalling → Option ℕ
 next_held t g = if is_held t g then next_for t g else None
 
+-- whether an event delivers a signal: it interrupts its thread by one
+abbrev pub is_delivering : Interruption → Bool
+is_delivering Never = false
+is_delivering Requested = false
+is_delivering Scheduled = false
+is_delivering Signalled = true
+
+abbrev pub is_signal : Kind → Bool
+is_signal k = is_delivering (nature_of k).interruption
+
 -- the signal that an event of thread t delivers, where these are the signals before it
 abbrev pub delivered_by : Choice → ℕ → Signalling → Option ℕ
-delivered_by asked.Exec t g = None
-delivered_by asked.Drain t g = None
-delivered_by asked.Take t g = None
-delivered_by asked.Done t g = None
-delivered_by asked.Preempt t g = None
-delivered_by (asked.Run u) t g = None
-delivered_by asked.Signal t g = next_held t g
+delivered_by c t g = if is_signal (kind_of c) then next_held t g else None
 
 -- what came of it: the process ended, or the thread has this file. Then it is at the handler, and its frame at the stack pointer, which is x2
 -- (RISC-V psABI)

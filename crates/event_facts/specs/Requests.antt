@@ -2,22 +2,23 @@
 -- before the event. A call begins a barrier; that is read at the place after it.
 use Rattle.std.specs.Prelude.{ℕ, List, [], ◌∷◌, Option, Some, None}
 use Rattle.std.specs.Option.{option_map, option_to_list}
+use Rattle.mach_types.specs.Events.{kind_of, nature_of}
+use Rattle.mach_types.specs.declared.events.BarrierPart.{BarrierPart}
+use Rattle.mach_types.specs.declared.events.BarrierPart.TheVariants.{Apart, Takes, Returns}
 use Rattle.mach_types.specs.declared.events.Choice.{Choice}
-use Rattle.mach_types.specs.declared.events.Choice.TheVariants as asked
 use Rattle.block_model.specs.Here.{Here}
 use Rattle.event_facts.specs.declared.calls.SystemCall.{SystemCall}
 use Rattle.event_facts.specs.declared.facts.Fact.{Fact}
 use Rattle.event_facts.specs.declared.facts.Fact.TheVariants.{RequestsTaken, BarrierReturns, BarrierBegins}
 
 -- the harts whose barriers' requests are taken, and whether one of these asks for a restart; or that a barrier returns
+abbrev pub request_facts_by : BarrierPart → Here → List Fact
+request_facts_by Apart here = []
+request_facts_by Takes here = RequestsTaken here.requests here.restart ∷ []
+request_facts_by Returns here = BarrierReturns ∷ []
+
 abbrev pub request_facts : Choice → Here → List Fact
-request_facts asked.Exec here = []
-request_facts asked.Drain here = []
-request_facts asked.Take here = RequestsTaken here.requests here.restart ∷ []
-request_facts asked.Done here = BarrierReturns ∷ []
-request_facts asked.Preempt here = []
-request_facts (asked.Run t) here = []
-request_facts asked.Signal here = []
+request_facts c here = request_facts_by (nature_of (kind_of c)).barriers here
 
 -- the harts for which the thread of a call waits after it, where it waits in a barrier: it began that, since none that waits in one makes a
 -- call

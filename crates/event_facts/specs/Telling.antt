@@ -2,10 +2,11 @@
 use Rattle.std.specs.Prelude.{ℕ, ◌≡◌, List, [], Ok, Option, Some, None, slice_get}
 use Rattle.std.specs.Option.{option_map}
 use Rattle.mach_types.specs.Bytes.{IsAccessSize}
-use Rattle.mach_types.specs.Events.{choice_of}
+use Rattle.mach_types.specs.Events.{choice_of, maker_of}
 use Rattle.mach_types.specs.declared.events.Choice.{Choice}
-use Rattle.mach_types.specs.declared.events.Choice.TheVariants as asked
 use Rattle.mach_types.specs.declared.events.Entry.{Entry}
+use Rattle.mach_types.specs.declared.events.Maker.{Maker}
+use Rattle.mach_types.specs.declared.events.Maker.TheVariants.{Thread, Buffer, Kernel}
 use Rattle.mach_types.specs.declared.registers.Regs.{Regs}
 use Rattle.rv_inst.specs.Sizes.{HasAccessSizes}
 use Rattle.rv_inst.specs.declared.effects.Effect.{Effect}
@@ -32,14 +33,13 @@ abbrev pub IsDecided : Seen → Entry → Type 0
 IsDecided m entry = decide m.setting (past_of m) entry.hart.0 (choice_of entry) ≡ Ok entry
 
 -- the plain event of a choice: an instruction that makes neither a fault nor a call, or the oldest waiting store as it enters memory
+abbrev pub plain_event_by : Maker → Choice → Here → Option PlainEvent
+plain_event_by Thread c here = option_map Instruction (executed_by c here)
+plain_event_by Buffer c here = option_map Drain (slice_get (waiting_here here) 0)
+plain_event_by Kernel c here = None
+
 abbrev pub plain_event_of : Choice → Here → Option PlainEvent
-plain_event_of asked.Exec here = option_map Instruction (executed_by asked.Exec here)
-plain_event_of asked.Drain here = option_map Drain (slice_get (waiting_here here) 0)
-plain_event_of asked.Take here = None
-plain_event_of asked.Done here = None
-plain_event_of asked.Preempt here = None
-plain_event_of (asked.Run t) here = None
-plain_event_of asked.Signal here = None
+plain_event_of c here = plain_event_by (maker_of c) c here
 
 -- the effect of its instruction, where it is one
 abbrev pub effect_in : PlainEvent → Option Effect

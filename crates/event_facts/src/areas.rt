@@ -194,7 +194,7 @@ fn is_of_kernel(entry: Entry, call: Option<SystemCall>) -> bool
     match entry.kind {
         Kind::Exec => call.is_some(),
         Kind::Take | Kind::Run | Kind::Signal => true,
-        Kind::Drain | Kind::Done | Kind::Preempt => false,
+        _ => false,
     }
 }
 

@@ -90,7 +90,7 @@ pub(crate) fn next_call(machine: &Machine, entry: Entry) -> Option<SystemCall>
 {
     match entry.kind {
         Kind::Exec => call_on(machine, entry.hart),
-        Kind::Drain | Kind::Take | Kind::Done | Kind::Preempt | Kind::Run | Kind::Signal => None,
+        _ => None,
     }
 }
 

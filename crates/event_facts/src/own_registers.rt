@@ -59,6 +59,6 @@ pub(crate) fn push_own_registers(
         Kind::Exec | Kind::Done | Kind::Signal => {
             push_changed_registers(facts, before, registers_after(machine, entry))
         }
-        Kind::Drain | Kind::Take | Kind::Preempt | Kind::Run => Ok(()),
+        _ => Ok(()),
     }
 }

@@ -30,7 +30,7 @@ pub(crate) fn next_delivered(signals: &Signals, entry: Entry) -> Option<u8>
 {
     match entry.kind {
         Kind::Signal => next_held(signals, entry.tid),
-        Kind::Exec | Kind::Drain | Kind::Take | Kind::Done | Kind::Preempt | Kind::Run => None,
+        _ => None,
     }
 }
 

@@ -47,7 +47,7 @@ fn push_fault_of(facts: &mut Vec<Fact>, machine: &Machine, entry: Entry) -> Resu
 {
     match entry.kind {
         Kind::Exec => push_fault(facts, machine, entry.hart),
-        Kind::Drain | Kind::Take | Kind::Done | Kind::Preempt | Kind::Run | Kind::Signal => Ok(()),
+        _ => Ok(()),
     }
 }
 

@@ -45,7 +45,7 @@ pub(crate) fn push_requests(
     match entry.kind {
         Kind::Take => push_taken(facts, machine.hart(entry.hart)),
         Kind::Done => push_returns(facts),
-        Kind::Exec | Kind::Drain | Kind::Preempt | Kind::Run | Kind::Signal => Ok(()),
+        _ => Ok(()),
     }
 }
 

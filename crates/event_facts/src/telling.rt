@@ -71,7 +71,7 @@ pub fn plain_event(machine: &Machine, entry: Entry) -> Option<PlainEvent>
     match entry.kind {
         Kind::Exec => Some(PlainEvent::Instruction(plain_effect(machine, entry.hart)?)),
         Kind::Drain => Some(PlainEvent::Drain(machine.hart(entry.hart).buffer.oldest()?)),
-        Kind::Take | Kind::Done | Kind::Preempt | Kind::Run | Kind::Signal => None,
+        _ => None,
     }
 }
 
