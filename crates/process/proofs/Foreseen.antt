@@ -1,36 +1,11 @@
 -- What the interruption of an event comes to: that of the thread which its entry names, where it interrupts one.
 use Rattle.process.proofs.Common.{◌≡◌, ℕ, refl, sym, ap, ◌∙◌, Bool, true, false, ◌&&◌, cond, is_some, List, [], ◌∷◌, Option, Some, None, option_map, interruption, Choice, Entry, Area, Done, Effect, Hart, Here, IsPlace, Outcome, Parts, Stand, Store, area_here, area_of, byte_in, can_write_in, done_of, here_at, interruption_here, refusal_of, runs, is_call, areas_by_number, entry_in, number_of, pc_in, thread_in, done_drain_of, by_call, by_outcome, has_handler, next_effect, next_fault, outcome_of, done_done_by, done_preempt_by, done_killed, done_running, lives_on, handled_unless_killed, kills, done_take_by, waiting_here, interrupts, by_effect, called_here, done_exec_by}
 use Rattle.mach_types.specs.declared.events.Choice.TheVariants as asked
+use Rattle.block_model.proofs.Laws.{interrupts_none}
 use Rattle.process.proofs.Places.{bytes_at, writable_at}
 use Rattle.process.proofs.SignalEvent.{receiving}
 
--- an event that interrupts nothing, by what it goes on
-exec_none : (here : Here) (r : Option ℕ) → (done_exec_by here r).interrupted ≡ None
-exec_none here None = refl
-exec_none here (Some t) = by_next (next_fault here t) (next_effect here t)
-  where
-    by_handler : (b : Bool) (x y : Done) → x.interrupted ≡ None → y.interrupted ≡ None → (cond b x y).interrupted ≡ None
-    by_handler true x y first second = first
-    by_handler false x y first second = second
-
-    by_next : (f : Option ℕ) (e : Option Effect) → (by_effect here t f e).interrupted ≡ None
-    by_next (Some signal) e = by_handler (has_handler here t signal) _ _ refl refl
-    by_next None None = refl
-    by_next None (Some e) = by_handler (is_call e) (by_call here (called_here here t)) (by_outcome here t (outcome_of here t e)) refl refl
-
-drain_none : (here : Here) (ws : List Store) → (done_drain_of here ws).interrupted ≡ None
-drain_none here [] = refl
-drain_none here (w ∷ ws) = refl
-
-done_none : (here : Here) (r : Option ℕ) → (done_done_by here r).interrupted ≡ None
-done_none here None = refl
-done_none here (Some t) = refl
-
-preempt_none : (here : Here) (r : Option ℕ) → (done_preempt_by here r).interrupted ≡ None
-preempt_none here None = refl
-preempt_none here (Some t) = refl
-
--- one that does
+-- an event that interrupts a thread, by what it goes on
 take_comes : (here : Here) (b : Bool) (r : Option ℕ) → (done_take_by here b r).interrupted ≡ cond (b && is_some r) (option_map (interruption_here here) r) None
 take_comes here false r = refl
 take_comes here true None = refl
@@ -46,16 +21,13 @@ signal_comes here t signal o (Some killer) = refl
 
 pub interrupted_is : (c : Choice) (here : Here) → refusal_of c here ≡ None
     → (done_of c here).interrupted ≡ cond (interrupts c here) (option_map (interruption_here here) (thread_in c here)) None
-interrupted_is asked.Exec here free = exec_none here (runs here)
-interrupted_is asked.Drain here free = drain_none here (waiting_here here)
 interrupted_is asked.Take here free = take_comes here here.restart (runs here)
-interrupted_is asked.Done here free = done_none here (runs here)
-interrupted_is asked.Preempt here free = preempt_none here (runs here)
 interrupted_is (asked.Run t) here free = run_comes here t.0 (interruption_here here t.0) (lives_on here t.0 (interruption_here here t.0))
 interrupted_is asked.Signal here free =
     let is = receiving here free in
     let o = interruption_here here is.thread in
     ap (λ (d : Done). d.interrupted) is.done ∙ signal_comes here is.thread is.signal o (kills here is.thread is.signal o) ∙ sym (ap (option_map (interruption_here here)) is.at)
+interrupted_is c here free = interrupts_none here c refl
 
 -- an event that interrupts a thread names it
 running : (b : Bool) (r : Option ℕ) → (b && is_some r) ≡ true → (t : ℕ) × (r ≡ Some t)

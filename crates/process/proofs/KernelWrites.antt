@@ -1,7 +1,11 @@
 -- What the kernel writes by an event: the pointer of an area that an interruption clears, and behind it the words of the area or the frame of a handler.
 use Rattle.process.proofs.Common.{◌≡◌, ◌≢◌, ℕ, List, [], ◌++◌, append-nil, refl, sym, ap, ◌∙◌, Bool, true, false, cond, is_some, Option, Some, None, option_and_then, option_map, same_Some, interruption, pc_after, words_on, writes_of, mask_of, Choice, Entry, Tid, Area, Done, Hart, Here, IsPlace, Outcome, Parts, Saved, Stand, Write, area_here, area_of, byte_in, can_write_in, done_of, here_at, interruption_here, next_id, refusal_of, runs, areas_by_number, entry_in, number_of, thread_in, done_done_by, done_preempt_by, done_killed, done_run, done_running, lives_on, done_delivery, file_interrupted, handled_unless_killed, kills, kills_unhandled, done_take_by, killed_by, can_write_words, words_to, IsInterrupted, frame_unless, killer_of, foreseen_writes, interrupts, area_on, done_run_by}
+use Rattle.mach_types.specs.Events.{kind_of, nature_of}
 use Rattle.mach_types.specs.declared.events.Choice.TheVariants as asked
+use Rattle.mach_types.specs.declared.events.Interruption.{Interruption}
+use Rattle.mach_types.specs.declared.events.Interruption.TheVariants.{Never, Requested, Scheduled, Signalled}
 use Rattle.mach_types.specs.declared.sequences.Outcome.TheVariants as comes_to
+use Rattle.block_model.proofs.Laws.{writes_none}
 use Rattle.process.proofs.Foreseen.{interrupted_is}
 use Rattle.process.proofs.Interruptions.{entered_by_words, is_fatal, lives_by_words}
 use Rattle.process.proofs.Places.{bytes_at, writable_at}
@@ -57,14 +61,6 @@ none_by_take here false r none = refl
 none_by_take here true None none = refl
 none_by_take here true (Some t) none = absurd cc
 
-none_by_done : (here : Here) (r : Option ℕ) → (done_done_by here r).entered ≡ []
-none_by_done here None = refl
-none_by_done here (Some t) = refl
-
-none_by_preempt : (here : Here) (r : Option ℕ) → (done_preempt_by here r).entered ≡ []
-none_by_preempt here None = refl
-none_by_preempt here (Some t) = refl
-
 either_comes : (here : Here) (t : ℕ) (o : Outcome) (b : Bool) → None ≡ (cond b (done_running here t o) (done_killed here t o)).interrupted → ⊥
 either_comes here t o true none = cc
 either_comes here t o false none = cc
@@ -78,13 +74,12 @@ pub nothing_foreseen : (c : Choice) (here : Here) → refusal_of c here ≡ None
 nothing_foreseen asked.Exec here free none = refl
 nothing_foreseen asked.Drain here free none = refl
 nothing_foreseen asked.Take here free none = sym (none_by_take here here.restart (runs here) none)
-nothing_foreseen asked.Done here free none = sym (none_by_done here (runs here))
-nothing_foreseen asked.Preempt here free none = sym (none_by_preempt here (runs here))
 nothing_foreseen (asked.Run t) here free none = absurd (either_comes here t.0 (interruption_here here t.0) (lives_on here t.0 (interruption_here here t.0)) none)
 nothing_foreseen asked.Signal here free none =
     let is = receiving here free in
     let o = interruption_here here is.thread in
     absurd (delivery_comes here is.thread is.signal o (kills here is.thread is.signal o) (none ∙ ap (λ (d : Done). d.interrupted) is.done))
+nothing_foreseen c here free none = sym (writes_none here c refl refl)
 
 -- ONE THREAD IS INTERRUPTED
 
@@ -96,14 +91,14 @@ nothing_comes : {A : Type 0} {x : A} → Some x ≡ None → ⊥
 nothing_comes is = cc
 
 -- the kinds of events in which something follows an interruption that kills nothing
+abbrev pub is_following : Interruption → Bool
+is_following Never = false
+is_following Requested = false
+is_following Scheduled = true
+is_following Signalled = true
+
 abbrev pub is_followed : Choice → Bool
-is_followed asked.Exec = false
-is_followed asked.Drain = false
-is_followed asked.Take = false
-is_followed asked.Done = false
-is_followed asked.Preempt = false
-is_followed (asked.Run t) = true
-is_followed asked.Signal = true
+is_followed c = is_following (nature_of (kind_of c)).interruption
 
 pub kills_none : (o : Outcome) → is_some (killed_by o) ≡ false → is_fatal o ≡ false
 kills_none (comes_to.Killed why) lives = cc

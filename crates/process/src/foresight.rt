@@ -23,7 +23,7 @@ impl Parts {
                 let state = &self.harts[hart.0 as usize];
                 state.restart && !state.is_idle()
             }
-            Choice::Exec | Choice::Drain | Choice::Done | Choice::Preempt => false,
+            _ => false,
         }
     }
 

@@ -1,6 +1,7 @@
 -- An own event of a process beside another one: what it does hangs on the process alone, and on what it
 -- learns.
 use Rattle.mach_types.specs.Bytes.{overlay}
+use Rattle.mach_types.specs.Events.{is_run as runs_one}
 use Rattle.mach_types.specs.Kernel.Areas.{area_of, interruption}
 use Rattle.mach_types.specs.Kernel.Signals.{with_pending}
 use Rattle.mach_types.specs.declared.events.Choice.TheVariants as asked
@@ -34,8 +35,7 @@ done_pick true x y u v p q = p
 done_pick false x y u v p q = q
 
 abbrev pub is_run : Choice → Bool
-is_run (asked.Run t) = true
-is_run other = false
+is_run c = runs_one (kind_of c)
 
 module _ (x : Here) (p q : Around) where
   abbrev a : Here

@@ -3,9 +3,9 @@
 -- ISA, chapters RV32I, RV64I and "A"); and whether their call begins a barrier, in which its thread waits
 -- (membarrier(2)).
 use Rattle.std.specs.Prelude.{ℕ, ◌+◌, ◌≡◌, Bool, zero, suc, List, [], ◌∷◌, if◌then◌else◌, Option, Some, None, is_some}
+use Rattle.mach_types.specs.Events.{is_instruction, is_run}
 use Rattle.mach_types.specs.declared.events.Entry.{Entry}
 use Rattle.mach_types.specs.declared.events.Kind.{Kind}
-use Rattle.mach_types.specs.declared.events.Kind.TheVariants as kind
 use Rattle.elf_load.specs.Images.{IsBootable}
 use Rattle.elf_load.specs.Start.{program_of}
 use Rattle.elf_load.specs.declared.image.Image.{Image}
@@ -25,13 +25,7 @@ use Rattle.shared_procs.specs.ReturningBarriers.{is_of_process}
 -- whether an entry belongs to process p: its thread is the one that begins to run, or a thread of it runs on
 -- the hart before the entry. Any other entry of an idle hart belongs to none
 abbrev pub belongs_by : Pair → Bool → Entry → Kind → Bool
-belongs_by m p e kind.Run = is_of_process p (is_of_second e.tid.0)
-belongs_by m p e kind.Exec = is_some (runs_in m p e.hart.0)
-belongs_by m p e kind.Drain = is_some (runs_in m p e.hart.0)
-belongs_by m p e kind.Take = is_some (runs_in m p e.hart.0)
-belongs_by m p e kind.Done = is_some (runs_in m p e.hart.0)
-belongs_by m p e kind.Preempt = is_some (runs_in m p e.hart.0)
-belongs_by m p e kind.Signal = is_some (runs_in m p e.hart.0)
+belongs_by m p e k = if is_run k then is_of_process p (is_of_second e.tid.0) else is_some (runs_in m p e.hart.0)
 
 abbrev pub belongs : Pair → Bool → Entry → Bool
 belongs m p e = belongs_by m p e e.kind
@@ -90,13 +84,7 @@ learnt_exec here None = nothing_learnt
 learnt_exec here (Some t) = learnt_by here (next_fault here t) (next_effect here t)
 
 abbrev pub learnt_of : Kind → Here → Learnt
-learnt_of kind.Exec here = learnt_exec here (runs here)
-learnt_of kind.Drain here = nothing_learnt
-learnt_of kind.Take here = nothing_learnt
-learnt_of kind.Done here = nothing_learnt
-learnt_of kind.Preempt here = nothing_learnt
-learnt_of kind.Run here = nothing_learnt
-learnt_of kind.Signal here = nothing_learnt
+learnt_of k here = if is_instruction k then learnt_exec here (runs here) else nothing_learnt
 
 -- an own entry with what it learnt, and whether its call began a barrier: one that returns at once begins
 -- none

@@ -1,7 +1,8 @@
 -- Places of a pair at which one of its processes acts.
 use Rattle.std.specs.Prelude.{ℕ, ◌≡◌, ◌≢◌, ◌<◌, ◌⊎◌, Bool, true, false, not, List, [], if◌then◌else◌, nat_lt, Some, None, IfSome, filter}
+use Rattle.mach_types.specs.Events.{is_take as takes_requests, kind_of}
 use Rattle.mach_types.specs.declared.events.Choice.{Choice}
-use Rattle.mach_types.specs.declared.events.Choice.TheVariants.{Exec, Drain, Take, Done, Preempt, Run, Signal}
+use Rattle.mach_types.specs.declared.events.Choice.TheVariants.{Exec, Run}
 use Rattle.mach_types.specs.declared.events.Tid.{Tid}
 use Rattle.mach_types.specs.Bytes.{all_stored, written}
 use Rattle.rv_inst.specs.Sizes.{HasAccessSizes}
@@ -121,13 +122,7 @@ IsPassedAt h c mine other mine' other' =
 
 -- whether a choice is a `take`
 abbrev pub is_take : Choice → Bool
-is_take Exec = false
-is_take Drain = false
-is_take Take = true
-is_take Done = false
-is_take Preempt = false
-is_take (Run t) = false
-is_take Signal = false
+is_take c = takes_requests (kind_of c)
 
 -- THE NEXT INSTRUCTION
 

@@ -3,10 +3,12 @@
 -- the segment in common, and each knows all requests of barriers.
 use Rattle.std.specs.Prelude.{ℕ, ◌+◌, ◌-◌, Bool, true, false, not, List, [], ◌++◌, suc, zero, if◌then◌else◌, Option, Some, None, is_some, is_none, nat_le}
 use Rattle.std.specs.List.{filter}
+use Rattle.std.specs.Option.{option_map_or}
 use Rattle.mach_types.specs.Bytes.{all_stored, written}
 use Rattle.mach_types.specs.Kernel.Threads.{running_on}
+use Rattle.mach_types.specs.Events.{begun_by, choice_for, is_run, kind_of}
 use Rattle.mach_types.specs.declared.events.Choice.{Choice}
-use Rattle.mach_types.specs.declared.events.Choice.TheVariants as asked
+use Rattle.mach_types.specs.declared.events.Tid.{Tid}
 use Rattle.mach_types.specs.declared.events.Why.{Why}
 use Rattle.mach_types.specs.declared.events.Why.TheVariants.{Busy, NotReady}
 use Rattle.mach_types.specs.declared.limits.End.{End}
@@ -112,23 +114,11 @@ on_hart m h =
 
 -- the process of an event: that of the thread that begins to run, or else that of the hart
 abbrev pub acting : Pair → ℕ → Choice → Bool
-acting m h asked.Exec = on_hart m h
-acting m h asked.Drain = on_hart m h
-acting m h asked.Take = on_hart m h
-acting m h asked.Done = on_hart m h
-acting m h asked.Preempt = on_hart m h
-acting m h (asked.Run t) = is_of_second t.0
-acting m h asked.Signal = on_hart m h
+acting m h c = option_map_or (λ (t : Tid). is_of_second t.0) (begun_by c) (on_hart m h)
 
 -- a choice by the number that a thread has in its process
 abbrev pub own_choice : Choice → Choice
-own_choice asked.Exec = asked.Exec
-own_choice asked.Drain = asked.Drain
-own_choice asked.Take = asked.Take
-own_choice asked.Done = asked.Done
-own_choice asked.Preempt = asked.Preempt
-own_choice (asked.Run t) = asked.Run (record { 0 = own_number t.0 })
-own_choice asked.Signal = asked.Signal
+own_choice c = option_map_or (λ (t : Tid). choice_for (kind_of c) (record { 0 = own_number t.0 })) (begun_by c) c
 
 -- the first condition that fails where a thread of a process is to begin to run: no thread of the other one may
 -- run on the hart, and a thread of a process that doesn't go on isn't ready
@@ -140,24 +130,12 @@ refusal_begins m p h why =
 
 -- the first condition of a choice of hart h that fails, by the numbers of process p, which acts
 abbrev pub refusal_as : PairSetting → Pair → Bool → ℕ → Choice → Option Why
-refusal_as s m p h asked.Exec = refusal_of asked.Exec (here_two s m p h)
-refusal_as s m p h asked.Drain = refusal_of asked.Drain (here_two s m p h)
-refusal_as s m p h asked.Take = refusal_of asked.Take (here_two s m p h)
-refusal_as s m p h asked.Done = refusal_of asked.Done (here_two s m p h)
-refusal_as s m p h asked.Preempt = refusal_of asked.Preempt (here_two s m p h)
-refusal_as s m p h (asked.Run t) = refusal_begins m p h (refusal_of (asked.Run t) (here_two s m p h))
-refusal_as s m p h asked.Signal = refusal_of asked.Signal (here_two s m p h)
+refusal_as s m p h c =
+    if is_run (kind_of c) then refusal_begins m p h (refusal_of c (here_two s m p h)) else refusal_of c (here_two s m p h)
 
 -- the first condition of a choice of hart h that fails, over the process that acts
 abbrev pub refusal_two : PairSetting → Pair → ℕ → Choice → Option Why
-refusal_two s m h asked.Exec = refusal_of asked.Exec (here_two s m (on_hart m h) h)
-refusal_two s m h asked.Drain = refusal_of asked.Drain (here_two s m (on_hart m h) h)
-refusal_two s m h asked.Take = refusal_of asked.Take (here_two s m (on_hart m h) h)
-refusal_two s m h asked.Done = refusal_of asked.Done (here_two s m (on_hart m h) h)
-refusal_two s m h asked.Preempt = refusal_of asked.Preempt (here_two s m (on_hart m h) h)
-refusal_two s m h (asked.Run t) =
-    refusal_begins m (is_of_second t.0) h (refusal_of (own_choice (asked.Run t)) (here_two s m (is_of_second t.0) h))
-refusal_two s m h asked.Signal = refusal_of asked.Signal (here_two s m (on_hart m h) h)
+refusal_two s m h c = refusal_as s m (acting m h c) h (own_choice c)
 
 -- WHAT AN EVENT DOES
 

@@ -72,12 +72,7 @@ fn own_choice(choice: Choice) -> Choice
 {
     match choice {
         Choice::Run(tid) => Choice::Run(own_number(tid)),
-        Choice::Exec
-        | Choice::Drain
-        | Choice::Take
-        | Choice::Done
-        | Choice::Preempt
-        | Choice::Signal => choice,
+        _ => choice,
     }
 }
 
@@ -259,12 +254,7 @@ impl Pair {
     {
         match choice {
             Choice::Run(tid) => is_of_second(tid),
-            Choice::Exec
-            | Choice::Drain
-            | Choice::Take
-            | Choice::Done
-            | Choice::Preempt
-            | Choice::Signal => self.on_hart(hart),
+            _ => self.on_hart(hart),
         }
     }
 
