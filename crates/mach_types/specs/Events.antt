@@ -1,11 +1,12 @@
 -- Choices, kinds of event, and entries of a log.
-use Rattle.std.specs.Prelude.{ℕ, ◌+◌, ◌==◌, Bool, true, false, List, [], ◌∷◌, length, Option, Some, None}
+use Rattle.std.specs.Prelude.{ℕ, ◌+◌, ◌==◌, ◌&&◌, Bool, true, false, List, [], ◌∷◌, length, Option, Some, None}
 use Rattle.std.specs.Option.{option_map_or}
 use Rattle.mach_types.specs.declared.events.BarrierPart.{BarrierPart}
 use Rattle.mach_types.specs.declared.events.BarrierPart.TheVariants.{Apart, Takes, Returns}
 use Rattle.mach_types.specs.declared.events.Choice.{Choice}
 use Rattle.mach_types.specs.declared.events.Choice.TheVariants as asked
 use Rattle.mach_types.specs.declared.events.Entry.{Entry}
+use Rattle.mach_types.specs.declared.events.Interruption.{Interruption}
 use Rattle.mach_types.specs.declared.events.Interruption.TheVariants.{Never, Requested, Scheduled, Signalled}
 use Rattle.mach_types.specs.declared.events.Kind.{Kind}
 use Rattle.mach_types.specs.declared.events.Kind.TheVariants as kind
@@ -106,7 +107,7 @@ is_by_thread Kernel = false
 abbrev pub is_instruction : Kind → Bool
 is_instruction k = is_by_thread (nature_of k).maker
 
--- whether a thread leaves its hart, and whether one begins to run
+-- whether a thread leaves its hart, and whether one begins to run, which a choice then names
 abbrev pub is_leaving : Movement → Bool
 is_leaving Stays = false
 is_leaving Leaves = true
@@ -123,9 +124,13 @@ is_preempt k = is_leaving (nature_of k).movement
 abbrev pub is_run : Kind → Bool
 is_run k = is_beginning (nature_of k).movement
 
--- a choice names a thread where one begins to run by it
-abbrev pub names_a_thread : Kind → Bool
-names_a_thread k = is_run k
+-- whether an event interrupts its thread, where a request that it takes asks for a restart or doesn't, and a thread runs on its hart or
+-- doesn't
+abbrev pub is_interrupting : Interruption → Bool → Bool → Bool
+is_interrupting Never restart busy = false
+is_interrupting Requested restart busy = restart && busy
+is_interrupting Scheduled restart busy = true
+is_interrupting Signalled restart busy = true
 
 -- whether requests of barriers are taken, and whether a barrier returns
 abbrev pub is_taking : BarrierPart → Bool

@@ -1,7 +1,7 @@
 //! Events: who may do what, and how the log says so.
 
 ghost use Rattle.std.specs.Prelude.{◌≡◌, Bool, Option};
-ghost use Rattle.mach_types.specs.Events.{begun_by, choice_for, choice_of, kind_of, names_a_thread, nature_of};
+ghost use Rattle.mach_types.specs.Events.{begun_by, choice_for, choice_of, is_instruction, is_preempt, is_run, kind_of, maker_of, nature_of};
 
 /// A hart, by its number from 0 on. The RISC-V manual's word for a hardware thread; a processor in rseq(2).
 #[derive(Clone, Copy, PartialEq, Eq, Drop)]
@@ -40,17 +40,6 @@ pub enum Kind {
     /// A signal is delivered to the running thread.
     Signal,
 }
-
-/// Every kind of event.
-pub const KINDS: [Kind; 7] = [
-    Kind::Exec,
-    Kind::Drain,
-    Kind::Take,
-    Kind::Done,
-    Kind::Preempt,
-    Kind::Run,
-    Kind::Signal,
-];
 
 /// Who makes an event.
 #[derive(Clone, Copy, Drop)]
@@ -169,9 +158,26 @@ impl Kind {
         }
     }
 
-    /// Whether a choice of this kind names a thread: the one that begins to run.
-    pub fn names_a_thread(self) -> bool
-        ensures { result ≡ names_a_thread self }
+    /// Whether it is an instruction, its fault or its call.
+    #[inline]
+    pub fn is_instruction(self) -> bool
+        ensures { result ≡ is_instruction self }
+    {
+        matches!(self.nature().maker, Maker::Thread)
+    }
+
+    /// Whether a thread leaves its hart by it.
+    #[inline]
+    pub fn is_preempt(self) -> bool
+        ensures { result ≡ is_preempt self }
+    {
+        matches!(self.nature().movement, Movement::Leaves)
+    }
+
+    /// Whether a thread begins to run by it: its choice names that thread.
+    #[inline]
+    pub fn is_run(self) -> bool
+        ensures { result ≡ is_run self }
     {
         matches!(self.nature().movement, Movement::Begins)
     }
@@ -225,6 +231,14 @@ impl Choice {
             Choice::Run(_) => Kind::Run,
             Choice::Signal => Kind::Signal,
         }
+    }
+
+    /// Who makes the event.
+    #[inline]
+    pub fn maker(self) -> Maker
+        ensures { result ≡ maker_of self }
+    {
+        self.kind().nature().maker
     }
 
     /// The thread that it names: the one that is to begin to run. None where it names none.

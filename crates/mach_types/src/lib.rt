@@ -21,7 +21,7 @@ mod user_memory;
 pub use barriers::{Answer, BarrierCommand, Registered};
 pub use errors::Errno;
 pub use events::{
-    Advance, BarrierPart, Choice, Entry, Hart, Interruption, KINDS, Kind, Maker, Movement, Nature,
+    Advance, BarrierPart, Choice, Entry, Hart, Interruption, Kind, Maker, Movement, Nature,
     OWN_CHOICES, Sight, Tid, Why,
 };
 pub use flat_memory::{FLAT_END, FLAT_START, FlatMemory};

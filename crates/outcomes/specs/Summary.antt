@@ -1,10 +1,9 @@
 -- The texts of a run's acts (own). Numbers are decimal.
-use Rattle.std.specs.Prelude.{ℕ, ◌++◌, ◌∷◌, Bool, true, false, List, [], zero, suc, codes, count_by}
+use Rattle.std.specs.Prelude.{ℕ, ◌++◌, ◌∷◌, List, [], zero, suc, codes, count_by}
 use Rattle.std.specs.Fmt.{decimal}
 use Rattle.std.specs.Option.{option_map, option_to_list}
+use Rattle.mach_types.specs.Events.{is_return}
 use Rattle.mach_types.specs.declared.events.Entry.{Entry}
-use Rattle.mach_types.specs.declared.events.Kind.{Kind}
-use Rattle.mach_types.specs.declared.events.Kind.TheVariants as kind
 use Rattle.mach_types.specs.declared.limits.End.{End}
 use Rattle.block_model.specs.declared.acts.SeqEnd.TheVariants as ends
 use Rattle.block_view.specs.Counting.{counts_of}
@@ -39,16 +38,6 @@ counts_line hart counts =
 abbrev pub hart_lines : List Act → ℕ → List ℕ
 hart_lines acts zero = []
 hart_lines acts (suc h) = hart_lines acts h ++ counts_line h (counts_of acts h)
-
--- whether an event is the return of a barrier
-abbrev pub is_return : Kind → Bool
-is_return kind.Exec = false
-is_return kind.Drain = false
-is_return kind.Take = false
-is_return kind.Done = true
-is_return kind.Preempt = false
-is_return kind.Run = false
-is_return kind.Signal = false
 
 -- how many barriers returned in a log
 abbrev pub barriers_in : List Entry → ℕ

@@ -2,10 +2,10 @@
 use Rattle.std.specs.Prelude.{ℕ, List, [], ◌∷◌, ◌++◌, map, Result, Ok, Err, codes}
 use Rattle.std.specs.Fmt.{decimal}
 use Rattle.std.specs.List.{flat_map}
-use Rattle.mach_types.specs.Events.{kind_of}
+use Rattle.mach_types.specs.Events.{kind_of, own_choices}
 use Rattle.mach_types.specs.Kernel.Threads.{Thread}
 use Rattle.mach_types.specs.declared.events.Choice.{Choice}
-use Rattle.mach_types.specs.declared.events.Choice.TheVariants.{Exec, Drain, Take, Done, Preempt, Run, Signal}
+use Rattle.mach_types.specs.declared.events.Choice.TheVariants.{Run}
 use Rattle.mach_types.specs.declared.events.Entry.{Entry}
 use Rattle.mach_types.specs.declared.events.Why.{Why}
 use Rattle.mach_types.specs.declared.events.Why.TheVariants as why
@@ -59,10 +59,7 @@ abbrev pub choice_line : ℕ → Choice → Result Entry Refused → List ℕ
 choice_line h choice (Ok entry) = allowed_line entry
 choice_line h choice (Err refused) = refused_line h choice refused
 
--- the choices of which there is one for a hart, and those to run a live thread, in their order
-abbrev pub own_choices : List Choice
-own_choices = Exec ∷ Drain ∷ Take ∷ Done ∷ Preempt ∷ Signal ∷ []
-
+-- the choices to run a live thread, in their order
 abbrev pub run_choices : List Thread → List Choice
 run_choices live = map (λ th. Run (record { 0 = th.tid })) live
 

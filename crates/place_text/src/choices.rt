@@ -1,9 +1,9 @@
 //! The lines of choices.
 
 ghost use Rattle.std.specs.Prelude.{◌≡◌, ◌++◌, map, OnOk};
+ghost use Rattle.mach_types.specs.Events.{own_choices};
 ghost use Rattle.block_model.specs.Deciding.{decide};
 ghost use Rattle.step_log.specs.Grammar.{run_field};
-ghost use Rattle.step_log.specs.Text.{kind_word};
 ghost use Rattle.place_text.specs.Choices as spec;
 ghost use Rattle.place_text.specs.Fields.{behind};
 ghost use Rattle.place_text.specs.Live.{run_of};
@@ -12,19 +12,10 @@ ghost use Rattle.place_text.specs.Seen.{past_of};
 use crate::fields::{begin_line, push_number, push_value, push_word};
 use crate::threads::LiveThread;
 use block_model::Refused;
-use mach_types::{Choice, Entry, Hart, Kind, Why};
+use mach_types::{Choice, Entry, Hart, OWN_CHOICES, Why};
 use machine_core::Machine;
 use std::alloc::AllocError;
-
-/// The choices of a hart but those to run a thread, in the order of their lines.
-const OWN_CHOICES: [Choice; 6] = [
-    Choice::Exec,
-    Choice::Drain,
-    Choice::Take,
-    Choice::Done,
-    Choice::Preempt,
-    Choice::Signal,
-];
+use step_log::kind_word;
 
 /// The name of a condition.
 pub fn why_word(why: Why) -> &'static [u8]
@@ -59,26 +50,11 @@ fn refusal_word(refused: Refused) -> &'static [u8]
     }
 }
 
-/// The word of a kind of event.
-fn kind_word(kind: Kind) -> &'static [u8]
-    ensures { result.now ≡ kind_word kind }
-{
-    match kind {
-        Kind::Exec => b"exec",
-        Kind::Drain => b"drain",
-        Kind::Take => b"take",
-        Kind::Done => b"done",
-        Kind::Preempt => b"preempt",
-        Kind::Run => b"run",
-        Kind::Signal => b"signal",
-    }
-}
-
 /// Appends the thread of a `run`.
 fn push_run_field(text: &mut Vec<u8>, choice: Choice) -> Result<(), AllocError>
     ensures { OnOk result (text.new.items ≡ text.old.items ++ behind (run_field choice)) }
 {
-    if let Choice::Run(tid) = choice {
+    if let Some(tid) = choice.begun() {
         push_number(text, u64::from(tid.0))?;
     }
     Ok(())
@@ -152,7 +128,7 @@ fn push_choice(
 fn push_own_choices(text: &mut Vec<u8>, machine: &Machine, hart: Hart) -> Result<(), AllocError>
     ensures { OnOk result
         (text.new.items ≡ text.old.items
-        ++ spec.choice_lines machine.now.setting (past_of machine.now) hart.0 spec.own_choices) }
+        ++ spec.choice_lines machine.now.setting (past_of machine.now) hart.0 own_choices) }
 {
     for choice in OWN_CHOICES {
         push_choice(text, machine, hart, choice)?;

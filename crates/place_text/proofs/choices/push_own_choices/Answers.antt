@@ -1,6 +1,7 @@
+use Rattle.mach_types.specs.Events.{own_choices}
 use Rattle.mach_types.specs.declared.events.Choice.{Choice}
 use Rattle.block_model.specs.Deciding.{decide}
-use Rattle.place_text.specs.Choices.{choice_line, own_choices}
+use Rattle.place_text.specs.Choices.{choice_line}
 use Rattle.place_text.specs.Seen.{past_of}
 use Rattle.place_text.proofs.Lists.{index_step}
 use Rattle.place_text.proofs.choices.push_own_choices.Goals as goal
