@@ -130,7 +130,7 @@ module _ (here : Here) (tid : ℕ) where
     live = λ sound some goes. some;
   }
   proper_deed (Returns t at) = quiet here _ (λ stand. (stand.threads t, tt)) refl refl refl
-  proper_deed (Preempts t at) = quiet here _ (λ stand. tt) refl refl (length-map here.kernel.threads.live (state_if t Ready))
+  proper_deed (Preempts k t leaves at) = quiet here _ (λ stand. tt) refl refl (length-map here.kernel.threads.live (state_if t Ready))
   proper_deed Runs = quiet here _ (λ stand. stands_after tid) refl refl (length-map here.kernel.threads.live (state_if tid (Running (record { 0 = here.hart }))))
   proper_deed RunKills = ending here _ SIGSEGV (λ stand. stands_after tid) refl refl
   proper_deed (Handles t signal at) = record {

@@ -2,7 +2,7 @@
 -- goes over them, and tells no kinds apart.
 use Rattle.std.proofs.Common.{◌≡◌, ℕ, List, [], ◌∷◌, refl, Bool, true, false, cond, Option, Some, None}
 use Rattle.block_model.proofs.Common.{Done, Effect, Entry, Here, Killed, Kind, Store, Stored, by_call, by_effect, by_outcome, called, choice_with, done_done_by, done_drain_of, done_exec_by, done_killed, done_next, done_of, done_preempt_by, done_running, done_signal_by, done_take_by, handled, handled_unless_killed, has_handler, interruption_here, is_call, is_inside_here, killed_in_call, kills, left, lives_on, next_effect, next_fault, next_for, nothing, one_instruction, only_took, outcome_of, runs, signalled, took_and_interrupted, waiting_here, with_pending, with_register}
-use Rattle.mach_types.specs.Events.{kind_of}
+use Rattle.mach_types.specs.Events.{is_preempt, kind_of}
 use Rattle.mach_types.specs.declared.events.Choice.{Choice}
 use Rattle.mach_types.specs.declared.events.Choice.TheVariants as asked
 use Rattle.mach_types.specs.declared.events.Kind.TheVariants as kind
@@ -20,7 +20,7 @@ pub record IsNext (here : Here) (t : ℕ) (e : Effect) : Type 0 where
 
 -- nothing; an instruction that isn't there; a fault that is handled or kills; a call that kills inside a
 -- sequence, or is made; another instruction; a store that enters memory; requests that are taken, with a
--- restart or without; a barrier that returns; a thread that leaves; one that begins to run, or is killed at
+-- restart or without; a barrier that returns; a thread that leaves, by an event of any kind that makes one leave; one that begins to run, or is killed at
 -- it; a signal that is handled, or kills
 pub data EventDeed (here : Here) (tid : ℕ) : Kind → Done → Type 0 where
   Nothing : (k : Kind) → EventDeed here tid k (nothing here)
@@ -50,9 +50,8 @@ pub data EventDeed (here : Here) (tid : ℕ) : Kind → Done → Type 0 where
         reserved = None;
         returned = true;
       })
-  Preempts : (t : ℕ) → runs here ≡ Some t
-      → EventDeed here tid kind.Preempt
-      (record (nothing here) { reserved = None; kernel = left t here.kernel })
+  Preempts : (k : Kind) (t : ℕ) → is_preempt k ≡ true → runs here ≡ Some t
+      → EventDeed here tid k (record (nothing here) { reserved = None; kernel = left t here.kernel })
   Runs : EventDeed here tid kind.Run (done_running here tid (interruption_here here tid))
   RunKills : EventDeed here tid kind.Run (done_killed here tid (interruption_here here tid))
   Handles : (t signal : ℕ) → runs here ≡ Some t
@@ -105,7 +104,7 @@ module _ (here : Here) (tid : ℕ) where
 
   deed_preempt : (r : Option ℕ) → runs here ≡ r → EventDeed here tid kind.Preempt (done_preempt_by here r)
   deed_preempt None at = Nothing kind.Preempt
-  deed_preempt (Some t) at = Preempts t at
+  deed_preempt (Some t) at = Preempts kind.Preempt t refl at
 
   deed_delivery : (t signal : ℕ) (killer : Option ℕ) → runs here ≡ Some t
       → EventDeed here tid kind.Signal (handled_unless_killed here t signal (interruption_here here t) killer)

@@ -81,7 +81,7 @@ found_before u (x ∷ ids) y there = go (eqb x.0 u) (found_before u ids y) there
 module _ (here : Here) (tid u : ℕ) (there : list_any (is_id_of u) here.kernel.ids ≡ true) where
   keeps_deed : {k : Kind} {d : Done} → EventDeed here tid k d → Keeps u here.kernel.ids d.kernel.ids
   keeps_deed (Calls t e next calls outside) = keeps_lost t u here.kernel.ids (called here t).kernel.ids (ids_called here t)
-  keeps_deed (Preempts t at) = keeps_without t u here.kernel.ids
+  keeps_deed (Preempts k t leaves at) = keeps_without t u here.kernel.ids
   keeps_deed Runs = inl (found_before u here.kernel.ids (tid, next_id here.kernel.ids) there)
   keeps_deed deed = inl refl
 

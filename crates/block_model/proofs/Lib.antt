@@ -13,6 +13,7 @@ mod Entries
 mod ErrorCalls
 pub mod EventEffects
 mod EventMakers
+mod EventNeeds
 mod ExamplePrograms
 mod Examples
 mod FileSteps

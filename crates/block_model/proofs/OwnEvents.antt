@@ -155,7 +155,7 @@ module _ (here : Here) (good : IsGoodHere here) (u tid : ℕ) where
         area = called_area here t (called here t) empty (area_called here t number (deed_called here t));
       } in
       subst (λ v. IsOwn here v (by_call here (called here t))) (some_same t u (sym next.at ∙ at)) own
-  own_deed (Preempts t is) at other free = record
+  own_deed (Preempts k t leaves is) at other free = record
       { runs = inr (left_none here t 0 good is); area = stays_area refl }
   own_deed Runs at other free = absurd (other refl)
   own_deed RunKills at other free = absurd (other refl)
@@ -165,7 +165,7 @@ module _ (here : Here) (good : IsGoodHere here) (u tid : ℕ) where
   idle_deed : {k : Kind} {d : Done} → EventDeed here tid k d → runs here ≡ None → k ≢ kind.Run
       → running_on here.hart d.kernel.threads ≡ None
   idle_deed (Calls t e next calls outside) none other = absurd (never_some t (sym none ∙ next.at))
-  idle_deed (Preempts t is) none other = absurd (never_some t (sym none ∙ is))
+  idle_deed (Preempts k t leaves is) none other = absurd (never_some t (sym none ∙ is))
   idle_deed Runs none other = absurd (other refl)
   idle_deed RunKills none other = absurd (other refl)
   idle_deed deed none other = none

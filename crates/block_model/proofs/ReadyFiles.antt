@@ -48,7 +48,7 @@ module _ (here : Here) (good : IsGoodHere here) (u tid : ℕ) where
   ready_deed (Executes t e next) other ready = own_set t _ _ next.at ready refl refl
   ready_deed (Restarts t at) other ready = interrupted t _ (caller_apart here t good at u ready) ready refl refl
   ready_deed (Returns t at) other ready = own_set t _ _ at ready refl refl
-  ready_deed (Preempts t at) other ready =
+  ready_deed (Preempts k t leaves at) other ready =
       record { file = λ f. refl; ready = (beside_left t t here.kernel).ready u (caller_apart here t good at u ready) ready }
   ready_deed Runs other ready = record {
     file = λ f. interrupted_file here tid u (interruption_here here tid) f (other refl);

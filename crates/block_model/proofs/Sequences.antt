@@ -2,6 +2,7 @@
 -- sequence's hart from the place before the first event on.
 use Rattle.std.proofs.Common.{◌≡◌, ◌≢◌, ℕ, ◌∷◌, refl, sym, ◌∙◌, subst, Bool, true, false, not, cond, eqb, Option, Some, None, [], ap}
 use Rattle.block_model.proofs.Common.{Done, Entry, Event, Here, History, IsRunHistory, Kernel, Kind, Outcome, RunsThroughout, Sequence, Setting, begun_with, choice_of, choice_with, done, done_of, eqb-false, eqb-true, false≢true, hanging, hanging_after, here_in_history, is_inside_at, is_inside_here, is_instruction, is_of_hart, is_taken_in, number_of, option_map_or, running, running_on, runs, sequence_on, taken_up, thread_in, with_event}
+use Rattle.mach_types.specs.Events.{is_preempt}
 use Rattle.mach_types.specs.declared.events.Kind.TheVariants as kind
 use Rattle.block_model.proofs.Runs.{allowed_at, fit_at}
 use Rattle.block_model.proofs.EventEffects.{Calls, EventDeed, Preempts, Runs, deed_of}
@@ -119,12 +120,19 @@ module _ (s : Setting) (e : Event) (before : History) (t : ℕ) (q : Sequence) w
 
 -- WHAT A SEQUENCE TAKES IN KEEPS THE RECORD, BUT FOR ITS SIGNALS
 
+-- it takes in no event by which a thread leaves its hart
+leaving_stays_out : (k : Kind) (o : Option Outcome) → is_preempt k ≡ true → is_taken_in k o ≡ false
+leaving_stays_out kind.Exec o leaves = absurd (false≢true leaves)
+leaving_stays_out kind.Drain o leaves = absurd (false≢true leaves)
+leaving_stays_out kind.Take o leaves = absurd (false≢true leaves)
+leaving_stays_out k o leaves = refl
+
 -- of the record only the signals change
 taken_deed : (here : Here) (tid : ℕ) (o : Option Outcome) {k : Kind} {d : Done} → EventDeed here tid k d → is_taken_in k o ≡ true
     → option_map_or (is_inside_here here) (runs here) false ≡ true → OnlySignals here.kernel d.kernel
 taken_deed here tid o (Calls t e next calls outside) taken inside =
     absurd (false≢true (sym outside ∙ sym (ap (λ r. option_map_or (is_inside_here here) r false) next.at) ∙ inside))
-taken_deed here tid o (Preempts t at) taken inside = absurd (false≢true taken)
+taken_deed here tid o (Preempts k t leaves at) taken inside = absurd (false≢true (sym (leaving_stays_out k o leaves) ∙ taken))
 taken_deed here tid o Runs taken inside = absurd (false≢true taken)
 taken_deed here tid o deed taken inside = refl
 

@@ -58,7 +58,7 @@ module _ (here : Here) (harts : ℕ) (tables : IsTables harts here.kernel.thread
   calm_event tid (Faults t signal fault handler) = λ u is.
       next_pending t u (apart t fault.at u is) signal here.kernel.signals ∙ calm u is
   calm_event tid (Calls t e next calls outside) = calm_deed t (call_number here t) next.at (deed_called here t)
-  calm_event tid (Preempts t at) = λ u is. calm u (waited_before t u Ready here.kernel.threads (λ p no. cc) is)
+  calm_event tid (Preempts k t leaves at) = λ u is. calm u (waited_before t u Ready here.kernel.threads (λ p no. cc) is)
   calm_event tid Runs = λ u is. calm u (waited_before tid u (Running (record { 0 = here.hart })) here.kernel.threads (λ p no. cc) is)
   calm_event tid (Handles t signal at) = λ u is.
       let ne = apart t at u is in

@@ -53,11 +53,7 @@ delivery_waits here (Some left) next free = absurd cc
 -- no store waits on a hart on which an event interrupts the thread that runs there
 waits_not : (k : Kind) (entry : Entry) (here : Here) (t : ℕ) → runs here ≡ Some t → refusal_of (choice_with k entry) here ≡ None
     → would_interrupt k here.restart (is_none (runs here)) ≡ true → waiting_here here ≡ []
-waits_not kind.Exec entry here t at free does = absurd (false≢true does)
-waits_not kind.Drain entry here t at free does = absurd (false≢true does)
 waits_not kind.Take entry here t at free does = take_waits _ (waiting_here here) free
-waits_not kind.Done entry here t at free does = absurd (false≢true does)
-waits_not kind.Preempt entry here t at free does = absurd (false≢true does)
 waits_not kind.Run entry here t at free does = absurd (busy (runs here) at free)
   where
     busy : (o : Option ℕ) → o ≡ Some t → refusal_run_by here entry.tid.0 o ≡ None → ⊥
@@ -68,6 +64,7 @@ waits_not kind.Signal entry here t at free does = by_thread (runs here) at free
     by_thread : (o : Option ℕ) → o ≡ Some t → refusal_signal_by here o ≡ None → waiting_here here ≡ []
     by_thread None is free = absurd cc
     by_thread (Some u) is free = delivery_waits here here.awaits (next_for u here.kernel.signals) free
+waits_not k entry here t at free does = absurd (false≢true does)
 
 -- so the hart sees memory
 no_overlay : (o : Option ℕ) (a : ℕ) → option_map (overlay [] a) o ≡ o

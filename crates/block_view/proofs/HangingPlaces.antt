@@ -3,23 +3,21 @@
 use Rattle.std.proofs.Common.{◌≡◌, ℕ, [], ◌∷◌, ◌&&◌, eqb, slice_get, refl, sym, ap, ◌∙◌, Bool, true, false, cond, Option, Some, None}
 use Rattle.std.specs.Option.{option_map_or}
 use Rattle.std.proofs.lemmas.Bool.{eqb-true, false≢true}
-use Rattle.mach_types.proofs.Laws.{eqb_same, preempt_is}
-use Rattle.mach_types.specs.Events.{choice_with, is_run}
+use Rattle.mach_types.proofs.Laws.{eqb_same}
+use Rattle.mach_types.specs.Events.{is_beginning, is_leaving, is_preempt, is_run, nature_of}
 use Rattle.mach_types.specs.Kernel.Threads.{is_ready, is_ready_state}
 use Rattle.mach_types.specs.declared.events.Entry.{Entry}
-use Rattle.mach_types.specs.declared.events.Kind.{Kind}
-use Rattle.mach_types.specs.declared.events.Kind.TheVariants as kind
+use Rattle.mach_types.specs.declared.events.Movement.{Movement}
+use Rattle.mach_types.specs.declared.events.Movement.TheVariants.{Stays, Leaves, Begins}
 use Rattle.mach_types.specs.declared.threads.ThreadState.{ThreadState}
 use Rattle.block_model.specs.Acts.{Sequence, hanging, is_inside_at, sequence_on}
 use Rattle.block_model.specs.Acts as acts
-use Rattle.block_model.specs.Deciding.{entry_in, number_of}
-use Rattle.block_model.specs.Events.{refusal_of}
-use Rattle.block_model.specs.Events.Preempt.{refusal_preempt_by}
-use Rattle.block_model.specs.Here.{Here, runs}
+use Rattle.block_model.specs.Deciding.{number_of}
+use Rattle.block_model.specs.Here.{runs}
 use Rattle.block_model.specs.History.{Event, History, here_in_history, kernel, running}
 use Rattle.block_model.specs.Run.{IsRunHistory}
 use Rattle.block_model.specs.Setting.{Setting}
-use Rattle.block_model.proofs.Laws.{running_is}
+use Rattle.block_model.proofs.Laws.{leaving_runs, running_is}
 use Rattle.block_view.specs.Acts.{begins_to_run}
 use Rattle.block_view.specs.Standing.{Standing, standings}
 use Rattle.block_view.specs.Standing.Standing.{Hanging}
@@ -28,21 +26,13 @@ use Rattle.block_view.proofs.Places.{Began, Hangs, Hung, Left, Stood, came, goin
 
 -- WHAT IS PREEMPTED RAN
 
--- a hart on which a thread may be preempted runs one
-preempted_ran : (here : Here) (r : Option ℕ) → refusal_preempt_by here r ≡ None → r ≡ Some (number_of r)
-preempted_ran here None free = absurd cc
-preempted_ran here (Some t) free = refl
-
--- the thread of an event that preempts ran on its hart
-pub ran : (s : Setting) (e : Event) (before : History) → IsRunHistory s (e ∷ before) → e.entry.kind ≡ kind.Preempt
+-- the thread of an event by which one leaves ran on its hart
+pub ran : (s : Setting) (e : Event) (before : History) → IsRunHistory s (e ∷ before) → is_preempt e.entry.kind ≡ true
     → running s e.entry.hart.0 before ≡ Some e.entry.tid.0
-ran s e before run is =
+ran s e before run leaves =
     let here = here_in_history s before e.entry.hart.0 in
     let allowed = allowed_at s e before run in
-    let tid : e.entry.tid.0 ≡ number_of (runs here) =
-    ap (λ (x : Entry). x.tid.0) allowed.is ∙ ap (λ k. (entry_in (choice_with k e.entry) here).tid.0) is in
-    let free = ap (λ k. refusal_of (choice_with k e.entry) here) (sym is) ∙ allowed.free in
-    preempted_ran here (runs here) free ∙ ap Some (sym tid)
+    leaving_runs e.entry.kind e.entry here leaves allowed.free ∙ ap Some (sym (ap (λ (x : Entry). x.tid.0) allowed.is))
 
 -- a thread that runs isn't ready
 runs_not_ready : (s : Setting) (e : Event) (before : History) (t : ℕ) → IsRunHistory s (e ∷ before)
@@ -56,28 +46,34 @@ runs_not_ready s e before t run runs ready =
 
 module _ (s : Setting) (e : Event) (before : History) (q : Sequence) (run : IsRunHistory s (e ∷ before)) where
   -- one whose thread was preempted inside by the event
-  left_hangs : e.entry.kind ≡ kind.Preempt → e.entry.hart.0 ≡ q.hart → is_inside_at s q.hart before ≡ true → sequence_on s q.hart before ≡ Some q
+  hangs_moved : (m : Movement) (still : Option Sequence) → is_leaving m ≡ true
+      → acts.hanging_moved s e before m still ≡ cond (is_inside_at s e.entry.hart.0 before) (sequence_on s e.entry.hart.0 before) None
+  hangs_moved Stays still leaves = absurd (false≢true leaves)
+  hangs_moved Leaves still leaves = refl
+  hangs_moved Begins still leaves = absurd (false≢true leaves)
+
+  left_hangs : is_preempt e.entry.kind ≡ true → e.entry.hart.0 ≡ q.hart → is_inside_at s q.hart before ≡ true → sequence_on s q.hart before ≡ Some q
       → hanging s q.thread (e ∷ before) ≡ Some q
   left_hangs is same inside was =
       let there = (whole_place s before run.0).runs q.hart q was in
       let thread : e.entry.tid.0 ≡ q.thread = ap number_of (sym (ran s e before run is) ∙ ap (λ h. running s h before) same ∙ there.now) in
       ap (λ b. cond b (acts.hanging_after s q.thread e before e.entry.kind (hanging s q.thread before)) (hanging s q.thread before))
       (ap (λ t. eqb t q.thread) thread ∙ eqb_same q.thread)
-      ∙ ap (λ k. acts.hanging_after s q.thread e before k (hanging s q.thread before)) is
+      ∙ hangs_moved (nature_of e.entry.kind).movement (hanging s q.thread before) is
       ∙ ap (λ h. cond (is_inside_at s h before) (sequence_on s h before) None) same
       ∙ ap (λ b. cond b (sequence_on s q.hart before) None) inside
       ∙ was
 
   -- one that hung before, and whose thread doesn't begin to run
-  not_preempted : e.entry.kind ≡ kind.Preempt → e.entry.tid.0 ≡ q.thread → hanging s q.thread before ≡ Some q → ⊥
+  not_preempted : is_preempt e.entry.kind ≡ true → e.entry.tid.0 ≡ q.thread → hanging s q.thread before ≡ Some q → ⊥
   not_preempted is own was =
       runs_not_ready s e before q.thread run (ran s e before run is ∙ ap Some own) ((whole_place s before run.0).hangs q.thread q was).ready
 
-  still_by : (k : Kind) → e.entry.kind ≡ k → e.entry.tid.0 ≡ q.thread → is_run k ≡ false → hanging s q.thread before ≡ Some q
-      → acts.hanging_after s q.thread e before k (hanging s q.thread before) ≡ Some q
-  still_by kind.Preempt is own isnt was = absurd (not_preempted is own was)
-  still_by kind.Run is own isnt was = absurd (false≢true (sym isnt))
-  still_by k is own isnt was = was
+  still_by : (m : Movement) → (nature_of e.entry.kind).movement ≡ m → e.entry.tid.0 ≡ q.thread → is_beginning m ≡ false
+      → hanging s q.thread before ≡ Some q → acts.hanging_moved s e before m (hanging s q.thread before) ≡ Some q
+  still_by Stays is own isnt was = was
+  still_by Leaves is own isnt was = absurd (not_preempted (ap is_leaving is) own was)
+  still_by Begins is own isnt was = absurd (false≢true (sym isnt))
 
   run_only : (k b : Bool) → k && b ≡ false → b ≡ true → k ≡ false
   run_only true true both own = both
@@ -88,7 +84,7 @@ module _ (s : Setting) (e : Event) (before : History) (q : Sequence) (run : IsRu
       → hanging s q.thread before ≡ Some q
       → cond b (acts.hanging_after s q.thread e before e.entry.kind (hanging s q.thread before)) (hanging s q.thread before) ≡ Some q
   still_hangs_by true own isnt was =
-      still_by e.entry.kind refl (eqb-true e.entry.tid.0 q.thread own) (run_only (is_run e.entry.kind) (eqb e.entry.tid.0 q.thread) isnt own) was
+      still_by (nature_of e.entry.kind).movement refl (eqb-true e.entry.tid.0 q.thread own) (run_only (is_run e.entry.kind) (eqb e.entry.tid.0 q.thread) isnt own) was
   still_hangs_by false other isnt was = was
 
   -- so it hangs still
@@ -103,7 +99,7 @@ hanging_hangs s [] i q run at = absurd cc
 hanging_hangs s (e ∷ before) i q run at = elim (came s e before i (Hanging q) at) [
   | Stood x was is ↦ elim (hangs s e before x q is) [
     | Left same own inside preempts ↦
-        left_hangs s e before q run (preempt_is e.entry.kind preempts) (eqb-true e.entry.hart.0 q.hart own) inside
+        left_hangs s e before q run preempts (eqb-true e.entry.hart.0 q.hart own) inside
         (going_is_on s before i q (was ∙ ap Some same))
     | Hung same isnt ↦ still_hangs s e before q run isnt (hanging_hangs s before i q run.0 (was ∙ ap Some same))
   ]

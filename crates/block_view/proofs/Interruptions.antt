@@ -1,5 +1,5 @@
 -- Which events interrupt a thread, and that a process which one of these ends is ended by a signal.
-use Rattle.std.proofs.Common.{◌≡◌, ℕ, List, [], ◌∷◌, ◌&&◌, refl, sym, ap, ◌∙◌, Bool, true, false, cond, not, Option, Some, None, is_none, is_some}
+use Rattle.std.proofs.Common.{◌≡◌, ℕ, ◌&&◌, refl, sym, ap, ◌∙◌, Bool, true, false, cond, not, Option, Some, None, is_none, is_some}
 use Rattle.std.proofs.lemmas.Bool.{false≢true}
 use Rattle.mach_types.specs.Events.{choice_with}
 use Rattle.mach_types.specs.Kernel.Signals.{next_for}
@@ -8,19 +8,14 @@ use Rattle.mach_types.specs.declared.events.Kind.{Kind}
 use Rattle.mach_types.specs.declared.events.Kind.TheVariants as kind
 use Rattle.mach_types.specs.declared.sequences.Outcome.{Outcome}
 use Rattle.mach_types.specs.declared.sequences.Outcome.TheVariants as comes_to
-use Rattle.mach_types.specs.declared.user_memory.Store.{Store}
-use Rattle.rv_inst.specs.Class.{is_call}
-use Rattle.rv_inst.specs.declared.effects.Effect.{Effect}
 use Rattle.block_model.specs.Events.{done_of, refusal_of}
-use Rattle.block_model.specs.Events.Drain.{done_drain_of}
-use Rattle.block_model.specs.Events.Exec.{by_effect, by_fault, done_exec_by, has_handler, next_effect, next_fault}
-use Rattle.block_model.specs.Events.Finish.{done_done_by}
-use Rattle.block_model.specs.Events.Preempt.{done_preempt_by, unless_in_barrier}
+use Rattle.block_model.specs.Events.Preempt.{unless_in_barrier}
 use Rattle.block_model.specs.Events.Run.{done_killed, done_run_by, done_running, lives_on}
 use Rattle.block_model.specs.Events.Signal.{done_next, done_signal_by, handled_unless_killed, kills, refusal_delivery, refusal_signal_by}
 use Rattle.block_model.specs.Events.Take.{done_take_by, killed_by}
-use Rattle.block_model.specs.Here.{Done, Here, runs, waiting_here}
+use Rattle.block_model.specs.Here.{Done, Here, runs}
 use Rattle.block_model.specs.Sequences.{interruption_here}
+use Rattle.block_model.proofs.Laws.{interrupts_none}
 use Rattle.block_view.specs.Passing.{is_killed, would_interrupt}
 
 -- what an event tells of an interruption: whether it made one; and where it did, the process is ended by a signal if at all
@@ -38,38 +33,7 @@ either_made true does d d' one other = one
 either_made false does d d' one other = other
 
 module _ (here : Here) where
-  -- INSTRUCTIONS
-
-  fault_made : (signal : ℕ) (b : Bool) (t : ℕ) → has_handler here t signal ≡ b → (by_fault here t signal).interrupted ≡ None
-  fault_made signal true t is = rw is refl
-  fault_made signal false t is = rw is refl
-
-  effect_made : (t : ℕ) (effect : Effect) (b : Bool) → is_call effect ≡ b → (by_effect here t None (Some effect)).interrupted ≡ None
-  effect_made t effect true is = rw is refl
-  effect_made t effect false is = rw is refl
-
-  instruction_made : (t : ℕ) (fault : Option ℕ) (effect : Option Effect) → (by_effect here t fault effect).interrupted ≡ None
-  instruction_made t (Some signal) effect = fault_made signal (has_handler here t signal) t refl
-  instruction_made t None None = refl
-  instruction_made t None (Some effect) = effect_made t effect (is_call effect) refl
-
-  exec_made : (running : Option ℕ) → (done_exec_by here running).interrupted ≡ None
-  exec_made None = refl
-  exec_made (Some t) = instruction_made t (next_fault here t) (next_effect here t)
-
-  -- STORES AND BARRIERS
-
-  drain_made : (ws : List Store) → (done_drain_of here ws).interrupted ≡ None
-  drain_made [] = refl
-  drain_made (w ∷ ws) = refl
-
-  done_made : (running : Option ℕ) → (done_done_by here running).interrupted ≡ None
-  done_made None = refl
-  done_made (Some t) = refl
-
-  preempt_made : (running : Option ℕ) → (done_preempt_by here running).interrupted ≡ None
-  preempt_made None = refl
-  preempt_made (Some t) = refl
+  -- BARRIERS
 
   by_signal : (o : Outcome) → is_killed (killed_by o) ≡ is_some (killed_by o)
   by_signal comes_to.Nothing = refl
@@ -110,13 +74,10 @@ module _ (here : Here) where
 
   event_made : (k : Kind) (entry : Entry) → refusal_of (choice_with k entry) here ≡ None
       → Interrupts (done_of (choice_with k entry) here) (would_interrupt k here.restart (is_none (runs here)))
-  event_made kind.Exec entry free = none_made (done_exec_by here (runs here)) (exec_made (runs here))
-  event_made kind.Drain entry free = none_made (done_drain_of here (waiting_here here)) (drain_made (waiting_here here))
   event_made kind.Take entry free = take_made here.restart (runs here)
-  event_made kind.Done entry free = none_made (done_done_by here (runs here)) (done_made (runs here))
-  event_made kind.Preempt entry free = none_made (done_preempt_by here (runs here)) (preempt_made (runs here))
   event_made kind.Run entry free = run_made entry.tid.0 (interruption_here here entry.tid.0)
   event_made kind.Signal entry free = signal_made (runs here) free
+  event_made k entry free = none_made (done_of (choice_with k entry) here) (interrupts_none here (choice_with k entry) refl)
 
   -- an event interrupts as one of its kind does there
   pub interrupts_as : (entry : Entry) (d : Done) → refusal_of (choice_with entry.kind entry) here ≡ None → d ≡ done_of (choice_with entry.kind entry) here

@@ -2,7 +2,7 @@
 use Rattle.std.proofs.Common.{◌≡◌, ◌≢◌, ℕ, suc, ◌+◌, ◌<◌, inl, inr, List, [], ◌∷◌, ◌++◌, ◌&&◌, append-nil, length, length-set, map, set, slice_get, find, filter, refl, sym, ap, ◌∙◌, subst, arith, add-one, eqb, Bool, true, false, cond, not, Option, Some, None}
 use Rattle.std.proofs.lemmas.Bool.{cases_eq, eqb-true, false_from_ne_true, false≢true, ne_eqb}
 use Rattle.std.proofs.lemmas.List.{length-map, map-append}
-use Rattle.mach_types.proofs.Laws.{eqb_same, instruction_runs_none, preempt_is, run_is}
+use Rattle.mach_types.proofs.Laws.{eqb_same, instruction_runs_none, run_is}
 use Rattle.mach_types.specs.Events.{choice_with, is_instruction, is_preempt, is_run}
 use Rattle.mach_types.specs.declared.events.Kind.{Kind}
 use Rattle.mach_types.specs.declared.events.Tid.{Tid}
@@ -419,7 +419,7 @@ module _ (s : Setting) (e : Event) (before : History) (k : Kept) (run : IsRunHis
           let x = going_at s among.place q in
           let kept : KeptHanging = record { tid = e.entry.tid; hart = e.entry.hart; place = among.place } in
           let becomes = becomes_by true is in
-          let preempts = preempt_is e.entry.kind (second (is_inside_at s q.hart before) (is_preempt e.entry.kind) is) in
+          let preempts = second (is_inside_at s q.hart before) (is_preempt e.entry.kind) is in
           let threads : Some e.entry.tid.0 ≡ Some q.thread = sym (ran s e before run preempts) ∙ ((whole_place s before run.0).runs h q was).now in
           let thread : e.entry.tid.0 ≡ q.thread = cc in
           let kept_is : hanging_at among.place q ≡ kept = λ j. record { tid = record { 0 = sym thread j }; hart = record { 0 = own j }; place = among.place } in

@@ -4,10 +4,11 @@ use Rattle.std.proofs.lemmas.Bool.{false≢true}
 use Rattle.std.specs.Option.{option_map}
 use Rattle.std.specs.Prelude.{slice_get}
 use Rattle.mach_types.specs.Kernel.Threads.{running_on, state_of}
+use Rattle.mach_types.specs.Events.{kind_of}
 use Rattle.mach_types.specs.declared.events.Choice.{Choice}
 use Rattle.mach_types.specs.declared.events.Choice.TheVariants as asked
+use Rattle.mach_types.specs.declared.events.Kind.{Kind}
 use Rattle.mach_types.specs.declared.registers.Regs.{Regs}
-use Rattle.mach_types.specs.declared.sequences.Outcome.{Outcome}
 use Rattle.mach_types.specs.declared.threads.Saved.{Saved}
 use Rattle.mach_types.specs.declared.user_memory.Store.{Store}
 use Rattle.rv_inst.specs.Class.{is_call}
@@ -18,22 +19,20 @@ use Rattle.block_model.specs.Events.{done_of, refusal_of}
 use Rattle.block_model.specs.Events.Drain.{refusal_drain_of}
 use Rattle.block_model.specs.Events.Exec.{by_call, by_effect, by_outcome, called_here, done_exec_by, has_handler, next_effect, next_fault, outcome_of, refusal_exec_by}
 use Rattle.block_model.specs.Events.Finish.{refusal_done_by}
-use Rattle.block_model.specs.Events.Preempt.{done_preempt_by}
-use Rattle.block_model.specs.Events.Run.{done_killed, done_running, lives_on}
 use Rattle.block_model.specs.Events.Signal.{refusal_signal_by}
-use Rattle.block_model.specs.Events.Take.{done_take_by}
 use Rattle.block_model.specs.Here.{Done, Here, runs, waiting_here}
 use Rattle.block_model.specs.History.{file_among}
 use Rattle.block_model.specs.PlainEvents.{is_plain, is_plain_exec_by, is_plain_exec_of}
 use Rattle.block_model.specs.Sequences.{interruption_here}
 use Rattle.block_model.specs.Sights.{effect_here, effect_on, fault_here, fault_on}
+use Rattle.block_model.proofs.EventEffects.{CallKills, Calls, EventDeed, Executes, Handles, Restarts, Returns, RunKills, Runs, SignalKills, Skips, begun_by, deed_chosen}
 use Rattle.block_model.proofs.Laws.{of_kernel}
 use Rattle.block_model.proofs.Swaps.PlainEvents.{plain_parts}
 use Rattle.process.specs.Foresight.{foreseen_writes}
 use Rattle.process.specs.Harts.{file_on}
 use Rattle.event_facts.specs.Calls.{call_by, call_in, call_on, is_calling}
 use Rattle.event_facts.specs.Facts.{changed_registers, executed_by, own_registers, registers_seen}
-use Rattle.event_facts.specs.KernelEvents.{changed_own}
+use Rattle.event_facts.specs.KernelEvents.{changed_own, sets_own}
 use Rattle.event_facts.specs.Telling.{plain_event_of}
 use Rattle.event_facts.specs.declared.calls.SystemCall.{SystemCall}
 use Rattle.event_facts.specs.declared.telling.PlainEvent.TheVariants.{Instruction, Drain}
@@ -175,18 +174,21 @@ signal_runs here None t free is = absurd cc
 signal_runs here (Some u) t free is = ap here.file (sym is)
 
 -- the others set no register
-same_take : (here : Here) (restart : Bool) (o : Option ℕ) (t : ℕ) → (file_among (done_take_by here restart o).files t (here.file t)).file ≡ (here.file t).file
-same_take here false o t = refl
-same_take here true None t = refl
-same_take here true (Some u) t = interrupted_same here u t (interruption_here here u)
+same_deed : (here : Here) (tid t : ℕ) {k : Kind} {d : Done} → EventDeed here tid k d → sets_own k ≡ false → (file_among d.files t (here.file t)).file ≡ (here.file t).file
+same_deed here tid t (Skips) sets = absurd (false≢true (sym sets))
+same_deed here tid t (Calls u e next calls outside) sets = absurd (false≢true (sym sets))
+same_deed here tid t (CallKills u e next calls) sets = absurd (false≢true (sym sets))
+same_deed here tid t (Executes u e next) sets = absurd (false≢true (sym sets))
+same_deed here tid t (Restarts u at) sets = interrupted_same here u t (interruption_here here u)
+same_deed here tid t (Returns u at) sets = absurd (false≢true (sym sets))
+same_deed here tid t Runs sets = interrupted_same here tid t (interruption_here here tid)
+same_deed here tid t RunKills sets = interrupted_same here tid t (interruption_here here tid)
+same_deed here tid t (Handles u signal at) sets = absurd (false≢true (sym sets))
+same_deed here tid t (SignalKills u signal killer at) sets = absurd (false≢true (sym sets))
+same_deed here tid t deed sets = refl
 
-same_preempt : (here : Here) (o : Option ℕ) (t : ℕ) → (file_among (done_preempt_by here o).files t (here.file t)).file ≡ (here.file t).file
-same_preempt here None t = refl
-same_preempt here (Some u) t = refl
-
-same_run : (here : Here) (u t : ℕ) (o : Outcome) (b : Bool) → (file_among (cond b (done_running here u o) (done_killed here u o)).files t (here.file t)).file ≡ (here.file t).file
-same_run here u t o true = interrupted_same here u t o
-same_run here u t o false = interrupted_same here u t o
+same_event : (here : Here) (c : Choice) (t : ℕ) → sets_own (kind_of c) ≡ false → (file_among (done_of c here).files t (here.file t)).file ≡ (here.file t).file
+same_event here c t sets = same_deed here (begun_by c) t (deed_chosen here c) sets
 
 module _ (here : Here) (t : ℕ) where
   -- what is seen of it after an event
@@ -203,9 +205,6 @@ module _ (here : Here) (t : ℕ) where
       → own_registers here t (done_of c here) ≡ changed_own c (file_on here (runs here)).file (seen (done_of c here))
   own_told asked.Exec free is plain = of_own (file_on here (runs here)) (done_of asked.Exec here) (exec_runs here (runs here) t free is)
   own_told asked.Drain free is plain = absurd (false≢true (sym plain))
-  own_told asked.Take free is plain = of_none (done_of asked.Take here) (same_take here here.restart (runs here) t)
   own_told asked.Done free is plain = of_own (file_on here (runs here)) (done_of asked.Done here) (done_runs here (runs here) t free is)
-  own_told asked.Preempt free is plain = of_none (done_of asked.Preempt here) (same_preempt here (runs here) t)
-  own_told (asked.Run u) free is plain =
-      of_none (done_of (asked.Run u) here) (same_run here u.0 t (interruption_here here u.0) (lives_on here u.0 (interruption_here here u.0)))
   own_told asked.Signal free is plain = of_own (file_on here (runs here)) (done_of asked.Signal here) (signal_runs here (runs here) t free is)
+  own_told c free is plain = of_none (done_of c here) (same_event here c t refl)

@@ -3,9 +3,8 @@
 use Rattle.mach_types.specs.declared.events.Kind.TheVariants as kind
 use Rattle.mach_types.specs.declared.events.Why.TheVariants.{NoStore}
 use Rattle.block_model.specs.Events.Drain.{refusal_drain_of}
-use Rattle.block_model.specs.Events.Preempt.{refusal_preempt_by}
-use Rattle.block_model.specs.Events.Signal.{refusal_signal_by}
-use Rattle.shared_procs.proofs.Common.{◌≡◌, ◌≢◌, inl, inr, ℕ, Bool, true, false, not, cond, [], ◌∷◌, Option, Some, None, is_some, refl, sym, ap, ◌∙◌, subst, acting, apply, belongs, Choice, choice_of, choice_with, Done, done_as, done_of, done_take_by, ended_if, Entry, false≢true, filter, goes_on, half, Here, here_two, Idle, is_of_process, is_of_second, is_shared, IsPairRunHistory, Kind, kind_of, on_hart, only_took, own_choice, Pair, pair_after, PairEvent, PairHistory, PairSetting, refusal_done_by, refusal_exec_by, refusal_of, running_on, runs, runs_in, stand, waiting_here, belongs_by}
+use Rattle.block_model.proofs.Laws.{has_thread}
+use Rattle.shared_procs.proofs.Common.{◌≡◌, ◌≢◌, inl, inr, ℕ, Bool, true, false, not, cond, [], ◌∷◌, Option, Some, None, is_some, refl, sym, ap, ◌∙◌, subst, acting, apply, belongs, Choice, choice_of, choice_with, Done, done_as, done_of, done_take_by, ended_if, Entry, false≢true, filter, goes_on, half, Here, here_two, is_of_process, is_of_second, is_shared, IsPairRunHistory, Kind, kind_of, on_hart, only_took, own_choice, Pair, pair_after, PairEvent, PairHistory, PairSetting, refusal_of, running_on, runs, runs_in, stand, waiting_here, belongs_by}
 use Rattle.shared_procs.proofs.Halves.{by_process, each_half}
 use Rattle.shared_procs.proofs.HartsApart.{RunsOne, apart, event_of, was_idle}
 use Rattle.shared_procs.proofs.InsideWrites.{AreInside}
@@ -61,13 +60,13 @@ taken_idle here false r none = refl
 
 only_takes : (here : Here) (x : Entry) (k : Kind) → k ≢ kind.Run → runs here ≡ None → waiting_here here ≡ []
     → refusal_of (own_choice (choice_with k x)) here ≡ None → done_of (own_choice (choice_with k x)) here ≡ only_took here
-only_takes here x kind.Exec other idle empty free = let bad : Some Idle ≡ None = sym (ap (refusal_exec_by here) idle) ∙ free in absurd cc
 only_takes here x kind.Drain other idle empty free = let bad : Some NoStore ≡ None = sym (ap refusal_drain_of empty) ∙ free in absurd cc
 only_takes here x kind.Take other idle empty free = taken_idle here here.restart (runs here) idle
-only_takes here x kind.Done other idle empty free = let bad : Some Idle ≡ None = sym (ap (refusal_done_by here) idle) ∙ free in absurd cc
-only_takes here x kind.Preempt other idle empty free = let bad : Some Idle ≡ None = sym (ap (refusal_preempt_by here) idle) ∙ free in absurd cc
 only_takes here x kind.Run other idle empty free = absurd (other refl)
-only_takes here x kind.Signal other idle empty free = let bad : Some Idle ≡ None = sym (ap (refusal_signal_by here) idle) ∙ free in absurd cc
+only_takes here x k other idle empty free =
+    let its = has_thread (own_choice (choice_with k x)) here free refl in
+    let bad : None ≡ Some its.0 = sym idle ∙ its.1 in
+    absurd cc
 
 not_own_run : (m : Pair) (p : Bool) (x : Entry) (k : Kind) → belongs_by m p x k ≡ false → acting m x.hart.0 (choice_with k x) ≡ p
     → (k ≢ kind.Run) × (runs_in m p x.hart.0 ≡ None)

@@ -1,14 +1,15 @@
 -- While a thread waits in the barrier that it began it stays on its hart, which makes no event but takes of requests (membarrier(2)). And a
 -- take interrupts a thread only where one of the requests asks for a restart.
 use Rattle.std.proofs.Common.{◌≡◌, ℕ, refl, Bool, true, false, Option, Some, None, ◌≢◌, List, [], ◌∷◌, ◌++◌, sym, ap, ◌∙◌, subst, cond}
-use Rattle.block_model.proofs.Common.{Barrier, Done, Entry, Event, Here, History, IsAllowedLog, IsRunHistory, IsSome, Kind, Setting, Store, awaits, awaits_of_own, choice_with, done, done_of, done_take, done_take_by, eqb-false, eqb-true, event, false≢true, history, is_of_hart, next_for, number_of, option_map, option_or, refusal_delivery, refusal_drain_of, refusal_exec_by, refusal_of, refusal_preempt_by, refusal_signal_by, restart, running, running_on, runs, thread_in, unless_waiting, waiting_here, without_hart}
+use Rattle.block_model.proofs.Common.{Barrier, Done, Entry, Event, Here, History, IsAllowedLog, IsRunHistory, IsSome, Kind, Setting, Store, awaits, awaits_of_own, choice_with, done, done_of, done_take, done_take_by, eqb-false, eqb-true, event, false≢true, history, is_of_hart, number_of, option_map, option_or, refusal_drain_of, refusal_of, restart, running, running_on, runs, thread_in, waiting_here, without_hart}
 use Rattle.mach_types.specs.declared.events.Kind.TheVariants as kind
 use Rattle.block_model.specs.Barriers.{Begun, IsWaiting, begun_on, begun_or}
 use Rattle.block_model.proofs.Barriers.Events.{waited_before}
 use Rattle.block_model.proofs.Barriers.Return.{returns_by}
 use Rattle.block_model.proofs.ErrorCalls.{run_to}
 use Rattle.block_model.proofs.EventEffects.{Calls, EventDeed, deed_of}
-use Rattle.block_model.proofs.Invariants.Events.{out_of_barrier, run_ready}
+use Rattle.block_model.proofs.EventNeeds.{waits_in_none}
+use Rattle.block_model.proofs.Invariants.Events.{run_ready}
 use Rattle.block_model.proofs.Runs.{fit_at, waiter_runs, waiter_stores}
 use Rattle.block_model.proofs.WholeEvents.{did, is_free, its_thread, place}
 
@@ -50,18 +51,6 @@ module _ (here : Here) (left : ℕ) (waits : here.awaits ≡ Some left) where
   in_barrier : here.awaits ≢ None
   in_barrier free = let bad : None ≡ Some left = sym free ∙ waits in absurd cc
 
-  not_exec : (r : Option ℕ) → refusal_exec_by here r ≢ None
-  not_exec None free = absurd cc
-  not_exec (Some t) free = in_barrier (out_of_barrier here.awaits _ free).0
-
-  not_preempt : (r : Option ℕ) → refusal_preempt_by here r ≢ None
-  not_preempt None free = absurd cc
-  not_preempt (Some t) free = in_barrier (out_of_barrier here.awaits (unless_waiting (waiting_here here)) free).0
-
-  not_signal : (r : Option ℕ) → refusal_signal_by here r ≢ None
-  not_signal None free = absurd cc
-  not_signal (Some t) free = in_barrier (out_of_barrier here.awaits (refusal_delivery here (next_for t here.kernel.signals)) free).0
-
   not_drain : (ws : List Store) → ws ≡ [] → refusal_drain_of ws ≢ None
   not_drain [] none free = absurd cc
   not_drain (w ∷ ws) none free = absurd cc
@@ -69,13 +58,11 @@ module _ (here : Here) (left : ℕ) (waits : here.awaits ≡ Some left) where
   -- they are takes, where the barrier doesn't return
   only_takes : (k : Kind) (x : Entry) → runs here ≢ None → waiting_here here ≡ [] → refusal_of (choice_with k x) here ≡ None
       → (done_of (choice_with k x) here).returned ≡ false → k ≡ kind.Take
-  only_takes kind.Exec x busy empty free stays = absurd (not_exec (runs here) free)
   only_takes kind.Drain x busy empty free stays = absurd (not_drain (waiting_here here) empty free)
   only_takes kind.Take x busy empty free stays = refl
   only_takes kind.Done x busy empty free stays = absurd (false≢true (sym stays ∙ returns_by here (runs here) free))
-  only_takes kind.Preempt x busy empty free stays = absurd (not_preempt (runs here) free)
   only_takes kind.Run x busy empty free stays = absurd (busy (run_ready here x.tid.0 free).0)
-  only_takes kind.Signal x busy empty free stays = absurd (not_signal (runs here) free)
+  only_takes k x busy empty free stays = absurd (in_barrier (waits_in_none (choice_with k x) here free refl))
 
 -- WHILE A THREAD WAITS
 
