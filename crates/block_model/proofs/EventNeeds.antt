@@ -1,10 +1,8 @@
 -- What an allowed event needs, by what it is: a thread that runs on its hart; and that this one waits in no barrier.
-use Rattle.std.proofs.Common.{◌≡◌, ◌||◌, ℕ, Bool, true, false, not, Option, Some, None, refl, sym, ap, ◌∙◌}
-use Rattle.block_model.proofs.Common.{Choice, Entry, Here, Kind, Why, choice_with, false≢true, number_of, refusal_done_by, refusal_exec_by, refusal_of, refusal_preempt_by, refusal_signal_by, runs, thread_in, unless_in_barrier}
-use Rattle.mach_types.proofs.Laws.{kind_back}
-use Rattle.mach_types.specs.Events.{is_preempt, is_return, is_run, is_take, kind_of, nature_of}
+use Rattle.std.proofs.Common.{◌≡◌, ◌||◌, ℕ, Bool, true, false, not, Option, Some, None, refl, sym, ◌∙◌}
+use Rattle.block_model.proofs.Common.{Choice, Here, Kind, Why, false≢true, refusal_done_by, refusal_exec_by, refusal_of, refusal_preempt_by, refusal_signal_by, runs, unless_in_barrier}
+use Rattle.mach_types.specs.Events.{is_return, is_run, is_take, kind_of, nature_of}
 use Rattle.mach_types.specs.declared.events.Choice.TheVariants as asked
-use Rattle.mach_types.specs.declared.events.Kind.TheVariants as kind
 use Rattle.mach_types.specs.declared.events.Maker.{Maker}
 use Rattle.mach_types.specs.declared.events.Maker.TheVariants.{Thread, Buffer, Kernel}
 use Rattle.block_model.proofs.Invariants.Events.{out_of_barrier}
@@ -44,20 +42,3 @@ waits_in_none asked.Exec here free needs = outside here (refusal_exec_by here) _
 waits_in_none asked.Preempt here free needs = outside here (refusal_preempt_by here) _ (λ none. cc) (λ t. refl) (runs here) free
 waits_in_none asked.Signal here free needs = outside here (refusal_signal_by here) _ (λ none. cc) (λ t. refl) (runs here) free
 waits_in_none c here free needs = absurd (false≢true needs)
-
--- an event by which a thread leaves needs one that runs, and is of it
-leaving_needs : (k : Kind) → is_preempt k ≡ true → needs_thread k ≡ true
-leaving_needs kind.Drain leaves = absurd (false≢true leaves)
-leaving_needs kind.Take leaves = absurd (false≢true leaves)
-leaving_needs kind.Run leaves = absurd (false≢true leaves)
-leaving_needs k leaves = refl
-
-leaving_names : (k : Kind) (x : Entry) (here : Here) → is_preempt k ≡ true → thread_in (choice_with k x) here ≡ runs here
-leaving_names kind.Run x here leaves = absurd (false≢true leaves)
-leaving_names k x here leaves = refl
-
-pub leaving_runs : (k : Kind) (x : Entry) (here : Here) → is_preempt k ≡ true → refusal_of (choice_with k x) here ≡ None
-    → runs here ≡ Some (number_of (thread_in (choice_with k x) here))
-leaving_runs k x here leaves free =
-    let its = has_thread (choice_with k x) here free (ap needs_thread (kind_back k x.tid) ∙ leaving_needs k leaves) in
-    its.1 ∙ ap (λ r. Some (number_of r)) (sym its.1 ∙ sym (leaving_names k x here leaves))

@@ -33,6 +33,7 @@ mod KernelTables
 mod KernelWrites
 mod LawExamples
 pub mod Laws
+mod LeavingEvents
 mod MemoryExamples
 mod NamedSequences
 mod OtherThreads

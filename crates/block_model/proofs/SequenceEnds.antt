@@ -1,6 +1,8 @@
 -- What the next event of its hart makes of a sequence that it isn't of: where it doesn't interrupt the thread, and where it does.
 use Rattle.std.proofs.Common.{◌≡◌, ◌≢◌, ℕ, [], ◌∷◌, ◌&&◌, ◌||◌, refl, sym, ap, ◌∙◌, subst, Bool, true, false, not, cond, eqb, Option, Some, None, is_some, ◌+◌, ◌⊎◌, inl, inr, List, ◌++◌, Any}
 use Rattle.block_model.proofs.Common.{Area, Done, End, EndsWhole, Entry, Event, FindsBad, GoesOnWith, Here, History, IsCutProperly, IsDeadBy, IsLeftNull, IsRunHistory, Killed, Kind, NotInBarrier, Outcome, RSEQ_CS, RunsThroughout, SIGSEGV, Saved, Sequence, Setting, Stored, WasTouched, Write, abort_of, area_here, choice_with, cut_or, end_before, end_so_far, ended, eqb_same, false≢true, file, file_interrupted, hanging, hanging_after, has_died, has_killed, here_in_history, interruption_here, is_inside_at, is_inside_here, is_inside_named, is_inside_waiting, is_taken_in, is_writable, memory, moved_out, named, number_of, option_map_or, option_or, refusal_done_by, refusal_of, refusal_return, refusal_run_by, runs, sequence_on, taken_up, view, waiting_here, with_event, writes_of}
+use Rattle.block_model.proofs.LeavingEvents.{leaving_runs, moved_leaving}
+use Rattle.mach_types.specs.Events.{is_preempt, nature_of}
 use Rattle.mach_types.specs.declared.events.Kind.TheVariants as kind
 use Rattle.mach_types.specs.declared.sequences.Outcome.TheVariants as comes_to
 use Rattle.block_model.specs.declared.acts.SeqEnd.{SeqEnd}
@@ -95,7 +97,7 @@ not_taken : (b : Bool) (q : Sequence) → cond b (Some q) None ≡ None → b �
 not_taken true q is = absurd cc
 not_taken false q is = refl
 
--- so it is a preempt, since its thread waits in no barrier
+-- so its thread leaves by it, since that one waits in no barrier
 never_returns : (here : Here) (r : Option ℕ) → here.awaits ≡ None → refusal_done_by here r ≡ None → ⊥
 never_returns here None out free = cc
 never_returns here (Some t) out free =
@@ -103,12 +105,14 @@ never_returns here (Some t) out free =
     cc
 
 preempts : (k : Kind) (x : Entry) (here : Here) (u : ℕ) → k ≢ kind.Signal → here.awaits ≡ None → runs here ≡ Some u
-    → refusal_of (choice_with k x) here ≡ None → is_taken_in k None ≡ false → k ≡ kind.Preempt
+    → refusal_of (choice_with k x) here ≡ None → is_taken_in k None ≡ false → is_preempt k ≡ true
+preempts kind.Exec x here u other out on free isnt = absurd (false≢true (sym isnt))
+preempts kind.Drain x here u other out on free isnt = absurd (false≢true (sym isnt))
+preempts kind.Take x here u other out on free isnt = absurd (false≢true (sym isnt))
 preempts kind.Done x here u other out on free isnt = absurd (never_returns here (runs here) out free)
-preempts kind.Preempt x here u other out on free isnt = refl
 preempts kind.Run x here u other out on free isnt = absurd (busy here x.tid.0 u (runs here) on free)
 preempts kind.Signal x here u other out on free isnt = absurd (other refl)
-preempts k x here u other out on free isnt = absurd (false≢true (sym isnt))
+preempts k x here u other out on free isnt = refl
 
 module _ (s : Setting) (e : Event) (before : History) (q : Sequence) (run : IsRunHistory s (e ∷ before))
     (isnt : e.entry.kind ≢ kind.Signal) (none : e.done.interrupted ≡ None) (is : sequence_on s e.entry.hart.0 before ≡ Some q)
@@ -130,12 +134,14 @@ module _ (s : Setting) (e : Event) (before : History) (q : Sequence) (run : IsRu
       let here = place s e before run in
       let there = (runs_throughout s before h q run.0 is).now in
       let out = in_no_barrier s before h q run.0 is in
-      let preempt = preempts e.entry.kind e.entry here q.thread isnt out there (is_free s e before run e.entry.kind refl) left_out in
-      let own : e.entry.tid.0 ≡ q.thread = its_thread s e before run kind.Preempt preempt ∙ ap number_of there in
+      let free = is_free s e before run e.entry.kind refl in
+      let leaves = preempts e.entry.kind e.entry here q.thread isnt out there free left_out in
+      let own : e.entry.tid.0 ≡ q.thread =
+      its_thread s e before run e.entry.kind refl ∙ ap number_of (sym (leaving_runs e.entry.kind e.entry here leaves free) ∙ there) in
       let still = hanging s q.thread before in
       ap (λ n. cond (eqb n q.thread) (hanging_after s q.thread e before e.entry.kind still) still) own
       ∙ ap (λ b. cond b (hanging_after s q.thread e before e.entry.kind still) still) (eqb_same q.thread)
-      ∙ ap (λ k. hanging_after s q.thread e before k still) preempt
+      ∙ moved_leaving s e before (nature_of e.entry.kind).movement still leaves
       ∙ ap (λ b. cond b (sequence_on s h before) None) inside
       ∙ is
 

@@ -2,8 +2,11 @@
 -- sequence's hart from the place before the first event on.
 use Rattle.std.proofs.Common.{◌≡◌, ◌≢◌, ℕ, ◌∷◌, refl, sym, ◌∙◌, subst, Bool, true, false, not, cond, eqb, Option, Some, None, [], ap}
 use Rattle.block_model.proofs.Common.{Done, Entry, Event, Here, History, IsRunHistory, Kernel, Kind, Outcome, RunsThroughout, Sequence, Setting, begun_with, choice_of, choice_with, done, done_of, eqb-false, eqb-true, false≢true, hanging, hanging_after, here_in_history, is_inside_at, is_inside_here, is_instruction, is_of_hart, is_taken_in, number_of, option_map_or, running, running_on, runs, sequence_on, taken_up, thread_in, with_event}
-use Rattle.mach_types.specs.Events.{is_preempt}
+use Rattle.mach_types.specs.Events.{is_beginning, is_leaving, is_preempt, nature_of}
 use Rattle.mach_types.specs.declared.events.Kind.TheVariants as kind
+use Rattle.mach_types.specs.declared.events.Movement.{Movement}
+use Rattle.mach_types.specs.declared.events.Movement.TheVariants.{Stays, Leaves, Begins as StartsToRun}
+use Rattle.block_model.specs.Acts.{hanging_moved}
 use Rattle.block_model.proofs.Runs.{allowed_at, fit_at}
 use Rattle.block_model.proofs.EventEffects.{Calls, EventDeed, Preempts, Runs, deed_of}
 use Rattle.block_model.proofs.SignalTables.{OnlySignals}
@@ -89,30 +92,27 @@ by_sequence s h P step (e ∷ before) q run is =
 pub data HangingStep (s : Setting) (e : Event) (before : History) (t : ℕ) (q : Sequence) : Type 0 where
   HangsOn : hanging s t before ≡ Some q → (e.entry.kind ≡ kind.Run → e.entry.tid.0 ≢ t)
       → HangingStep s e before t q
-  Preempted : e.entry.kind ≡ kind.Preempt → e.entry.tid.0 ≡ t → is_inside_at s e.entry.hart.0 before ≡ true
+  Preempted : is_preempt e.entry.kind ≡ true → e.entry.tid.0 ≡ t → is_inside_at s e.entry.hart.0 before ≡ true
       → sequence_on s e.entry.hart.0 before ≡ Some q → HangingStep s e before t q
 
 module _ (s : Setting) (e : Event) (before : History) (t : ℕ) (q : Sequence) where
-  preempted_by : (b : Bool) → is_inside_at s e.entry.hart.0 before ≡ b → e.entry.kind ≡ kind.Preempt
+  preempted_by : (b : Bool) → is_inside_at s e.entry.hart.0 before ≡ b → is_preempt e.entry.kind ≡ true
       → e.entry.tid.0 ≡ t
       → cond b (sequence_on s e.entry.hart.0 before) None ≡ Some q → HangingStep s e before t q
   preempted_by true inside its own is = Preempted its own inside is
   preempted_by false inside its own is = absurd cc
 
-  hangs_on : (k : Kind) → e.entry.kind ≡ k → k ≢ kind.Run → hanging s t before ≡ Some q
-      → HangingStep s e before t q
-  hangs_on k its other is = HangsOn is (λ runs. absurd (other (sym its ∙ runs)))
-
-  by_kind : (k : Kind) → e.entry.kind ≡ k → e.entry.tid.0 ≡ t
-      → hanging_after s t e before k (hanging s t before) ≡ Some q → HangingStep s e before t q
-  by_kind kind.Preempt its own is = preempted_by (is_inside_at s e.entry.hart.0 before) refl its own is
-  by_kind kind.Run its own is = absurd cc
-  by_kind k its own is = hangs_on k its (λ same. absurd cc) is
+  by_move : (m : Movement) → (nature_of e.entry.kind).movement ≡ m → e.entry.tid.0 ≡ t
+      → hanging_moved s e before m (hanging s t before) ≡ Some q → HangingStep s e before t q
+  by_move Stays its own is =
+      HangsOn is (λ runs. absurd (false≢true (ap is_beginning (sym its ∙ ap (λ k. (nature_of k).movement) runs))))
+  by_move Leaves its own is = preempted_by (is_inside_at s e.entry.hart.0 before) refl (ap is_leaving its) own is
+  by_move StartsToRun its own is = absurd cc
 
   by_thread : (b : Bool) → eqb e.entry.tid.0 t ≡ b
       → cond b (hanging_after s t e before e.entry.kind (hanging s t before)) (hanging s t before) ≡ Some q
       → HangingStep s e before t q
-  by_thread true own is = by_kind e.entry.kind refl (eqb-true e.entry.tid.0 t own) is
+  by_thread true own is = by_move (nature_of e.entry.kind).movement refl (eqb-true e.entry.tid.0 t own) is
   by_thread false other is = HangsOn is (λ runs. eqb-false e.entry.tid.0 t other)
 
   pub hanging_step : hanging s t (e ∷ before) ≡ Some q → HangingStep s e before t q

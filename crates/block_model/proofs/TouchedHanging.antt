@@ -1,9 +1,11 @@
 -- A sequence that hangs: what its thread keeps from the place on at which it was preempted, and that bytes stay which nothing touched.
 use Rattle.std.proofs.Common.{◌≡◌, ◌≢◌, ℕ, ◌+◌, ◌<◌, List, [], ◌∷◌, length, refl, sym, ap, ◌∙◌, arith, true, false, Option, Some, None}
-use Rattle.block_model.proofs.Common.{Bytes, Done, Entry, Event, Here, History, IsRunHistory, Kernel, Kind, Ready, Sequence, Setting, Store, area_of, before_last, choice_of, choice_with, done, done_of, done_preempt_by, file, file_among, hanging, here_in_history, is_inside_at, is_ready, kernel, left, list_any, memory, number_of, on, option_map, or_parts, overlay, refusal_of, refusal_preempt_by, running, sequence_on, thread_in, touched_in, touches, unless_waiting, view, waiting_here}
+use Rattle.block_model.proofs.Common.{Bytes, Done, Entry, Event, Here, History, IsRunHistory, Kernel, Ready, Sequence, Setting, Store, area_of, before_last, choice_of, done, done_preempt_by, file, file_among, hanging, here_in_history, is_inside_at, is_ready, kernel, left, list_any, memory, number_of, on, option_map, or_parts, overlay, running, sequence_on, touched_in, touches, view, waiting_here}
 use Rattle.mach_types.specs.declared.events.Kind.TheVariants as kind
+use Rattle.mach_types.specs.Events.{is_preempt}
+use Rattle.block_model.proofs.LeavingEvents.{leaving_does, leaving_runs, leaving_waits}
 use Rattle.block_model.proofs.Runs.{allowed_at, settled}
-use Rattle.block_model.proofs.Invariants.Events.{none_waits, out_of_barrier, ready_apart}
+use Rattle.block_model.proofs.Invariants.Events.{ready_apart}
 use Rattle.block_model.proofs.KernelTables.{its_ready, running_is, state_now}
 use Rattle.block_model.proofs.ReadyFiles.{area_stays, ready_file_stays, ready_stays}
 use Rattle.block_model.proofs.Sequences.{runs_throughout, HangingStep, HangsOn, Preempted, hanging_step}
@@ -12,7 +14,7 @@ use Rattle.block_model.proofs.TouchedPlaces.{AgreeAll, AreSmall, agree_twice, pe
 
 -- A PREEMPTION
 
-module _ (s : Setting) (e : Event) (before : History) (t : ℕ) (run : IsRunHistory s (e ∷ before)) (kind_is : e.entry.kind ≡ kind.Preempt)
+module _ (s : Setting) (e : Event) (before : History) (t : ℕ) (run : IsRunHistory s (e ∷ before)) (leaves : is_preempt e.entry.kind ≡ true)
     (at : running s e.entry.hart.0 before ≡ Some t) where
   abbrev place : Here
   place = here_in_history s before e.entry.hart.0
@@ -20,7 +22,7 @@ module _ (s : Setting) (e : Event) (before : History) (t : ℕ) (run : IsRunHist
   preempt_done : e.done ≡ done_preempt_by place (Some t)
   unfolding done
   preempt_done =
-      ap (λ (x : Event). x.done) run.2 ∙ ap (λ (k : Kind). done_of (choice_with k e.entry) place) kind_is ∙ ap (done_preempt_by place) at
+      ap (λ (x : Event). x.done) run.2 ∙ leaving_does e.entry.kind e.entry place t leaves at
 
   preempt_record : kernel s (e ∷ before) ≡ left t (kernel s before)
   preempt_record = ap (λ (d : Done). d.kernel) preempt_done
@@ -30,14 +32,12 @@ module _ (s : Setting) (e : Event) (before : History) (t : ℕ) (run : IsRunHist
 
   preempt_waits : waiting_here place ≡ []
   preempt_waits =
-      let a = allowed_at s before e.entry.hart.0 (choice_of e.entry) e.entry run.1 in
-      let free = sym (ap (λ (k : Kind). refusal_of (choice_with k e.entry) place) kind_is ∙ ap (refusal_preempt_by place) at) ∙ a.free in
-      none_waits (waiting_here place) (out_of_barrier place.awaits (unless_waiting (waiting_here place)) free).1
+      leaving_waits e.entry.kind e.entry place leaves (allowed_at s before e.entry.hart.0 (choice_of e.entry) e.entry run.1).free
 
   preempt_tid : e.entry.tid.0 ≡ t
   preempt_tid =
       let a = allowed_at s before e.entry.hart.0 (choice_of e.entry) e.entry run.1 in
-      ap (λ (x : Entry). x.tid.0) a.is ∙ ap (λ (k : Kind). number_of (thread_in (choice_with k e.entry) place)) kind_is ∙ ap number_of at
+      ap (λ (x : Entry). x.tid.0) a.is ∙ ap number_of (sym (leaving_runs e.entry.kind e.entry place leaves a.free) ∙ at)
 
   preempt_ready : is_ready t (kernel s (e ∷ before)).threads ≡ true
   preempt_ready =
@@ -88,7 +88,7 @@ module _ (s : Setting) (e : Event) (before : History) (t : ℕ) (q : Sequence) (
   more_count longer = omega arith
 
   -- on the hart of the sequence
-  hanging_from : q.hart ≡ e.entry.hart.0 → e.entry.kind ≡ kind.Preempt → running s e.entry.hart.0 before ≡ Some q.thread
+  hanging_from : q.hart ≡ e.entry.hart.0 → is_preempt e.entry.kind ≡ true → running s e.entry.hart.0 before ≡ Some q.thread
       → e.entry.tid.0 ≡ t → is_inside_at s e.entry.hart.0 before ≡ true → sequence_on s e.entry.hart.0 before ≡ Some q → IsHanging s (e ∷ before) t q
   hanging_from hart kind_is at own inside was =
       let thread : q.thread ≡ t = sym (preempt_tid s e before q.thread run kind_is at) ∙ own in

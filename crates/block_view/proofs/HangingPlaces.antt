@@ -17,7 +17,7 @@ use Rattle.block_model.specs.Here.{runs}
 use Rattle.block_model.specs.History.{Event, History, here_in_history, kernel, running}
 use Rattle.block_model.specs.Run.{IsRunHistory}
 use Rattle.block_model.specs.Setting.{Setting}
-use Rattle.block_model.proofs.Laws.{leaving_runs, running_is}
+use Rattle.block_model.proofs.Laws.{leaving_runs, moved_leaving, running_is}
 use Rattle.block_view.specs.Acts.{begins_to_run}
 use Rattle.block_view.specs.Standing.{Standing, standings}
 use Rattle.block_view.specs.Standing.Standing.{Hanging}
@@ -46,12 +46,6 @@ runs_not_ready s e before t run runs ready =
 
 module _ (s : Setting) (e : Event) (before : History) (q : Sequence) (run : IsRunHistory s (e ∷ before)) where
   -- one whose thread was preempted inside by the event
-  hangs_moved : (m : Movement) (still : Option Sequence) → is_leaving m ≡ true
-      → acts.hanging_moved s e before m still ≡ cond (is_inside_at s e.entry.hart.0 before) (sequence_on s e.entry.hart.0 before) None
-  hangs_moved Stays still leaves = absurd (false≢true leaves)
-  hangs_moved Leaves still leaves = refl
-  hangs_moved Begins still leaves = absurd (false≢true leaves)
-
   left_hangs : is_preempt e.entry.kind ≡ true → e.entry.hart.0 ≡ q.hart → is_inside_at s q.hart before ≡ true → sequence_on s q.hart before ≡ Some q
       → hanging s q.thread (e ∷ before) ≡ Some q
   left_hangs is same inside was =
@@ -59,7 +53,7 @@ module _ (s : Setting) (e : Event) (before : History) (q : Sequence) (run : IsRu
       let thread : e.entry.tid.0 ≡ q.thread = ap number_of (sym (ran s e before run is) ∙ ap (λ h. running s h before) same ∙ there.now) in
       ap (λ b. cond b (acts.hanging_after s q.thread e before e.entry.kind (hanging s q.thread before)) (hanging s q.thread before))
       (ap (λ t. eqb t q.thread) thread ∙ eqb_same q.thread)
-      ∙ hangs_moved (nature_of e.entry.kind).movement (hanging s q.thread before) is
+      ∙ moved_leaving s e before (nature_of e.entry.kind).movement (hanging s q.thread before) is
       ∙ ap (λ h. cond (is_inside_at s h before) (sequence_on s h before) None) same
       ∙ ap (λ b. cond b (sequence_on s q.hart before) None) inside
       ∙ was
