@@ -5,9 +5,9 @@ use Rattle.std.proofs.Common.{sym, ap, ◌∙◌, subst, arith, Bool, true, fals
 use Rattle.std.proofs.Common.{is_some}
 use Rattle.std.specs.Option.{option_map}
 use Rattle.std.proofs.lemmas.Bool.{eqb-true, eqb-false, false≢true, leb-false}
-use Rattle.mach_types.proofs.Laws.{eqb_same, next_is_new}
+use Rattle.mach_types.proofs.Laws.{eqb_same, kind_back, next_is_new}
 use Rattle.mach_types.specs.Bytes.{all_stored, overlay, word_at, written}
-use Rattle.mach_types.specs.Events.{choice_with}
+use Rattle.mach_types.specs.Events.{choice_with, is_preempt, kind_of, maker_of}
 use Rattle.mach_types.specs.Kernel.Areas.{interruption, is_inside, pc_after}
 use Rattle.mach_types.specs.Kernel.Signals.{next_for}
 use Rattle.mach_types.specs.Kernel.Threads.{Thread, Threads, is_live, is_ready, running_on, state_of}
@@ -30,6 +30,7 @@ use Rattle.mach_types.specs.declared.threads.Saved.{Saved}
 use Rattle.mach_types.specs.declared.threads.ThreadState.{ThreadState}
 use Rattle.mach_types.specs.declared.threads.ThreadState.TheVariants.{Ready, Running, Waiting}
 use Rattle.mach_types.specs.declared.user_memory.Store.{Store}
+use Rattle.mach_types.specs.declared.user_memory.Write.{Write}
 use Rattle.rv_inst.specs.Class.{is_call}
 use Rattle.rv_inst.specs.Execution as execution
 use Rattle.rv_inst.specs.Execution.{outcome}
@@ -39,7 +40,7 @@ use Rattle.block_model.specs.Events.{done_of, refusal_of}
 use Rattle.block_model.specs.Events.Exec.{by_call, by_effect, by_outcome, called_here, done_exec_by}
 use Rattle.block_model.specs.Events.Exec.{has_handler, next_effect, next_fault, outcome_of}
 use Rattle.block_model.specs.Events.Finish.{done_done_by}
-use Rattle.block_model.specs.Events.Preempt.{done_preempt_by, refusal_preempt_by, unless_in_barrier}
+use Rattle.block_model.specs.Events.Preempt.{done_preempt_by, unless_in_barrier}
 use Rattle.block_model.specs.Events.Preempt.{unless_waiting}
 use Rattle.block_model.specs.Events.Run.{done_killed, done_run, done_running, lives_on}
 use Rattle.block_model.specs.Events.Signal.{done_next, done_signal_by, handled_unless_killed, kills}
@@ -58,8 +59,10 @@ use Rattle.block_model.specs.Tables.{on}
 use Rattle.block_model.proofs.Laws.{Aborts, Answered, AtBirth, AtHandler, AtRun, AtTake, ByCall}
 use Rattle.block_model.proofs.Laws.{ByInstruction, FileStays, FileStep, HasRegisters, IsInterrupted}
 use Rattle.block_model.proofs.Laws.{IsNextInstruction, IsStep, drains_none, file_apart, file_step}
-use Rattle.block_model.proofs.Laws.{has_registers, left_idle, not_ready, one_hart, ran_before, ran_runs}
-use Rattle.block_model.proofs.Laws.{run_ready, running_is, running_there, runs_apart, step_of}
+use Rattle.block_model.proofs.Laws.{has_registers, not_ready, one_hart, ran_before, ran_runs}
+use Rattle.block_model.proofs.Laws.{IsOfKernel, is_by_kernel, keeps_record, leaving_does, leaving_waits}
+use Rattle.block_model.proofs.Laws.{may_interrupt, of_kernel, run_ready, running_is, running_there, runs_apart, step_of}
+use Rattle.block_model.proofs.Laws.{writes_none}
 use Rattle.alone_laws.specs.Spans.{Leaves, code_of, seen_at, sees}
 use Rattle.alone_laws.specs.Uses.{AreUsed, Arrives, HasItsArea, HasLeft, IsDescribed, IsTakenOut, IsUsed}
 use Rattle.alone_laws.specs.Uses.{IsWellPlaced, Placed, at_first, came_back, executed, in_block, interrupted}
@@ -91,10 +94,6 @@ awaits_open (Some left) o free = absurd cc
 
 pub no_reason : (Some why.NoSignal ≡ None) → ⊥
 no_reason is = cc
-
-preempt_empty : (here : Here) (t : ℕ) → refusal_preempt_by here (Some t) ≡ None → waiting_here here ≡ []
-preempt_empty here t free = empty_of (waiting_here here)
-    (awaits_open here.awaits (unless_waiting (waiting_here here)) free)
 
 pub signal_empty : (here : Here) (t : ℕ) → refusal_signal_by here (Some t) ≡ None → waiting_here here ≡ []
 signal_empty here t free =
@@ -203,9 +202,6 @@ done_exec_kind is = cc
 
 pub run_exec : kind.Run ≡ kind.Exec → ⊥
 run_exec is = cc
-
-preempt_exec : kind.Preempt ≡ kind.Exec → ⊥
-preempt_exec is = cc
 
 not_over : (x : End) → Some x ≡ None → ⊥
 not_over x is = cc
@@ -668,9 +664,22 @@ module _ (s : Setting) (b : Placed) (t : ℕ) (Know : ℕ → Regs → Type 0) (
         → e.done ≡ done_done_by here (Some t)
     return_done is at = did_at kind.Done is ∙ ap (done_done_by here) at
 
-    pub preempt_done : e.entry.kind ≡ kind.Preempt → running s own before ≡ Some t
+    pub leaving_done : (k : Kind) → e.entry.kind ≡ k → is_preempt k ≡ true → running s own before ≡ Some t
         → e.done ≡ done_preempt_by here (Some t)
-    preempt_done is at = did_at kind.Preempt is ∙ ap (done_preempt_by here) at
+    leaving_done k is leaves at = did_at k is ∙ leaving_does k e.entry here t leaves at
+
+    -- what its hart sees is left by an event of the kernel that writes nothing
+    seen_quiet : (k : Kind) → e.entry.kind ≡ k → IsOfKernel (done_of (choice_with k e.entry) here)
+        → (done_of (choice_with k e.entry) here).entered ≡ [] → running s own before ≡ Some t → In before
+        → SeesTable own (e ∷ before)
+    seen_quiet k is by_it none at inside =
+        let did = did_at k is in
+        kept_own (ap (λ (d : Done). d.drained) did ∙ by_it.drained)
+        (λ a c has. ap (λ (d : Done). written d.entered a c) did
+        ∙ ap (λ (ws : List Write). written ws a c) none)
+        (λ a c has. ap (λ (d : Done). overlay d.executed a c) did
+        ∙ ap (λ (ws : List Store). overlay ws a c) by_it.executed)
+        (was.seen own at inside)
 
     seen_kind : running s own (e ∷ before) ≡ Some t → In (e ∷ before) → (k : Kind) → e.entry.kind ≡ k
         → SeesTable own (e ∷ before)
@@ -695,24 +704,14 @@ module _ (s : Setting) (b : Placed) (t : ℕ) (Know : ℕ → Regs → Type 0) (
         sym (ap (λ (d : Done). d.interrupted) did) ∙ take_quiet is at inside now in
         kept_idle (subst (IsIdle here) (sym did) (take_idle here here.restart (runs here) none))
         (was.seen own at inside)
-    seen_kind now_at now kind.Done is =
-        let at = ran_here kind.Done is (λ same. cc) now_at in
-        let inside = was_in now (λ exec. done_exec_kind (sym is ∙ exec)) in
-        let did = return_done is at in
-        kept_own (ap (λ (d : Done). d.drained) did)
-        (λ a c has. ap (λ (d : Done). written d.entered a c) did)
-        (λ a c has. ap (λ (d : Done). overlay d.executed a c) did)
-        (was.seen own at inside)
-    seen_kind now_at now kind.Preempt is =
-        let at = ran_here kind.Preempt is (λ same. cc) now_at in
-        let k = kernel s before in
-        let none = left_idle s.limits.harts own t k.threads k.scheduling step.good.kernel.tables at in
-        absurd (no_one t (sym none ∙ sym
-        (ap (λ (d : Done). running_on own d.kernel.threads) (preempt_done is at)) ∙ now_at))
     seen_kind now_at now kind.Run is =
         absurd (run_out is (begins_it is now_at) (was_in now (λ exec. run_exec (sym is ∙ exec))) now)
     seen_kind now_at now kind.Signal is =
         absurd (no_signal now is (ran_here kind.Signal is (λ same. cc) now_at))
+    seen_kind now_at now k is =
+        seen_quiet k is (of_kernel here (choice_with k e.entry) refl)
+        (writes_none here (choice_with k e.entry) refl refl) (ran_here k is (λ same. cc) now_at)
+        (was_in now (λ exec. let both : k ≡ kind.Exec = sym is ∙ exec in cc))
 
     seen_next : (h : ℕ) → running s h (e ∷ before) ≡ Some t → In (e ∷ before) → SeesTable h (e ∷ before)
     seen_next h at now = by_hart (eqb own h) refl
@@ -772,6 +771,25 @@ module _ (s : Setting) (b : Placed) (t : ℕ) (Know : ℕ → Regs → Type 0) (
     take_still true None = refl
     take_still true (Some u) = refl
 
+    -- an event of the kernel that interrupts no thread, by which its thread leaves or doesn't
+    stored_quiet : (k : Kind) → e.entry.kind ≡ k → is_by_kernel (maker_of (choice_with k e.entry)) ≡ true
+        → may_interrupt (kind_of (choice_with k e.entry)) ≡ false → k ≢ kind.Exec → running s own before ≡ Some t
+        → IsOff (e ∷ before) → In (e ∷ before) → (b : Bool) → is_preempt k ≡ b → HoldsTable (e ∷ before)
+    stored_quiet k is by_it never other at off now false stays =
+        let keeps = keeps_record here (choice_with k e.entry) by_it never
+        (ap is_preempt (kind_back k e.entry.tid) ∙ stays) in
+        absurd (off own (ap (λ (d : Done). running_on own d.kernel.threads) (did_at k is)
+        ∙ ap (λ (x : Kernel). running_on own x.threads) keeps ∙ at))
+    stored_quiet k is by_it never other at off now true leaves =
+        let inside = was_in now (λ exec. other (sym is ∙ exec)) in
+        let empty = leaving_waits k e.entry here leaves (free_at k is) in
+        in_pointer (λ a has. ap Some (
+        ap (λ (d : Done). written d.entered a (byte s before a)) (did_at k is)
+        ∙ ap (λ (ws : List Write). written ws a (byte s before a))
+        (writes_none here (choice_with k e.entry) by_it never)
+        ∙ sym (ap (λ (ws : List Store). overlay ws a (byte s before a)) empty)))
+        ∙ was.seen own at inside
+
     stored_kind : running s own before ≡ Some t → IsOff (e ∷ before) → In (e ∷ before) → (k : Kind)
         → e.entry.kind ≡ k → HoldsTable (e ∷ before)
     stored_kind at off now kind.Exec is = absurd (off own (exec_still is at (exec_in now is) ∙ at))
@@ -780,18 +798,10 @@ module _ (s : Setting) (b : Placed) (t : ℕ) (Know : ℕ → Regs → Type 0) (
     stored_kind at off now kind.Take is =
         absurd (off own (ap (λ (d : Done). running_on own d.kernel.threads) (did_at kind.Take is)
         ∙ ap (λ (k : Kernel). running_on own k.threads) (take_still here.restart (runs here)) ∙ at))
-    stored_kind at off now kind.Done is =
-        absurd (off own (ap (λ (d : Done). running_on own d.kernel.threads) (return_done is at) ∙ at))
-    stored_kind at off now kind.Preempt is =
-        let inside = was_in now (λ exec. preempt_exec (sym is ∙ exec)) in
-        let empty = preempt_empty here t (sym (ap (refusal_preempt_by here) at) ∙ free_at kind.Preempt is) in
-        in_pointer (λ a has. ap Some (
-        ap (λ (d : Done). written d.entered a (byte s before a)) (preempt_done is at)
-        ∙ sym (ap (λ (ws : List Store). overlay ws a (byte s before a)) empty)))
-        ∙ was.seen own at inside
     stored_kind at off now kind.Run is = absurd
         (no_one t (sym (run_ready here e.entry.tid.0 (free_at kind.Run is)).0 ∙ at))
     stored_kind at off now kind.Signal is = absurd (no_signal now is at)
+    stored_kind at off now k is = stored_quiet k is refl refl (λ same. cc) at off now (is_preempt k) refl
 
     stored_next : IsOff (e ∷ before) → In (e ∷ before) → HoldsTable (e ∷ before)
     stored_next off now = by_place (on_or_off s e before step t)

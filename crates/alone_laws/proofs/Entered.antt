@@ -27,7 +27,7 @@ use Rattle.alone_laws.specs.Entering.{AreEntered, IsEntered}
 use Rattle.alone_laws.specs.Spans.{seen_at}
 use Rattle.alone_laws.specs.Uses.{AreUsed, HasItsArea, IsUsed, IsWellPlaced, Placed}
 use Rattle.alone_laws.proofs.Arrivals.{ComesIn, IsCode, IsSound, begins_it, came_in, done_exec_kind}
-use Rattle.alone_laws.proofs.Arrivals.{drain_exec, free_at, no_one, no_signal, preempt_done}
+use Rattle.alone_laws.proofs.Arrivals.{drain_exec, free_at, leaving_done, no_one, no_signal}
 use Rattle.alone_laws.proofs.Arrivals.{ran_here, return_done, run_exec, run_out, seen_word, sound, take_exec}
 use Rattle.alone_laws.proofs.Arrivals.{take_quiet, was_in}
 use Rattle.alone_laws.proofs.Described.{named_good}
@@ -117,14 +117,6 @@ module _ (s : Setting) (b : Placed) (t : ℕ) (Know : ℕ → Regs → Type 0) (
         let inside = was_in s b t Know placed code e before run was used goes now
         (λ exec. done_exec_kind (sym is ∙ exec)) in
         absurd (return_never is at inside past)
-    by_kind now_at now past kind.Preempt is =
-        let at = ran_here s b t Know placed code e before run was used goes kind.Preempt is (λ same. cc)
-        now_at in
-        let k = kernel s before in
-        let tables = (step_of s e before run).good.kernel.tables in
-        let none = left_idle s.limits.harts own t k.threads k.scheduling tables at in
-        let did = preempt_done s b t Know placed code e before run was used goes is at in
-        absurd (no_one t (sym none ∙ sym (ap (λ (d : Done). running_on own d.kernel.threads) did) ∙ now_at))
     by_kind now_at now past kind.Run is =
         absurd (run_out s b t Know placed code e before run was used goes is
         (begins_it s b t Know placed code e before run was used goes is now_at)
@@ -132,6 +124,13 @@ module _ (s : Setting) (b : Placed) (t : ℕ) (Know : ℕ → Regs → Type 0) (
     by_kind now_at now past kind.Signal is = absurd
         (no_signal s b t Know placed code e before run was used goes now is
         (ran_here s b t Know placed code e before run was used goes kind.Signal is (λ same. cc) now_at))
+    by_kind now_at now past k is =
+        let at = ran_here s b t Know placed code e before run was used goes k is (λ same. cc) now_at in
+        let x = kernel s before in
+        let tables = (step_of s e before run).good.kernel.tables in
+        let none = left_idle s.limits.harts own t x.threads x.scheduling tables at in
+        let did = leaving_done s b t Know placed code e before run was used goes k is refl at in
+        absurd (no_one t (sym none ∙ sym (ap (λ (d : Done). running_on own d.kernel.threads) did) ∙ now_at))
 
   pub entered : (before : History) → IsRunHistory s before → AreUsed s b t before
       → AreEntered s b.range t before

@@ -33,8 +33,7 @@ use Rattle.mach_types.specs.declared.user_memory.Store.{Store}
 use Rattle.mach_types.specs.declared.user_memory.Write.{Write}
 use Rattle.block_model.specs.Acts.{is_inside_at}
 use Rattle.block_model.specs.Events.{done_of, refusal_of}
-use Rattle.block_model.specs.Events.Finish.{done_done_by}
-use Rattle.block_model.specs.Events.Preempt.{done_preempt_by, unless_in_barrier}
+use Rattle.block_model.specs.Events.Preempt.{unless_in_barrier}
 use Rattle.block_model.specs.Events.Run.{done_killed, done_run, done_running, lives_on}
 use Rattle.block_model.specs.Events.Signal.{done_next, done_signal_by, file_interrupted, handled_unless_killed}
 use Rattle.block_model.specs.Events.Signal.{kills, refusal_delivery, refusal_signal_by}
@@ -46,7 +45,7 @@ use Rattle.block_model.specs.Run.{IsRunHistory}
 use Rattle.block_model.specs.Sequences.{area_here, can_write_words, interruption_here, is_inside_here, words_to}
 use Rattle.block_model.specs.Setting.{Setting}
 use Rattle.block_model.proofs.Laws.{IsStep, drains_none, not_ready, one_hart, ran_before, run_ready}
-use Rattle.block_model.proofs.Laws.{runs_apart, step_of}
+use Rattle.block_model.proofs.Laws.{of_kernel, runs_apart, step_of, writes_none}
 use Rattle.alone_laws.specs.Blocks.{among}
 use Rattle.alone_laws.specs.Pointers.{AlwaysDescribed, AreDescribed, LiesBeside, PointerIs}
 use Rattle.alone_laws.specs.Pointers.{PointerKept, StoresTable, WritesPointer, has_area, has_had, is_at, pointer_at}
@@ -339,16 +338,16 @@ module _ (s : Setting) (blocks : List Placed) (t at : ℕ)
       own_kind kind.Drain is =
           kept_idle (subst (IsIdle here) (sym (did_at kind.Drain is)) (drain_idle here (waiting_here here) refl))
       own_kind kind.Take is = by_take is
-      own_kind kind.Done is =
-          let did = did_at kind.Done is ∙ ap (done_done_by here) ran in
-          kept (ap (λ (d : Done). d.drained) did) (λ a c has. ap (λ (d : Done). written d.entered a c) did)
-          (λ a c has. ap (λ (d : Done). overlay d.executed a c) did)
-      own_kind kind.Preempt is =
-          let did = did_at kind.Preempt is ∙ ap (done_preempt_by here) ran in
-          kept (ap (λ (d : Done). d.drained) did) (λ a c has. ap (λ (d : Done). written d.entered a c) did)
-          (λ a c has. ap (λ (d : Done). overlay d.executed a c) did)
       own_kind kind.Run is = absurd (runs_not is)
       own_kind kind.Signal is = by_signal is
+      own_kind k is =
+          let did = did_at k is in
+          let by_it = of_kernel here (choice_with k e.entry) refl in
+          kept (ap (λ (d : Done). d.drained) did ∙ by_it.drained)
+          (λ a c has. ap (λ (d : Done). written d.entered a c) did
+          ∙ ap (λ (ws : List Write). written ws a c) (writes_none here (choice_with k e.entry) refl refl))
+          (λ a c has. ap (λ (d : Done). overlay d.executed a c) did
+          ∙ ap (λ (ws : List Store). overlay ws a c) by_it.executed)
 
       own_seen : IsKnown (seen_at s own (e ∷ before))
       own_seen = own_kind e.entry.kind refl
