@@ -1,6 +1,6 @@
 -- What an allowed event needs, by what it is: a thread that runs on its hart; and that this one waits in no barrier.
-use Rattle.std.proofs.Common.{◌≡◌, ◌||◌, ℕ, Bool, true, false, not, Option, Some, None, refl, sym, ◌∙◌}
-use Rattle.block_model.proofs.Common.{Choice, Here, Kind, Why, false≢true, refusal_done_by, refusal_exec_by, refusal_of, refusal_preempt_by, refusal_signal_by, runs, unless_in_barrier}
+use Rattle.std.proofs.Common.{◌≡◌, ◌||◌, ℕ, Bool, true, false, not, Option, Some, None, refl}
+use Rattle.block_model.proofs.Common.{Choice, Here, Kind, Why, false≢true, next_for, refusal_delivery, refusal_done_by, refusal_exec_by, refusal_of, refusal_preempt_by, refusal_signal_by, runs, unless_waiting, waiting_here}
 use Rattle.mach_types.specs.Events.{is_return, is_run, is_take, kind_of, nature_of}
 use Rattle.mach_types.specs.declared.events.Choice.TheVariants as asked
 use Rattle.mach_types.specs.declared.events.Maker.{Maker}
@@ -32,13 +32,20 @@ has_thread asked.Signal here free needs = some_runs (refusal_signal_by here) (λ
 has_thread c here free needs = absurd (false≢true needs)
 
 -- and where the one that runs waits in a barrier
-outside : (here : Here) (refusal : Option ℕ → Option Why) (why : ℕ → Option Why) → (refusal None ≡ None → ⊥)
-    → ((t : ℕ) → refusal (Some t) ≡ unless_in_barrier here.awaits (why t)) → (r : Option ℕ) → refusal r ≡ None → here.awaits ≡ None
-outside here refusal why never is None free = absurd (never free)
-outside here refusal why never is (Some t) free = (out_of_barrier here.awaits (why t) (sym (is t) ∙ free)).0
+exec_outside : (here : Here) (r : Option ℕ) → refusal_exec_by here r ≡ None → here.awaits ≡ None
+exec_outside here None free = absurd cc
+exec_outside here (Some t) free = (out_of_barrier here.awaits _ free).0
+
+preempt_outside : (here : Here) (r : Option ℕ) → refusal_preempt_by here r ≡ None → here.awaits ≡ None
+preempt_outside here None free = absurd cc
+preempt_outside here (Some t) free = (out_of_barrier here.awaits (unless_waiting (waiting_here here)) free).0
+
+signal_outside : (here : Here) (r : Option ℕ) → refusal_signal_by here r ≡ None → here.awaits ≡ None
+signal_outside here None free = absurd cc
+signal_outside here (Some t) free = (out_of_barrier here.awaits (refusal_delivery here (next_for t here.kernel.signals)) free).0
 
 pub waits_in_none : (c : Choice) (here : Here) → refusal_of c here ≡ None → needs_no_barrier (kind_of c) ≡ true → here.awaits ≡ None
-waits_in_none asked.Exec here free needs = outside here (refusal_exec_by here) _ (λ none. cc) (λ t. refl) (runs here) free
-waits_in_none asked.Preempt here free needs = outside here (refusal_preempt_by here) _ (λ none. cc) (λ t. refl) (runs here) free
-waits_in_none asked.Signal here free needs = outside here (refusal_signal_by here) _ (λ none. cc) (λ t. refl) (runs here) free
+waits_in_none asked.Exec here free needs = exec_outside here (runs here) free
+waits_in_none asked.Preempt here free needs = preempt_outside here (runs here) free
+waits_in_none asked.Signal here free needs = signal_outside here (runs here) free
 waits_in_none c here free needs = absurd (false≢true needs)
