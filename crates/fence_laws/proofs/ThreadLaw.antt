@@ -9,7 +9,7 @@ use Rattle.std.proofs.lemmas.Bool.{cases_eq, cases_lt, eq-eqb, eqb-true, false�
 use Rattle.std.proofs.lemmas.List.Elements.{All-head, All-tail}
 use Rattle.mach_types.proofs.Laws.{state_of-with_child_other, state_of-with_clear, state_of-with_state_other}
 use Rattle.mach_types.proofs.Laws.{state_of-with_state_same, state_of-without_other, state_of-without_same}
-use Rattle.mach_types.specs.Events.{choice_of}
+use Rattle.mach_types.specs.Events.{choice_of, nature_of}
 use Rattle.mach_types.specs.Kernel.Areas.{are_words_writable, registration, unregistration}
 use Rattle.mach_types.specs.Kernel.PageCalls.{mmap_answer}
 use Rattle.mach_types.specs.Kernel.SignalFrames.{frame_read}
@@ -26,6 +26,8 @@ use Rattle.mach_types.specs.declared.errors.Errno.{Errno}
 use Rattle.mach_types.specs.declared.errors.TheConstants.{EINVAL}
 use Rattle.mach_types.specs.declared.events.Choice.{Choice}
 use Rattle.mach_types.specs.declared.events.Choice.TheVariants as asked
+use Rattle.mach_types.specs.declared.events.Kind.{Kind}
+use Rattle.mach_types.specs.declared.events.Kind.TheVariants as kind
 use Rattle.mach_types.specs.declared.events.Tid.{Tid}
 use Rattle.mach_types.specs.declared.sequences.Area.{Area}
 use Rattle.mach_types.specs.declared.sequences.Outcome.{Outcome}
@@ -64,11 +66,8 @@ use Rattle.block_model.specs.Events.{done_of, refusal_of}
 use Rattle.block_model.specs.Events.Drain.{done_drain_of}
 use Rattle.block_model.specs.Events.Exec.{by_call, by_effect, by_outcome, called_here, done_exec_by}
 use Rattle.block_model.specs.Events.Exec.{has_handler, next_effect, next_fault, outcome_of}
-use Rattle.block_model.specs.Events.Finish.{done_done_by}
-use Rattle.block_model.specs.Events.Preempt.{done_preempt_by}
 use Rattle.block_model.specs.Events.Run.{done_run_by, lives_on}
 use Rattle.block_model.specs.Events.Signal.{done_next, done_signal_by, handled_unless_killed, kills}
-use Rattle.block_model.specs.Events.Take.{done_take_by}
 use Rattle.block_model.specs.Here.{Done, Here, is_writable, memory, runs, waiting_here}
 use Rattle.block_model.specs.History.{Event, History, file, file_among, here_in_history, kernel, running}
 use Rattle.block_model.specs.Kernel.{cleared, gone, had_child, left, next_number, restricted, waited, woken}
@@ -77,7 +76,10 @@ use Rattle.block_model.specs.Run.{IsRunHistory}
 use Rattle.block_model.specs.Sequences.{area_here, files_interrupted, interruption_here, is_inside_here}
 use Rattle.block_model.specs.Setting.{Setting}
 use Rattle.block_model.specs.Tables.{on}
-use Rattle.block_model.proofs.Laws.{IsStep, run_ready, running_is, step_of, wake_keeps}
+use Rattle.block_model.proofs.EventEffects.{CallKills, Calls, EventDeed, Executes, FaultKills, Faults, Handles}
+use Rattle.block_model.proofs.EventEffects.{Preempts, Restarts, Returns, RunKills, Runs, SignalKills, Skips}
+use Rattle.block_model.proofs.EventEffects.{begun_by, deed_chosen}
+use Rattle.block_model.proofs.Laws.{IsStep, is_by_kernel, run_ready, running_is, step_of, wake_keeps}
 use Rattle.mach_types.specs.Kernel.Signals.{next_for}
 
 -- STATES
@@ -574,19 +576,24 @@ module _ (here : Here) (u : ℕ) where
   step_drain [] = rests refl refl
   step_drain (w ∷ ws) = rests refl refl
 
-  step_take : (restart : Bool) (r : Option ℕ) → runs here ≡ r
-      → ThreadStep asked.Take (done_take_by here restart r)
-  step_take false r at = rests refl refl
-  step_take true None at = rests refl refl
-  step_take true (Some t) at = interrupts t (interruption_here here t) at refl refl
-
-  step_done_by : (r : Option ℕ) → runs here ≡ r → ThreadStep asked.Done (done_done_by here r)
-  step_done_by None at = rests refl refl
-  step_done_by (Some t) at = sets t _ at refl calm
-
-  step_preempt : (r : Option ℕ) → runs here ≡ r → ThreadStep asked.Preempt (done_preempt_by here r)
-  step_preempt None at = rests refl refl
-  step_preempt (Some t) at = IsLeft (calm_state u t Ready here.kernel.threads refl) (λ apart other. refl)
+  -- an event of the kernel other than a run and the delivery of a signal
+  step_deed : (c : Choice) (tid : ℕ) {k : Kind} {d : Done} → EventDeed here tid k d
+      → is_by_kernel (nature_of k).maker ≡ true → k ≢ kind.Run → k ≢ kind.Signal → ThreadStep c d
+  step_deed c tid Skips is no_run no_signal = absurd (false≢true is)
+  step_deed c tid (Faults t signal its handler) is no_run no_signal = absurd (false≢true is)
+  step_deed c tid (FaultKills t signal its) is no_run no_signal = absurd (false≢true is)
+  step_deed c tid (CallKills t e next calls) is no_run no_signal = absurd (false≢true is)
+  step_deed c tid (Calls t e next calls outside) is no_run no_signal = absurd (false≢true is)
+  step_deed c tid (Executes t e next) is no_run no_signal = absurd (false≢true is)
+  step_deed c tid (Restarts t at) is no_run no_signal = interrupts t (interruption_here here t) at refl refl
+  step_deed c tid (Returns t at) is no_run no_signal = sets t _ at refl calm
+  step_deed c tid (Preempts k t leaves at) is no_run no_signal =
+      IsLeft (calm_state u t Ready here.kernel.threads refl) (λ apart other. refl)
+  step_deed c tid Runs is no_run no_signal = absurd (no_run refl)
+  step_deed c tid RunKills is no_run no_signal = absurd (no_run refl)
+  step_deed c tid (Handles t signal at) is no_run no_signal = absurd (no_signal refl)
+  step_deed c tid (SignalKills t signal killer at) is no_run no_signal = absurd (no_signal refl)
+  step_deed c tid deed is no_run no_signal = rests refl refl
 
   step_signal : (r : Option ℕ) → runs here ≡ r → ThreadStep asked.Signal (done_signal_by here r)
   step_signal None at = rests refl refl
@@ -601,11 +608,9 @@ module _ (here : Here) (u : ℕ) where
   step_choice : (c : Choice) → ThreadStep c (done_of c here)
   step_choice asked.Exec = step_exec (runs here) refl
   step_choice asked.Drain = step_drain (waiting_here here)
-  step_choice asked.Take = step_take here.restart (runs here) refl
-  step_choice asked.Done = step_done_by (runs here) refl
-  step_choice asked.Preempt = step_preempt (runs here) refl
   step_choice (asked.Run t) = step_run t (interruption_here here t.0)
   step_choice asked.Signal = step_signal (runs here) refl
+  step_choice c = step_deed c (begun_by c) (deed_chosen here c) refl (λ is. cc) (λ is. cc)
 
 -- WHO LIVES
 
