@@ -1,11 +1,13 @@
 -- What an event's deed can be, whether it was allowed or not. Each event is one of these; a law of all events
 -- goes over them, and tells no kinds apart.
 use Rattle.std.proofs.Common.{◌≡◌, ℕ, List, [], ◌∷◌, refl, Bool, true, false, cond, Option, Some, None}
+use Rattle.std.specs.Option.{option_map_or}
 use Rattle.block_model.proofs.Common.{Done, Effect, Entry, Here, Killed, Kind, Store, Stored, by_call, by_effect, by_outcome, called, choice_with, done_done_by, done_drain_of, done_exec_by, done_killed, done_next, done_of, done_preempt_by, done_running, done_signal_by, done_take_by, handled, handled_unless_killed, has_handler, interruption_here, is_call, is_inside_here, killed_in_call, kills, left, lives_on, next_effect, next_fault, next_for, nothing, one_instruction, only_took, outcome_of, runs, signalled, took_and_interrupted, waiting_here, with_pending, with_register}
-use Rattle.mach_types.specs.Events.{is_preempt, kind_of}
+use Rattle.mach_types.specs.Events.{begun_by as named_by, is_preempt, kind_of}
 use Rattle.mach_types.specs.declared.events.Choice.{Choice}
 use Rattle.mach_types.specs.declared.events.Choice.TheVariants as asked
 use Rattle.mach_types.specs.declared.events.Kind.TheVariants as kind
+use Rattle.mach_types.specs.declared.events.Tid.{Tid}
 use Rattle.block_model.specs.Events.Signal.{only_taken}
 
 -- thread t runs on the hart, and its next instruction makes a fault; or it makes none
@@ -133,8 +135,7 @@ deed_of here kind.Signal x = deed_signal here x.tid.0 (runs here) refl
 
 -- the thread of a choice that begins to run; 0 of any other one
 abbrev pub begun_by : Choice → ℕ
-begun_by (asked.Run t) = t.0
-begun_by c = 0
+begun_by c = option_map_or (λ (t : Tid). t.0) (named_by c) 0
 
 pub deed_chosen : (here : Here) (c : Choice) → EventDeed here (begun_by c) (kind_of c) (done_of c here)
 deed_chosen here asked.Exec = deed_exec here 0 (runs here) refl

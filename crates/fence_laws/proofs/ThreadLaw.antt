@@ -9,7 +9,7 @@ use Rattle.std.proofs.lemmas.Bool.{cases_eq, cases_lt, eq-eqb, eqb-true, false�
 use Rattle.std.proofs.lemmas.List.Elements.{All-head, All-tail}
 use Rattle.mach_types.proofs.Laws.{state_of-with_child_other, state_of-with_clear, state_of-with_state_other}
 use Rattle.mach_types.proofs.Laws.{state_of-with_state_same, state_of-without_other, state_of-without_same}
-use Rattle.mach_types.specs.Events.{choice_of, nature_of}
+use Rattle.mach_types.specs.Events.{begun_by as named_by, choice_of, nature_of}
 use Rattle.mach_types.specs.Kernel.Areas.{are_words_writable, registration, unregistration}
 use Rattle.mach_types.specs.Kernel.PageCalls.{mmap_answer}
 use Rattle.mach_types.specs.Kernel.SignalFrames.{frame_read}
@@ -482,8 +482,7 @@ pub record IsCaller (here : Here) (t n : ℕ) (c : Choice) : Type 0 where
 
 -- the thread that a choice lets run
 abbrev pub begins : Choice → Option ℕ
-begins (asked.Run t) = Some t.0
-begins other = None
+begins c = option_map (λ (t : Tid). t.0) (named_by c)
 
 module _ (here : Here) (u : ℕ) where
   -- the same of an event

@@ -3,10 +3,12 @@ use Rattle.std.proofs.Common.{◌≡◌, ℕ, List, [], ◌∷◌, ◌++◌, ref
 use Rattle.std.proofs.Common.{eqb, Option, Some, None, is_none, inl, inr, append_assoc, append-nil}
 use Rattle.std.specs.Option.{option_map_or}
 use Rattle.std.proofs.lemmas.Bool.{and_parts, eqb-false, eqb-true, false≢true, not-true}
-use Rattle.mach_types.specs.Events.{choice_with}
+use Rattle.mach_types.specs.Events.{choice_with, nature_of}
 use Rattle.mach_types.specs.declared.events.Entry.{Entry}
 use Rattle.mach_types.specs.declared.events.Kind.{Kind}
 use Rattle.mach_types.specs.declared.events.Kind.TheVariants as kind
+use Rattle.mach_types.specs.declared.events.Maker.{Maker}
+use Rattle.mach_types.specs.declared.events.Maker.TheVariants.{Thread, Buffer, Kernel}
 use Rattle.mach_types.specs.declared.registers.Regs.{Regs}
 use Rattle.rv_inst.specs.Class.{is_call}
 use Rattle.rv_inst.specs.declared.effects.Effect.{Effect}
@@ -20,10 +22,13 @@ use Rattle.alone_laws.specs.Retries.{IsAtWork, IsWalkAtWork, post_commit}
 use Rattle.alone_laws.specs.Uses.{Placed, in_block}
 
 -- an instruction that passes a test, or a store that enters memory
+abbrev is_step_by : Maker → Bool → Bool
+is_step_by Thread passes = passes
+is_step_by Buffer passes = true
+is_step_by Kernel passes = false
+
 abbrev is_step : Kind → Bool → Bool
-is_step kind.Exec passes = passes
-is_step kind.Drain passes = true
-is_step other passes = false
+is_step k passes = is_step_by (nature_of k).maker passes
 
 none_is : (o : Option ℕ) → is_none o ≡ true → o ≡ None
 none_is None is = refl

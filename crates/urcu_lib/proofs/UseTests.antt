@@ -9,11 +9,12 @@ use Rattle.std.proofs.lemmas.Bool.Decides.{nat_tests}
 use Rattle.std.proofs.lemmas.Bool.{and_from, and_parts, cases_eq, eq-eqb, eqb-true, false≢true}
 use Rattle.std.proofs.lemmas.Bool.{le-leb, leb-true, lt-ltb, ltb-true, not-true}
 use Rattle.mach_types.specs.Bytes.{byte_of, covers, each_byte, written}
-use Rattle.mach_types.specs.Events.{choice_of}
+use Rattle.mach_types.specs.Events.{choice_of, is_kind, is_return, kind_of}
 use Rattle.mach_types.specs.Kernel.Pages.{can_read, can_write, permission_at}
 use Rattle.mach_types.specs.Registers.{register}
 use Rattle.mach_types.specs.declared.events.Choice.{Choice}
 use Rattle.mach_types.specs.declared.events.Choice.TheVariants as asked
+use Rattle.mach_types.specs.declared.events.Kind.TheVariants as kind
 use Rattle.mach_types.specs.declared.threads.Saved.{Saved}
 use Rattle.mach_types.specs.declared.user_memory.Store.{Store}
 use Rattle.mach_types.specs.declared.user_memory.Write.{Write}
@@ -80,16 +81,14 @@ exec_is asked.Exec is = refl
 exec_is other is = absurd (false≢true is)
 
 abbrev is_drain : Choice → Bool
-is_drain asked.Drain = true
-is_drain other = false
+is_drain c = is_kind (kind_of c) kind.Drain
 
 drain_is : (c : Choice) → is_drain c ≡ true → c ≡ asked.Drain
 drain_is asked.Drain is = refl
 drain_is other is = absurd (false≢true is)
 
 abbrev is_done : Choice → Bool
-is_done asked.Done = true
-is_done other = false
+is_done c = is_return (kind_of c)
 
 done_is : (c : Choice) → is_done c ≡ true → c ≡ asked.Done
 done_is asked.Done is = refl
