@@ -167,8 +167,10 @@ counted_none acts p form j other = counts_other acts (act_by p form) j (apart p.
 -- an entry that a sequence takes in preempts no thread
 takes_stays : (k : Kind) (interrupts inside : Bool) → (inside && takes_in k interrupts) ≡ true → (inside && is_preempt k) ≡ false
 takes_stays k interrupts false is = refl
-takes_stays kind.Preempt interrupts true is = absurd (false≢true is)
-takes_stays k interrupts true is = refl
+takes_stays kind.Exec interrupts true is = refl
+takes_stays kind.Drain interrupts true is = refl
+takes_stays kind.Take interrupts true is = refl
+takes_stays k interrupts true is = absurd (false≢true is)
 
 and_false : (b : Bool) → (b && false) ≡ false
 and_false true = refl

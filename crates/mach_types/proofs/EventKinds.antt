@@ -1,8 +1,8 @@
--- Kinds of event, told apart; and which kind it is of which something is told.
+-- Kinds of event, told apart; and which kind it is by which a thread begins to run.
 use Rattle.std.proofs.Common.{◌≡◌, ◌≢◌, ℕ, refl, sym, ap, ◌∙◌, Bool, true, false, get_or}
 use Rattle.std.proofs.lemmas.Bool.{eqb-true, false≢true}
 use Rattle.mach_types.proofs.Times.{eqb_same}
-use Rattle.mach_types.specs.Events.{all_kinds, choice_for, is_instruction, is_kind, is_preempt, is_run, is_take, kind_of, number_of_kind}
+use Rattle.mach_types.specs.Events.{all_kinds, choice_for, is_instruction, is_kind, is_run, kind_of, number_of_kind}
 use Rattle.mach_types.specs.declared.events.Kind.{Kind}
 use Rattle.mach_types.specs.declared.events.Kind.TheVariants as kind
 use Rattle.mach_types.specs.declared.events.Tid.{Tid}
@@ -25,22 +25,10 @@ pub kind_back : (k : Kind) (t : Tid) → kind_of (choice_for k t) ≡ k
 kind_back kind.Exec t = refl
 kind_back other t = refl
 
--- what is told of one kind alone
-pub instruction_is : (k : Kind) → is_instruction k ≡ true → k ≡ kind.Exec
-instruction_is kind.Exec is = refl
-instruction_is other is = absurd (false≢true is)
-
-pub preempt_is : (k : Kind) → is_preempt k ≡ true → k ≡ kind.Preempt
-preempt_is kind.Preempt is = refl
-preempt_is other is = absurd (false≢true is)
-
+-- a thread begins to run by one kind alone
 pub run_is : (k : Kind) → is_run k ≡ true → k ≡ kind.Run
 run_is kind.Run is = refl
 run_is other is = absurd (false≢true is)
-
-pub take_is : (k : Kind) → is_take k ≡ true → k ≡ kind.Take
-take_is kind.Take is = refl
-take_is other is = absurd (false≢true is)
 
 -- an instruction begins to run no thread
 pub instruction_runs_none : (k : Kind) → is_instruction k ≡ true → is_run k ≡ false

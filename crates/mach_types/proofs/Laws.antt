@@ -8,4 +8,4 @@ pub use Rattle.mach_types.proofs.WordsRead.{are_readable-split, each_byte-past, 
 pub use Rattle.mach_types.proofs.HartSets.{has_hart-harts_that, has_hart-past, has_hart-within, harts_that-fits}
 pub use Rattle.mach_types.proofs.AreasKept.{area_of-with_area_other, area_of-with_area_same, area_of-without_area_other, area_of-without_area_same, interruption-same, named-same}
 pub use Rattle.mach_types.proofs.PageWords.{IsFirst, count_pages-more, count_pages-none, count_pages-one, each_page-at, each_page-fails, each_page-of, first_page-is, first_page-no, first_page-none, first_page-some, zeros_of-at}
-pub use Rattle.mach_types.proofs.EventKinds.{instruction_is, instruction_runs_none, kind_back, kind_is, kind_is_not, preempt_is, run_is, take_is}
+pub use Rattle.mach_types.proofs.EventKinds.{instruction_runs_none, kind_back, kind_is, kind_is_not, run_is}
