@@ -1,11 +1,19 @@
--- What an allowed event needs, by what it is: a thread that runs on its hart; and that this one waits in no barrier.
-use Rattle.std.proofs.Common.{◌≡◌, ◌||◌, ℕ, Bool, true, false, not, Option, Some, None, refl}
-use Rattle.block_model.proofs.Common.{Choice, Here, Kind, Why, false≢true, next_for, refusal_delivery, refusal_done_by, refusal_exec_by, refusal_of, refusal_preempt_by, refusal_signal_by, runs, unless_waiting, waiting_here}
-use Rattle.mach_types.specs.Events.{is_return, is_run, is_take, kind_of, nature_of}
+-- What an allowed event needs, by what it is: a thread that runs on its hart, and that this one waits in no barrier. And what holds of each
+-- event by which a thread leaves its hart, of whatever kind.
+use Rattle.std.proofs.Common.{◌≡◌, ◌||◌, ℕ, Bool, true, false, not, Option, Some, None, refl, [], cond, sym, ap, ◌∙◌}
+use Rattle.block_model.proofs.Common.{Choice, Entry, Event, Here, History, Kind, Sequence, Setting, Why, choice_with, done_of, done_preempt_by, false≢true, is_inside_at, next_for, number_of, refusal_delivery, refusal_done_by, refusal_exec_by, refusal_of, refusal_preempt_by, refusal_signal_by, runs, sequence_on, thread_in, unless_waiting, waiting_here}
+use Rattle.mach_types.specs.Events.{is_return, is_run, is_take, kind_of, nature_of, is_leaving, is_preempt}
 use Rattle.mach_types.specs.declared.events.Choice.TheVariants as asked
 use Rattle.mach_types.specs.declared.events.Maker.{Maker}
 use Rattle.mach_types.specs.declared.events.Maker.TheVariants.{Thread, Buffer, Kernel}
-use Rattle.block_model.proofs.Invariants.Events.{out_of_barrier}
+use Rattle.mach_types.proofs.Laws.{kind_back}
+use Rattle.mach_types.specs.declared.events.Kind.TheVariants as kind
+use Rattle.mach_types.specs.declared.events.Movement.{Movement}
+use Rattle.mach_types.specs.declared.events.Movement.TheVariants.{Stays, Leaves, Begins}
+use Rattle.block_model.proofs.Invariants.Events.{out_of_barrier, none_waits}
+use Rattle.block_model.specs.Acts.{hanging_moved}
+
+-- WHAT AN EVENT NEEDS
 
 -- an instruction does; a store that enters memory doesn't; and an event of the kernel does but for these
 abbrev needs_by : Maker → Bool → Bool
@@ -49,3 +57,44 @@ waits_in_none asked.Exec here free needs = exec_outside here (runs here) free
 waits_in_none asked.Preempt here free needs = preempt_outside here (runs here) free
 waits_in_none asked.Signal here free needs = signal_outside here (runs here) free
 waits_in_none c here free needs = absurd (false≢true needs)
+
+-- AN EVENT BY WHICH A THREAD LEAVES
+
+-- an event by which a thread leaves needs one that runs, and is of it
+leaving_needs : (k : Kind) → is_preempt k ≡ true → needs_thread k ≡ true
+leaving_needs kind.Drain leaves = absurd (false≢true leaves)
+leaving_needs kind.Take leaves = absurd (false≢true leaves)
+leaving_needs kind.Run leaves = absurd (false≢true leaves)
+leaving_needs k leaves = refl
+
+leaving_names : (k : Kind) (x : Entry) (here : Here) → is_preempt k ≡ true → thread_in (choice_with k x) here ≡ runs here
+leaving_names kind.Run x here leaves = absurd (false≢true leaves)
+leaving_names k x here leaves = refl
+
+pub leaving_runs : (k : Kind) (x : Entry) (here : Here) → is_preempt k ≡ true → refusal_of (choice_with k x) here ≡ None
+    → runs here ≡ Some (number_of (thread_in (choice_with k x) here))
+leaving_runs k x here leaves free =
+    let its = has_thread (choice_with k x) here free (ap needs_thread (kind_back k x.tid) ∙ leaving_needs k leaves) in
+    its.1 ∙ ap (λ r. Some (number_of r)) (sym its.1 ∙ sym (leaving_names k x here leaves))
+
+-- no store waits
+stores_where : (here : Here) (r : Option ℕ) → refusal_preempt_by here r ≡ None → waiting_here here ≡ []
+stores_where here None free = absurd cc
+stores_where here (Some t) free = none_waits (waiting_here here) (out_of_barrier here.awaits (unless_waiting (waiting_here here)) free).1
+
+pub leaving_waits : (k : Kind) (x : Entry) (here : Here) → is_preempt k ≡ true → refusal_of (choice_with k x) here ≡ None → waiting_here here ≡ []
+leaving_waits kind.Preempt x here leaves free = stores_where here (runs here) free
+leaving_waits k x here leaves free = absurd (false≢true leaves)
+
+-- what it does
+pub leaving_does : (k : Kind) (x : Entry) (here : Here) (t : ℕ) → is_preempt k ≡ true → runs here ≡ Some t
+    → done_of (choice_with k x) here ≡ done_preempt_by here (Some t)
+leaving_does kind.Preempt x here t leaves at = ap (done_preempt_by here) at
+leaving_does k x here t leaves at = absurd (false≢true leaves)
+
+-- and the sequence in which it was hangs then
+pub moved_leaving : (s : Setting) (e : Event) (before : History) (m : Movement) (still : Option Sequence) → is_leaving m ≡ true
+    → hanging_moved s e before m still ≡ cond (is_inside_at s e.entry.hart.0 before) (sequence_on s e.entry.hart.0 before) None
+moved_leaving s e before Stays still leaves = absurd (false≢true leaves)
+moved_leaving s e before Leaves still leaves = refl
+moved_leaving s e before Begins still leaves = absurd (false≢true leaves)

@@ -39,8 +39,7 @@ pub use Rattle.block_model.specs.Standing.{IsGoodHere, IsSound, IsStanding, MayE
 pub use Rattle.block_model.proofs.PlaceInvariant.{IsFit, IsGood}
 pub use Rattle.block_model.proofs.RunEnds.{ends_by_process, end_of-ended, end_of-limit}
 pub use Rattle.block_model.proofs.EventMakers.{IsOfKernel, interrupts_none, is_by_kernel, keeps_record, may_interrupt, of_kernel, writes_none}
-pub use Rattle.block_model.proofs.EventNeeds.{has_thread, needs_no_barrier, needs_thread, waits_in_none}
-pub use Rattle.block_model.proofs.LeavingEvents.{leaving_does, leaving_runs, leaving_waits, moved_leaving}
+pub use Rattle.block_model.proofs.EventNeeds.{has_thread, leaving_does, leaving_runs, leaving_waits, moved_leaving, needs_no_barrier, needs_thread, waits_in_none}
 pub use Rattle.block_model.proofs.KernelWrites.{call_writes, event_writes}
 pub use Rattle.block_model.proofs.WritableBytes.{AllWritable, IsWritable, first_writable, none_passes}
 pub use Rattle.block_model.proofs.HartSets.{some_hart, with_hart-itself, with_hart-or, with_hart-other, without_hart-and, without_hart-has, without_hart-itself, without_hart-other}

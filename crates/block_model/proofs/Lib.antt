@@ -33,7 +33,6 @@ mod KernelTables
 mod KernelWrites
 mod LawExamples
 pub mod Laws
-mod LeavingEvents
 mod MemoryExamples
 mod NamedSequences
 mod OtherThreads

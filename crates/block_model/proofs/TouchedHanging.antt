@@ -3,7 +3,7 @@ use Rattle.std.proofs.Common.{◌≡◌, ◌≢◌, ℕ, ◌+◌, ◌<◌, List,
 use Rattle.block_model.proofs.Common.{Bytes, Done, Entry, Event, Here, History, IsRunHistory, Kernel, Ready, Sequence, Setting, Store, area_of, before_last, choice_of, done, done_preempt_by, file, file_among, hanging, here_in_history, is_inside_at, is_ready, kernel, left, list_any, memory, number_of, on, option_map, or_parts, overlay, running, sequence_on, touched_in, touches, view, waiting_here}
 use Rattle.mach_types.specs.declared.events.Kind.TheVariants as kind
 use Rattle.mach_types.specs.Events.{is_preempt}
-use Rattle.block_model.proofs.LeavingEvents.{leaving_does, leaving_runs, leaving_waits}
+use Rattle.block_model.proofs.EventNeeds.{leaving_does, leaving_runs, leaving_waits}
 use Rattle.block_model.proofs.Runs.{allowed_at, settled}
 use Rattle.block_model.proofs.Invariants.Events.{ready_apart}
 use Rattle.block_model.proofs.KernelTables.{its_ready, running_is, state_now}
