@@ -1,12 +1,12 @@
 -- What each call of the table leaves, whether its thread runs or not: files whose pc is below 2^64 and handlers that lie there where
 -- it was so before, an end that isn't the end of a script, and a live thread where it didn't end the process.
 use Rattle.std.proofs.Common.{◌≡◌, ℕ, ◌+◌, ◌<◌, ◌≤◌, List, [], ◌∷◌, length, map, filter, refl, sym, ◌∙◌, subst, Bool, true, false, not, cond, eqb, None, arith}
-use Rattle.block_model.proofs.Common.{AllByRecursion, CallDone, Here, IsSound, Kernel, Ready, Saved, Thread, Waiting, Write, answered_wait, argument, called, clear_of, cleared, clears, clone_child_cleartid, had_child, has_flag, is_thread, left, length-map, nat_tests, new_thread, next_number, numbers, restricted, signalled, state_if, sum_64, waited, wake, woken, woken_at_exit}
+use Rattle.block_model.proofs.Common.{AllByRecursion, CallDone, Here, IsSound, Kernel, Ready, Saved, Thread, Waiting, Write, answered_wait, argument, called, clear_of, cleared, clears, clone_child_cleartid, had_child, has_flag, is_thread, left, length-map, nat_tests, new_thread, next_number, numbers, restricted, rows_changed, signalled, state_if, sum_64, waited, wake, woken, woken_at_exit}
 use Rattle.std.specs.List.Sorted.{IsStrictlyIncreasing}
 use Rattle.std.proofs.lemmas.List.{length_push}
 use Rattle.mach_types.specs.Kernel.Threads.{clear_if}
 use Rattle.block_model.proofs.Images.{frame_small}
-use Rattle.block_model.proofs.CallEffects.{Answers, Bears, Breaks, CallDeed, Clears, Ends, Exits, Leaves, MovesOff, Resumes, Signalled, TableStep, Waits, Wakes}
+use Rattle.block_model.proofs.CallEffects.{Answers, Bears, Breaks, CallDeed, ChangesRows, Ends, Exits, Leaves, MovesOff, Resumes, Signalled, TableStep, Waits, Wakes}
 pub use Rattle.block_model.proofs.CallEffects.{AllStand, NotOpen}
 use Rattle.block_model.proofs.CallEffects.EachCall.{deed_called}
 use Rattle.block_model.proofs.Invariants.Calls.Futexes.{kept_wake, wake_keeps}
@@ -44,8 +44,8 @@ waited_lives t at k = length-map k.threads.live (state_if t (Waiting at))
 woken_lives : (t : ℕ) (k : Kernel) → lives (woken t k) ≡ lives k
 woken_lives t k = length-map k.threads.live (state_if t Ready)
 
-cleared_lives : (t at : ℕ) (k : Kernel) → lives (cleared t at k) ≡ lives k
-cleared_lives t at k = length-map k.threads.live (clear_if t at)
+rows_lives : (f : Thread → Thread) (k : Kernel) → lives (rows_changed f k) ≡ lives k
+rows_lives f k = length-map k.threads.live f
 
 child_lives : (t : ℕ) (k : Kernel) → lives (had_child t k) ≡ lives k + 1
 child_lives t k = length_push k.threads.live (new_thread (k.threads.given + 1))
@@ -87,7 +87,7 @@ some_stay t (a ∷ b ∷ rest) rising more =
 -- clone(2)
 child_lives_if : (t child at : ℕ) (k : Kernel) (b : Bool)
     → lives (cond b (cleared child at (had_child t k)) (had_child t k)) ≡ lives k + 1
-child_lives_if t child at k true = cleared_lives child at (had_child t k) ∙ child_lives t k
+child_lives_if t child at k true = rows_lives (clear_if child at) (had_child t k) ∙ child_lives t k
 child_lives_if t child at k false = child_lives t k
 
 child_stand_if : (t child at : ℕ) (k : Kernel) (b : Bool) → HandlersStand k.signals
@@ -102,7 +102,7 @@ module _ (here : Here) (t number : ℕ) where
   stand_step step all = all.handlers
 
   lives_step : {entered : List Write} {k : Kernel} → TableStep here t number entered k → lives k ≡ lives here.kernel
-  lives_step (Clears at) = cleared_lives t at here.kernel
+  lives_step (ChangesRows f keeps) = rows_lives f here.kernel
   lives_step Leaves = left_lives t here.kernel
   lives_step (Waits at none) = waited_lives t at here.kernel
   lives_step (MovesOff set below some) = left_lives t (restricted t set here.kernel)

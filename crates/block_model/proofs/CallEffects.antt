@@ -1,7 +1,7 @@
 -- What a call's deed can be. Each call of the table is one of these (CallEffects/EachCall.antt); a law of all
 -- calls goes over them, and names no call.
 use Rattle.std.proofs.Common.{◌≡◌, ◌≢◌, ℕ, ◌+◌, ◌≤◌, ◌<◌, ◌^◌, List, [], ◌∷◌, length, map, refl, Bool, true, false, cond, Option, Some, None, arith}
-use Rattle.block_model.proofs.Common.{Area, CONSOLE_ROOM, CallDone, End, Here, IsError, IsGoodHere, Kernel, Pages, Registered, Signalling, Write, answered_wait, area_here, broken_wait, child_file, cleared, for_barriers, frame_read, id_of, is_full, is_writable, killed_in_call, left, memory, next_for, next_number, paged, printed, register, registered, restricted, resumed, returned, said, signalled, taken_by, unregistered, waited, waits, wake, with_new_child, woken, words_on, words_written}
+use Rattle.block_model.proofs.Common.{Area, CONSOLE_ROOM, CallDone, End, Here, IsError, IsGoodHere, KeepsRows, Kernel, Pages, Registered, Signalling, Thread, Write, answered_wait, area_here, broken_wait, child_file, for_barriers, frame_read, id_of, is_full, is_writable, killed_in_call, left, memory, next_for, next_number, paged, printed, register, registered, restricted, resumed, returned, rows_changed, said, signalled, taken_by, unregistered, waited, waits, wake, with_new_child, woken, words_on, words_written}
 use Rattle.mach_types.specs.declared.limits.End.TheVariants as over
 use Rattle.block_model.specs.Calls.Answers.{Errors, unless}
 use Rattle.block_model.specs.Calls.Barriers.{begins}
@@ -52,7 +52,7 @@ pub data TableStep (here : Here) (t number : ℕ) (entered : List Write) : Kerne
   Same : TableStep here t number entered here.kernel
   Prints : (bytes : List ℕ) → length here.kernel.console + length bytes ≤ CONSOLE_ROOM
       → TableStep here t number entered (printed bytes here.kernel)
-  Clears : (at : ℕ) → TableStep here t number entered (cleared t at here.kernel)
+  ChangesRows : (f : Thread → Thread) → KeepsRows f → TableStep here t number entered (rows_changed f here.kernel)
   Leaves : TableStep here t number entered (left t here.kernel)
   Waits : (at : ℕ) → next_for t here.kernel.signals ≡ None → TableStep here t number entered (waited t at here.kernel)
   Stays : (set : ℕ) → set < 2 ^ here.setting.limits.harts → set ≢ 0

@@ -24,7 +24,7 @@ pub use Rattle.block_model.specs.Here.{Barrier, Done, Here, is_storable, is_writ
 pub use Rattle.block_model.specs.History.{Event, History, awaits, byte, can_be_written, drains, ended, events, file, file_among, here_in_history, is_of_hart, kernel, lost_after, ran, requests, restart, running, stores, waiting}
 pub use Rattle.block_model.specs.Ids.{AreIdsApart, IsLeastFree, held_ids, id_of, is_id_of, is_taken, next_id, without_id}
 pub use Rattle.block_model.specs.Instruction.{fault_by, fetched, instruction_of}
-pub use Rattle.block_model.specs.Kernel.{cleared, first_kernel, for_barriers, gone, had_child, left, next_number, paged, printed, registered, restricted, signalled, unregistered, waited, woken}
+pub use Rattle.block_model.specs.Kernel.{cleared, first_kernel, for_barriers, gone, had_child, left, next_number, paged, printed, registered, restricted, rows_changed, signalled, unregistered, waited, woken}
 pub use Rattle.block_model.specs.Plain.{Plain, apply, here_in_plain, here_of, plain_decide, plain_end, plain_next, plain_over, plain_solo_choice, plain_start}
 pub use Rattle.block_model.specs.Record.{Kernel}
 pub use Rattle.block_model.specs.Replay.{AllAnswer, Ask, checked, extended, is_as_said, play_line, script_of}
@@ -39,7 +39,7 @@ pub use Rattle.block_model.specs.Tables.{AreOfLive, AreSignalsOfLive, IsHeld, Is
 pub use Rattle.block_model.specs.Whole.{EndsWhole, FindsBad, GoesOnWith, HasCause, IsCutProperly, IsDeadBy, IsLeftNull, IsWholeHistory, RunsThroughout, WasTouched, before_last, touched_in, touches, watched_at}
 pub use Rattle.block_model.specs.declared.refusals.Refused.{Refused}
 pub use Rattle.block_model.specs.declared.refusals.Refused.TheVariants.{Ended, Full, NotEnabled}
-pub use Rattle.mach_types.proofs.Laws.{each_page-at, eqb_same, filtered_same, has_hart-harts_that, map_filters, map_stays, next_is_new, same_clear_numbers, same_numbers, state_of-with_child_other, state_of-with_child_same, state_of-with_clear, state_of-with_state_other, state_of-with_state_same, state_of-without_other, state_of-without_same, times_cons, times_filtered_other, times_push, word_at-read}
+pub use Rattle.mach_types.proofs.Laws.{KeepsRows, each_page-at, eqb_same, filtered_same, has_hart-harts_that, keeps_clear, map_filters, map_stays, next_is_new, numbers-with_rows, running_on-with_rows, same_numbers, state_of-with_child_other, state_of-with_child_same, state_of-with_rows, state_of-with_state_other, state_of-with_state_same, state_of-without_other, state_of-without_same, times_cons, times_filtered_other, times_push, word_at-read}
 pub use Rattle.mach_types.specs.Bytes.{all_stored, byte_after, byte_of, byte_over, each_byte, overlay, word_at, written}
 pub use Rattle.mach_types.specs.Events.{choice_of, choice_with, is_instruction}
 pub use Rattle.mach_types.specs.Kernel.Areas.{Words, are_words_writable, area_of, can_read_area, can_read_descriptor, descriptor_at, has_flags, interruption, is_area_of, is_clearable, is_inside, is_inside_named, is_out_of_range, is_signed, named, named_by, pointer_of, sequence_of, without_area, words_entered, words_on, words_written, writes_of}
@@ -47,7 +47,7 @@ pub use Rattle.mach_types.specs.Kernel.Pages.{PageRun, Pages, can_read, can_writ
 pub use Rattle.mach_types.specs.Kernel.Scheduling.{Scheduling, affinity_of, first_for, forget, has_hart, is_of, set_if, start_scheduling, with_affinity, with_ready}
 pub use Rattle.mach_types.specs.Kernel.SignalFrames.{entered_action, frame_at, frame_words, frame_writes, handler_file, handler_mask, restored_mask, stack_pointer, word_before, words_at, words_stored}
 pub use Rattle.mach_types.specs.Kernel.Signals.{Signalling, acted, action_of, default_action, dropped, has_signal, is_handler, is_ignored, joined, less, mask_if, mask_of, next_for, only, pending_of, post_if, posted, set_action, start_signalling, take_if, with_mask, with_pending, with_thread, without_pending, without_signal}
-pub use Rattle.mach_types.specs.Kernel.Threads.{IsThreads, Thread, Threads, clear_of, goes_on, is_full, is_live, is_ready, is_ready_state, is_running_state, is_stuck, is_thread, is_waiting_state, new_thread, numbers, running_on, start_threads, state_if, state_of, thread_of, times, waits, with_child, with_clear, with_state, with_waiter, without}
+pub use Rattle.mach_types.specs.Kernel.Threads.{IsThreads, Thread, Threads, clear_if, clear_of, goes_on, is_full, is_live, is_ready, is_ready_state, is_running_state, is_stuck, is_thread, is_waiting_state, new_thread, numbers, running_on, start_threads, state_if, state_of, thread_of, times, waits, with_child, with_clear, with_rows, with_state, with_waiter, without}
 pub use Rattle.mach_types.specs.Registers.{no_registers, register, with_register}
 pub use Rattle.mach_types.specs.declared.address_space.TheConstants.{FIRST_MAPPING_PAGE, FIRST_STACK_PAGE, MAPPING_START, PAGE_SIZE, USER_END}
 pub use Rattle.mach_types.specs.declared.barriers.Registered.{Registered}

@@ -1,10 +1,10 @@
 -- What holds of the threads of a process and of their scheduling together, and that it holds after each change of them.
 use Rattle.std.proofs.Common.{ℕ, ◌<◌, ◌≡◌, ◌≢◌, ◌⊎◌, Bool, true, false, not, ◌||◌, cond, eqb, List, [], ◌∷◌, ◌++◌, length, map, filter, find, Option, Some, None, Less, is_some, refl, sym, ap, ◌∙◌, subst, inl, inr, arith}
-use Rattle.block_model.proofs.Common.{AllByRecursion, Decides-eqb, IsTables, IsThreads, Ready, Running, Scheduling, Thread, ThreadState, Threads, Waiting, eqb_same, eqb_tells, false≢true, is_live, is_of, is_ready, is_ready_state, is_running_state, is_thread, is_waiting_state, list_any, nat_tests, numbers, on, option_map, option_map_or, running_on, same_clear_numbers, same_numbers, start_scheduling, start_threads, state_of, state_of-with_clear, state_of-with_state_other, state_of-with_state_same, thread_of, times, times_filtered_other, times_push, waits, with_clear, with_ready, with_state}
+use Rattle.block_model.proofs.Common.{AllByRecursion, Decides-eqb, IsTables, IsThreads, KeepsRows, Ready, Running, Scheduling, Thread, ThreadState, Threads, Waiting, eqb_same, eqb_tells, false≢true, is_live, is_of, is_ready, is_ready_state, is_running_state, is_thread, is_waiting_state, list_any, nat_tests, numbers, numbers-with_rows, on, option_map, option_map_or, running_on, same_numbers, start_scheduling, start_threads, state_of, state_of-with_rows, state_of-with_state_other, state_of-with_state_same, thread_of, times, times_filtered_other, times_push, waits, with_ready, with_rows, with_state}
 use Rattle.std.specs.List.Sorted.{IsStrictlySortedBy}
 use Rattle.std.specs.Ordering.{nat_cmp}
 use Rattle.std.proofs.lemmas.Map.Keys.{sorted_from_strictly_increasing}
-use Rattle.mach_types.proofs.Laws.{times_one, times_one_other, times_filtered_same, IsThreads-start, IsThreads-with_state, IsThreads-with_clear}
+use Rattle.mach_types.proofs.Laws.{times_one, times_one_other, times_filtered_same, IsThreads-start, IsThreads-with_state, IsThreads-with_rows}
 use Rattle.mach_types.specs.Kernel.Threads.{is_running_on, is_on}
 use Rattle.mach_types.specs.Kernel.Scheduling.{without_ready}
 use Rattle.mach_types.specs.declared.events.Hart.{Hart}
@@ -355,22 +355,15 @@ module _ (harts h t : ℕ) (ts : Threads) (sc : Scheduling) (holds : IsTables ha
         | inr b ↦ b.1
       ])
 
--- an address to clear changes no state
-module _ (harts t at : ℕ) (ts : Threads) (sc : Scheduling) (holds : IsTables harts ts sc) where
-  pub tables_cleared : IsTables harts (with_clear t at ts) sc
-  tables_cleared =
-      let alike : map (λ pair. pair.0) sc.affinities ≡ numbers (with_clear t at ts).live = holds.alike ∙ sym (same_clear_numbers t at ts.live) in
-      record {
-        threads = IsThreads-with_clear t at ts holds.threads;
-        one = λ k u v p q. holds.one k u v (sym (state_of-with_clear t at u ts) ∙ p) (sym (state_of-with_clear t at v ts) ∙ q);
-        below = λ u k p. holds.below u k (sym (state_of-with_clear t at u ts) ∙ p);
-        ready = λ u. holds.ready u ∙ sym (ap (λ (o : Option ThreadState). once (its_ready o)) (state_of-with_clear t at u ts));
-        held = held_from_alike (with_clear t at ts) sc alike;
-        alike = alike;
-      }
-
-  pub cleared_same : (k : ℕ) → running_on k (with_clear t at ts) ≡ running_on k ts
-  cleared_same k =
-      running_alike harts k ts (with_clear t at ts) sc sc holds tables_cleared
-      (λ u p. state_of-with_clear t at u ts ∙ p)
-      (λ u p. sym (state_of-with_clear t at u ts) ∙ p)
+-- a change of rows that keeps numbers and states
+pub tables_rows : (harts : ℕ) (f : Thread → Thread) → KeepsRows f → (ts : Threads) (sc : Scheduling) → IsTables harts ts sc → IsTables harts (with_rows f ts) sc
+tables_rows harts f keeps ts sc holds =
+    let alike : map (λ pair. pair.0) sc.affinities ≡ numbers (with_rows f ts).live = holds.alike ∙ sym (numbers-with_rows f keeps ts.live) in
+    record {
+      threads = IsThreads-with_rows f keeps ts holds.threads;
+      one = λ k u v p q. holds.one k u v (sym (state_of-with_rows f keeps u ts) ∙ p) (sym (state_of-with_rows f keeps v ts) ∙ q);
+      below = λ u k p. holds.below u k (sym (state_of-with_rows f keeps u ts) ∙ p);
+      ready = λ u. holds.ready u ∙ sym (ap (λ (o : Option ThreadState). once (its_ready o)) (state_of-with_rows f keeps u ts));
+      held = held_from_alike (with_rows f ts) sc alike;
+      alike = alike;
+    }

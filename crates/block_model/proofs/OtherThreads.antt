@@ -1,13 +1,13 @@
 -- What a call leaves as it is of other threads: who is ready stays so with its file, and each other thread keeps its area. Each call of
 -- the table does.
 use Rattle.std.proofs.Common.{◌≡◌, ◌≢◌, ℕ, ◌+◌, List, [], refl, sym, ap, ◌∙◌, inl, inr, Bool, true, false, cond, Option, Some, None, ◌∷◌, length, map}
-use Rattle.block_model.proofs.Common.{Area, CallDone, Here, IsGoodHere, IsThreads, Kernel, Ready, Saved, Thread, ThreadState, Threads, Waiting, Write, answered_wait, area_of, argument, broken_wait, called, child_file, clear_of, cleared, clears, clone_child_cleartid, eqb_tells, false≢true, file_among, gone, had_child, has_flag, is_ready, left, ne_eqb, next_is_new, next_number, option_map, registered, restricted, returned, runs, said, signalled, state_of, state_of-with_child_other, state_of-with_child_same, state_of-with_clear, state_of-with_state_other, state_of-with_state_same, state_of-without_other, sum_64, unregistered, waited, waits, wake, with_child, with_new_child, with_state, woken}
+use Rattle.block_model.proofs.Common.{Area, CallDone, Here, IsGoodHere, IsThreads, KeepsRows, Kernel, Ready, Saved, Thread, ThreadState, Threads, Waiting, Write, answered_wait, area_of, argument, broken_wait, called, child_file, clear_if, clear_of, cleared, clears, clone_child_cleartid, eqb_tells, false≢true, file_among, gone, had_child, has_flag, is_ready, keeps_clear, left, ne_eqb, next_is_new, next_number, option_map, registered, restricted, returned, rows_changed, runs, said, signalled, state_of, state_of-with_child_other, state_of-with_child_same, state_of-with_rows, state_of-with_state_other, state_of-with_state_same, state_of-without_other, sum_64, unregistered, waited, waits, wake, with_child, with_new_child, with_state, woken}
 use Rattle.mach_types.proofs.Laws.{area_of-with_area_other, area_of-without_area_other}
 use Rattle.block_model.proofs.Invariants.Calls.Futexes.{answered, wake_by, wake_keeps}
 use Rattle.block_model.proofs.Invariants.Events.{ready_apart}
 use Rattle.block_model.proofs.KernelTables.{its_ready}
 use Rattle.mach_types.specs.Kernel.SignalFrames as frame
-use Rattle.block_model.proofs.CallEffects.{Answers, Bears, Begins, Breaks, CallDeed, Clears, Ends, Exits, Leaves, MovesOff, Registers, Resumes, Says, TableStep, Unregisters, Waits, Wakes}
+use Rattle.block_model.proofs.CallEffects.{Answers, Bears, Begins, Breaks, CallDeed, ChangesRows, Ends, Exits, Leaves, MovesOff, Registers, Resumes, Says, TableStep, Unregisters, Waits, Wakes}
 use Rattle.block_model.proofs.CallEffects.EachCall.{deed_called}
 
 -- WHO IS READY
@@ -80,8 +80,8 @@ beside_gone t k = record {
   areas = λ u ne. area_of-without_area_other t u k.areas (λ e. ne (sym e));
 }
 
-pub beside_cleared : (t v p : ℕ) (k : Kernel) → IsBeside t k (cleared v p k)
-beside_cleared t v p k = record { ready = λ u ne is. ap its_ready (state_of-with_clear v p u k.threads) ∙ is; areas = λ u ne. refl }
+pub beside_rows : (t : ℕ) (f : Thread → Thread) → KeepsRows f → (k : Kernel) → IsBeside t k (rows_changed f k)
+beside_rows t f keeps k = record { ready = λ u ne is. ap its_ready (state_of-with_rows f keeps u k.threads) ∙ is; areas = λ u ne. refl }
 
 pub beside_child : (t : ℕ) (k : Kernel) → IsThreads k.threads → IsBeside t k (had_child t k)
 beside_child t k threads = record { ready = λ u ne is. ready_beside_child u k.threads threads is; areas = λ u ne. refl }
@@ -139,7 +139,7 @@ module _ (here : Here) (t : ℕ) (good : IsGoodHere here) (at : runs here ≡ So
 
 module _ (here : Here) (t number : ℕ) where
   beside_step : {entered : List Write} {k : Kernel} → TableStep here t number entered k → IsBeside t here.kernel k
-  beside_step (Clears at) = beside_cleared t t at here.kernel
+  beside_step (ChangesRows f keeps) = beside_rows t f keeps here.kernel
   beside_step Leaves = beside_left t t here.kernel
   beside_step (Waits at none) = beside_waited t at here.kernel
   beside_step (MovesOff set below some) =
@@ -162,7 +162,7 @@ module _ (here : Here) (t : ℕ) (good : IsGoodHere here) (at : runs here ≡ So
       let child = next_number here.kernel in
       let born = beside_child t here.kernel good.kernel.tables.threads in
       beside_if t here.kernel (cleared child ctid k) k (has_flag (argument here t 0) clone_child_cleartid)
-      (beside_after t here.kernel k (cleared child ctid k) born (beside_cleared t child ctid k)) born
+      (beside_after t here.kernel k (cleared child ctid k) born (beside_rows t (clear_if child ctid) (keeps_clear child ctid) k)) born
 
   aside_deed : (number : ℕ) {c : CallDone} → CallDeed here t number c → IsAside here t c
   aside_deed number (Says n) = aside_wrote here t good at n []

@@ -1,18 +1,18 @@
 -- What an event leaves of the thread on its own hart, and of that one's area.
 use Rattle.std.proofs.Common.{◌≡◌, ◌≢◌, ℕ, [], ◌∷◌, ◌⊎◌, inl, inr, List, Option, Some, None, Bool, true}
-use Rattle.block_model.proofs.Common.{Area, CallDone, Done, Effect, Event, Here, History, IsGoodHere, IsRunHistory, Kernel, Kind, Setting, Write, area_of, argument, by_call, call_number, called, choice_of, choice_with, clear_of, cleared, clears, clone_child_cleartid, done, had_child, has_flag, here_in_history, id_of, instruction_gate, is_call, is_held, kernel, left, next_effect, next_fault, next_number, option_or, others_gate, refusal_exec_by, refusal_of, running, running_on, runs, signalled, waiting_here, wake, words_on, words_written}
+use Rattle.block_model.proofs.Common.{Area, CallDone, Done, Effect, Event, Here, History, IsGoodHere, IsRunHistory, Kernel, Kind, Setting, Write, area_of, argument, by_call, call_number, called, choice_of, choice_with, clear_of, cleared, clears, clone_child_cleartid, done, had_child, has_flag, here_in_history, id_of, instruction_gate, is_call, is_held, kernel, left, next_effect, next_fault, next_number, option_or, others_gate, refusal_exec_by, refusal_of, running, running_on, running_on-with_rows, runs, signalled, waiting_here, wake, words_on, words_written}
 use Rattle.std.proofs.Common.{false}
 use Rattle.std.proofs.Common.{cond, length, is_some, refl, sym, ap, ◌∙◌, subst}
 use Rattle.mach_types.proofs.Laws.{area_of-with_area_same, area_of-without_area_same}
 use Rattle.mach_types.specs.declared.events.Kind.TheVariants as kind
 use Rattle.block_model.proofs.Runs.{allowed_at}
-use Rattle.block_model.proofs.CallEffects.{Answers, Bears, Breaks, CallDeed, Clears, Exits, Leaves}
+use Rattle.block_model.proofs.CallEffects.{Answers, Bears, Breaks, CallDeed, ChangesRows, Exits, Leaves}
 use Rattle.block_model.proofs.CallEffects.{MovesOff, Registers, TableStep, Unregisters, Waits, Wakes}
 use Rattle.block_model.proofs.CallEffects.EachCall.{deed_called}
 use Rattle.block_model.proofs.EventEffects.{Calls, EventDeed, IsNext, Preempts, RunKills, Runs, deed_of}
 use Rattle.block_model.proofs.Invariants.Calls.Cloning.{kept_child, running_child, sound_child}
 use Rattle.block_model.proofs.Invariants.Calls.Futexes.{kept_wake, wake_keeps}
-use Rattle.block_model.proofs.Invariants.Calls.RecordSteps.{kept_cleared, kept_signalled, kept_woken}
+use Rattle.block_model.proofs.Invariants.Calls.RecordSteps.{kept_signalled, kept_woken}
 use Rattle.block_model.proofs.Invariants.Instructions.{call_wants_empty, gates, none_waits}
 use Rattle.block_model.proofs.Invariants.Events.{out_of_barrier}
 use Rattle.block_model.proofs.KernelCalls.{ended_idle, waited_idle}
@@ -77,7 +77,7 @@ module _ (here : Here) (t number : ℕ) (good : IsGoodHere here) (at : runs here
   left_none = left_idle harts h t now.threads now.scheduling good.kernel.tables at
 
   runs_step : {entered : List Write} {k : Kernel} → TableStep here t number entered k → StaysOrLeaves h now k
-  runs_step (Clears p) = inl ((kept_cleared here.setting t p now good.kernel).running h)
+  runs_step (ChangesRows f keeps) = inl (running_on-with_rows f keeps h now.threads)
   runs_step Leaves = inr left_none
   runs_step (Waits p none) = inr (waited_idle harts h t p now.threads now.scheduling good.kernel.tables at)
   runs_step (MovesOff set below some) = inr left_none

@@ -1,7 +1,7 @@
 -- No thread waits with a signal that can be delivered to it (signal(7), "Interruption of system calls"): what each step of threads and
 -- of signals keeps of this.
 use Rattle.std.proofs.Common.{◌≡◌, ◌≢◌, ℕ, ◌+◌, ◌&&◌, Bool, true, false, not, cond, eqb, List, [], ◌∷◌, ◌++◌, map, filter, find, Option, Some, None, is_some, refl, sym, ap, subst, ◌∙◌, inl, inr}
-use Rattle.block_model.proofs.Common.{Action, IsThreads, Ready, Signalling, ThreadSignals, ThreadState, Threads, Waiting, acted, action_of, all_signals, cases_eq, cond_both, dropped, entered_action, eqb-true, false≢true, handler_mask, has_signal, is_ignored, is_waiting_state, joined, less, mask_of, ne_eqb, next_for, only, option_map, option_map_or, posted, restored_mask, set_action, signals_handled, state_of, state_of-with_child_other, state_of-with_child_same, state_of-with_clear, state_of-without_other, state_of-without_same, waits, with_child, with_clear, with_mask, with_pending, with_state, with_thread, without, without_pending, without_signal}
+use Rattle.block_model.proofs.Common.{Action, IsThreads, KeepsRows, Ready, Signalling, Thread, ThreadSignals, ThreadState, Threads, Waiting, acted, action_of, all_signals, cases_eq, cond_both, dropped, entered_action, eqb-true, false≢true, handler_mask, has_signal, is_ignored, is_waiting_state, joined, less, mask_of, ne_eqb, next_for, only, option_map, option_map_or, posted, restored_mask, set_action, signals_handled, state_of, state_of-with_child_other, state_of-with_child_same, state_of-with_rows, state_of-without_other, state_of-without_same, waits, with_child, with_mask, with_pending, with_rows, with_state, with_thread, without, without_pending, without_signal}
 use Rattle.mach_types.specs.Kernel.SignalFrames.{returned}
 use Rattle.mach_types.specs.Kernel.Signals.{forget, is_of, new_thread}
 use Rattle.block_model.proofs.IgnoredSignals.{less_before}
@@ -29,8 +29,8 @@ waited_or_own t u p ts P own others is = elim (state_moved t u (Waiting p) (Wait
   | inr other ↦ others (is.0, other.1)
 ]
 
-pub waited_uncleared : (t at u : ℕ) (ts : Threads) → waits (with_clear t at ts) u → waits ts u
-waited_uncleared t at u ts is = (is.0, sym (state_of-with_clear t at u ts) ∙ is.1)
+pub waited_rows : (f : Thread → Thread) → KeepsRows f → (u : ℕ) (ts : Threads) → waits (with_rows f ts) u → waits ts u
+waited_rows f keeps u ts is = (is.0, sym (state_of-with_rows f keeps u ts) ∙ is.1)
 
 pub waited_with : (t u : ℕ) (ts : Threads) → waits (without t ts) u → (u ≢ t) × waits ts u
 waited_with t u ts is = elim (cases_eq u t) [

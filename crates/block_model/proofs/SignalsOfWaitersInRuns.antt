@@ -1,9 +1,9 @@
 -- At each place of a block run no thread waits with a signal that can be delivered to it: what calls and events keep of this.
 use Rattle.std.proofs.Common.{◌≡◌, ◌≢◌, ℕ, List, Bool, true, false, cond, eqb, ◌∷◌, [], Some, None, sym, subst, ◌∙◌}
-use Rattle.block_model.proofs.Common.{CallDone, Done, Entry, Event, Here, History, IsRunHistory, IsTables, Kernel, Kind, Ready, Running, Setting, Thread, Waiting, Write, argument, call_number, clear_of, cleared, clears, clone_child_cleartid, done, had_child, has_flag, here_in_history, kernel, new_thread, next_for, next_number, option_map, runs, signals_taken, start_signalling, start_threads, waits, wake}
-use Rattle.block_model.proofs.CallEffects.{Answers, Bears, Breaks, CallDeed, Clears, Exits, Leaves, MovesOff, Resumes, Signalled, TableStep, Waits, Wakes}
+use Rattle.block_model.proofs.Common.{CallDone, Done, Entry, Event, Here, History, IsRunHistory, IsTables, Kernel, Kind, Ready, Running, Setting, Thread, Waiting, Write, argument, call_number, clear_if, clear_of, cleared, clears, clone_child_cleartid, done, had_child, has_flag, here_in_history, keeps_clear, kernel, new_thread, next_for, next_number, option_map, runs, signals_taken, start_signalling, start_threads, waits, wake}
+use Rattle.block_model.proofs.CallEffects.{Answers, Bears, Breaks, CallDeed, ChangesRows, Exits, Leaves, MovesOff, Resumes, Signalled, TableStep, Waits, Wakes}
 use Rattle.block_model.proofs.CallEffects.EachCall.{deed_called}
-use Rattle.block_model.proofs.SignalsOfWaiters.{AreCalm, next_born, next_gone, next_handled, next_pending, next_returned, next_taken, waited_before, waited_beside, waited_or_own, waited_other, waited_uncleared, waited_with}
+use Rattle.block_model.proofs.SignalsOfWaiters.{AreCalm, next_born, next_gone, next_handled, next_pending, next_returned, next_taken, waited_before, waited_beside, waited_or_own, waited_other, waited_rows, waited_with}
 use Rattle.block_model.proofs.EventEffects.{Calls, EventDeed, Faults, Handles, Preempts, Runs, SignalKills, deed_of}
 use Rattle.block_model.proofs.Invariants.Calls.Futexes.{wake_keeps}
 use Rattle.block_model.proofs.Runs.{settled}
@@ -17,7 +17,7 @@ calm_wake = wake_keeps (λ a b. IsCalm a → IsCalm b) (λ k calm. calm)
     (λ u k after waiting rest calm. rest (λ w is. calm w (waited_before u w Ready k.threads (λ p no. cc) is)))
 
 calm_if : (child at : ℕ) (k : Kernel) (b : Bool) → IsCalm k → IsCalm (cond b (cleared child at k) k)
-calm_if child at k true calm = λ u is. calm u (waited_uncleared child at u k.threads is)
+calm_if child at k true calm = λ u is. calm u (waited_rows (clear_if child at) (keeps_clear child at) u k.threads is)
 calm_if child at k false calm = calm
 
 module _ (here : Here) (harts : ℕ) (tables : IsTables harts here.kernel.threads here.kernel.scheduling) (calm : IsCalm here.kernel) where
@@ -26,7 +26,7 @@ module _ (here : Here) (harts : ℕ) (tables : IsTables harts here.kernel.thread
 
   calm_step : (t number : ℕ) {entered : List Write} {k : Kernel} → runs here ≡ Some t
       → TableStep here t number entered k → IsCalm k
-  calm_step t number at (Clears p) = λ u is. calm u (waited_uncleared t p u here.kernel.threads is)
+  calm_step t number at (ChangesRows f keeps) = λ u is. calm u (waited_rows f keeps u here.kernel.threads is)
   calm_step t number at Leaves = λ u is. calm u (waited_before t u Ready here.kernel.threads (λ p no. cc) is)
   calm_step t number at (Waits p none) = λ u is.
       waited_or_own t u p here.kernel.threads (λ n. next_for n here.kernel.signals ≡ None) none (calm u) is

@@ -1,14 +1,14 @@
 -- Whatever else holds at a place, each call leaves tables that agree: where the threads, the scheduling, the areas and the signals
 -- agreed before it, they agree after it.
 use Rattle.std.proofs.Common.{◌≡◌, ℕ, List, Bool, true, false, cond, Some, is_some, refl, ap, ◌∙◌, arith, Option}
-use Rattle.block_model.proofs.Common.{AreOfLive, AreSignalsOfLive, CallDone, Here, IsHeld, IsTables, Kernel, ThreadState, Write, argument, call_number, called, clear_of, cleared, clears, clone_child_cleartid, gone, had_child, has_flag, left, next_number, restricted, running_on, runs, signalled, waits, wake, woken}
+use Rattle.block_model.proofs.Common.{AreOfLive, AreSignalsOfLive, CallDone, Here, IsHeld, IsTables, KeepsRows, Kernel, Thread, ThreadState, Write, argument, call_number, called, clear_if, clear_of, cleared, clears, clone_child_cleartid, gone, had_child, has_flag, keeps_clear, left, next_number, restricted, rows_changed, running_on, runs, signalled, waits, wake, woken}
 use Rattle.mach_types.specs.Kernel.SignalFrames as frame
-use Rattle.block_model.proofs.CallEffects.{Answers, Bears, Breaks, CallDeed, Clears, Exits, Leaves, MovesOff, Registers, Resumes, Signalled, Stays, TableStep, Unregisters, Waits, Wakes}
+use Rattle.block_model.proofs.CallEffects.{Answers, Bears, Breaks, CallDeed, ChangesRows, Exits, Leaves, MovesOff, Registers, Resumes, Signalled, Stays, TableStep, Unregisters, Waits, Wakes}
 use Rattle.block_model.proofs.CallEffects.EachCall.{deed_called}
 use Rattle.block_model.proofs.Invariants.Calls.Futexes.{wake_keeps}
-use Rattle.block_model.proofs.ThreadRecords.{has_state, held_beside, held_child, held_cleared, held_gone, held_left, held_registered, held_signalled, held_unregistered, held_waited, held_woken}
+use Rattle.block_model.proofs.ThreadRecords.{has_state, held_beside, held_child, held_gone, held_left, held_registered, held_rows, held_signalled, held_unregistered, held_waited, held_woken}
 use Rattle.block_model.proofs.KernelCalls.{tables_allowed, tables_child, tables_ended, tables_waited, tables_woken, woken_same}
-use Rattle.block_model.proofs.KernelTables.{running_is, tables_cleared, tables_left}
+use Rattle.block_model.proofs.KernelTables.{running_is, tables_left, tables_rows}
 use Rattle.block_model.proofs.SignalTables.{returned_keeps}
 
 -- the tables of a record agree
@@ -37,16 +37,16 @@ agreed_gone : (harts h t : ℕ) (k : Kernel) → running_on h k.threads ≡ Some
 agreed_gone harts h t k at is =
     agreed_of harts (gone t k) (tables_ended harts h t k.threads k.scheduling is.tables at) (held_gone 9 t k (held_of harts k is))
 
-agreed_cleared : (harts t at : ℕ) (k : Kernel) → IsAgreed harts k → IsAgreed harts (cleared t at k)
-agreed_cleared harts t at k is =
-    agreed_of harts (cleared t at k) (tables_cleared harts t at k.threads k.scheduling is.tables) (held_cleared 9 t at k (held_of harts k is))
+agreed_rows : (harts : ℕ) (f : Thread → Thread) → KeepsRows f → (k : Kernel) → IsAgreed harts k → IsAgreed harts (rows_changed f k)
+agreed_rows harts f keeps k is =
+    agreed_of harts (rows_changed f k) (tables_rows harts f keeps k.threads k.scheduling is.tables) (held_rows 9 f keeps k (held_of harts k is))
 
 agreed_restricted : (harts t set : ℕ) (k : Kernel) → IsAgreed harts k → IsAgreed harts (restricted t set k)
 agreed_restricted harts t set k is =
     agreed_of harts (restricted t set k) (tables_allowed harts t set k.threads k.scheduling is.tables) (held_beside 9 k _ refl refl refl refl (held_of harts k is))
 
 cleared_if : (harts t at : ℕ) (k : Kernel) (b : Bool) → IsAgreed harts k → IsAgreed harts (cond b (cleared t at k) k)
-cleared_if harts t at k true is = agreed_cleared harts t at k is
+cleared_if harts t at k true is = agreed_rows harts (clear_if t at) (keeps_clear t at) k is
 cleared_if harts t at k false is = is
 
 -- many that waited are woken, and who runs goes on running
@@ -74,7 +74,7 @@ module _ (here : Here) (t number harts : ℕ) (at : runs here ≡ Some t) (is : 
   lives = ap (λ (o : Option ThreadState). is_some o) (running_is harts here.hart t here.kernel.threads here.kernel.scheduling is.tables at)
 
   agreed_step : {entered : List Write} {k : Kernel} → TableStep here t number entered k → IsAgreed harts k
-  agreed_step (Clears p) = agreed_cleared harts t p now is
+  agreed_step (ChangesRows f keeps) = agreed_rows harts f keeps now is
   agreed_step Leaves = agreed_left harts here.hart t now at is
   agreed_step (Waits p none) =
       agreed_of harts _ (tables_waited harts here.hart t p now.threads now.scheduling is.tables at) (held_waited 9 t p now held)

@@ -1,7 +1,7 @@
 -- What the kernel's record holds for threads: ids for those that run, and areas and signals for live ones alone. It stays so after
 -- each step.
 use Rattle.std.proofs.Common.{ℕ, ◌+◌, ◌<◌, ◌≤◌, ◌≡◌, ◌≢◌, ◌||◌, ◌⊎◌, Bool, true, false, not, cond, eqb, List, [], ◌∷◌, ◌++◌, length, map, filter, find, Option, Some, None, is_some, refl, sym, ap, ◌∙◌, inl, inr, arith}
-use Rattle.block_model.proofs.Common.{AreIdsApart, AreOfLive, AreSignalsOfLive, Area, IsHeld, IsThreads, Kernel, Ready, Setting, Signalling, Thread, ThreadSignals, ThreadState, Threads, Waiting, area_of, cases_lt, cleared, eqb-true, eqb_tells, false≢true, first_kernel, gone, had_child, is_area_of, is_live, is_running_state, left, length-map, list_any, map_filters, map_push, mask_of, new_thread, next_is_new, next_number, numbers, on, option_map, or_cases, or_right, registered, same_clear_numbers, same_numbers, signalled, state_of, state_of-with_child_other, state_of-with_child_same, state_of-with_clear, state_of-with_state_other, state_of-with_state_same, state_of-without_other, state_of-without_same, thread_of, times, times_cons, times_push, unregistered, waited, waits, with_child, with_state, without, without_area, woken}
+use Rattle.block_model.proofs.Common.{AreIdsApart, AreOfLive, AreSignalsOfLive, Area, IsHeld, IsThreads, KeepsRows, Kernel, Ready, Setting, Signalling, Thread, ThreadSignals, ThreadState, Threads, Waiting, area_of, cases_lt, eqb-true, eqb_tells, false≢true, first_kernel, gone, had_child, is_area_of, is_live, is_running_state, left, length-map, list_any, map_filters, map_push, mask_of, new_thread, next_is_new, next_number, numbers, numbers-with_rows, on, option_map, or_cases, or_right, registered, rows_changed, same_numbers, signalled, state_of, state_of-with_child_other, state_of-with_child_same, state_of-with_rows, state_of-with_state_other, state_of-with_state_same, state_of-without_other, state_of-without_same, thread_of, times, times_cons, times_push, unregistered, waited, waits, with_child, with_state, without, without_area, woken}
 use Rattle.mach_types.specs.Kernel.Areas.{with_area}
 use Rattle.mach_types.specs.Kernel.Signals as signals
 use Rattle.block_model.specs.Kernel.{ran}
@@ -119,13 +119,13 @@ held_woken harts t k waiting is = record {
   signals = signals_stay t Ready k.threads k.signals is.signals;
 }
 
--- an address to clear
-pub held_cleared : (harts : ℕ) → (t at : ℕ) (k : Kernel) → IsHeld harts k → IsHeld harts (cleared t at k)
-held_cleared harts t at k is = record {
-  ids = λ small. ids_same k.threads (cleared t at k).threads k.ids (λ u. ap its_run (state_of-with_clear t at u k.threads)) (is.ids small);
-  areas = areas_stay k.threads (cleared t at k).threads k.areas
-      (λ u live. ap (λ (o : Option ThreadState). is_some o) (state_of-with_clear t at u k.threads) ∙ live) is.areas;
-  signals = is.signals ∙ sym (same_clear_numbers t at k.threads.live);
+-- a change of rows that keeps numbers and states
+pub held_rows : (harts : ℕ) (f : Thread → Thread) → KeepsRows f → (k : Kernel) → IsHeld harts k → IsHeld harts (rows_changed f k)
+held_rows harts f keeps k is = record {
+  ids = λ small. ids_same k.threads (rows_changed f k).threads k.ids (λ u. ap its_run (state_of-with_rows f keeps u k.threads)) (is.ids small);
+  areas = areas_stay k.threads (rows_changed f k).threads k.areas
+      (λ u live. ap (λ (o : Option ThreadState). is_some o) (state_of-with_rows f keeps u k.threads) ∙ live) is.areas;
+  signals = is.signals ∙ sym (numbers-with_rows f keeps k.threads.live);
 }
 
 -- a child, which doesn't run

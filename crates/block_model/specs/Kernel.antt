@@ -4,7 +4,7 @@ use Rattle.mach_types.specs.declared.address_space.TheConstants.{STACK_PAGES}
 use Rattle.mach_types.specs.declared.threads.ThreadState.TheVariants.{Ready, Running}
 use Rattle.block_model.specs.Record.{Kernel}
 use Rattle.mach_types.specs.Kernel.Pages.{Pages}
-use Rattle.mach_types.specs.Kernel.Threads.{start_threads, with_state, with_clear, with_waiter, with_woken, with_child, without}
+use Rattle.mach_types.specs.Kernel.Threads.{Thread, clear_if, start_threads, with_child, with_rows, with_state, with_waiter, with_woken, without}
 use Rattle.mach_types.specs.Kernel.Scheduling.{start_scheduling, with_ready, without_ready, with_thread, with_affinity, forget}
 use Rattle.mach_types.specs.Kernel.Signals.{Signalling, start_signalling}
 use Rattle.mach_types.specs.Kernel.Signals as signals
@@ -84,9 +84,13 @@ had_child t k = record k {
 abbrev pub restricted : ℕ → ℕ → Kernel → Kernel
 restricted t set k = record k { scheduling = with_affinity t set k.scheduling }
 
+-- each thread is changed so
+abbrev pub rows_changed : (Thread → Thread) → Kernel → Kernel
+rows_changed f k = record k { threads = with_rows f k.threads }
+
 -- a thread has another address that its exit clears
 abbrev pub cleared : ℕ → ℕ → Kernel → Kernel
-cleared t at k = record k { threads = with_clear t at k.threads }
+cleared t at k = rows_changed (clear_if t at) k
 
 -- a thread has an area, or has none any more
 abbrev pub registered : ℕ → Area → Kernel → Kernel

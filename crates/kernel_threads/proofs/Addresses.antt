@@ -4,8 +4,8 @@ use Rattle.std.specs.Option.{option_map}
 use Rattle.std.proofs.lemmas.Bool.{false≢true}
 use Rattle.std.proofs.lemmas.Bool.Decides.{Decides-eqb}
 use Rattle.std.proofs.lemmas.List.{map_push}
-use Rattle.mach_types.proofs.Laws.{is_waiting, map_filters, next_is_new, state_of-with_state_same, state_of-with_state_other, state_of-without_other, state_of-with_child_other, state_of-with_clear}
-use Rattle.mach_types.specs.Kernel.Threads.{Threads, IsThreads, state_of, is_waiting_at, with_state, with_clear, with_child, without, with_woken, with_waiter, no_waiter}
+use Rattle.mach_types.proofs.Laws.{is_waiting, map_filters, next_is_new, state_of-with_state_same, state_of-with_state_other, state_of-without_other, state_of-with_child_other, state_of-with_rows, KeepsRows}
+use Rattle.mach_types.specs.Kernel.Threads.{Thread, Threads, IsThreads, state_of, is_waiting_at, with_state, with_rows, with_child, without, with_woken, with_waiter, no_waiter}
 use Rattle.mach_types.specs.declared.events.Hart.{Hart}
 use Rattle.mach_types.specs.declared.threads.ThreadState.{ThreadState}
 use Rattle.mach_types.specs.declared.threads.ThreadState.TheVariants.{Ready, Running, Waiting}
@@ -56,9 +56,9 @@ addresses_child ts h ws each =
     addresses_stay ts (with_child ts) (ts.given + 1) (λ u other. state_of-with_child_other u ts other)
     (ap (λ o. is_waiting (option_map (λ th. th.state) o)) (next_is_new ts h)) ws each
 
-pub addresses_aimed : (ts : Threads) (n at : ℕ) (ws : List Waiter) → HaveAddresses ts ws → HaveAddresses (with_clear n at ts) ws
-addresses_aimed ts n at [] each = tt
-addresses_aimed ts n at (w ∷ ws) each = (state_of-with_clear n at w.number ts ∙ each.0, addresses_aimed ts n at ws each.1)
+pub addresses_kept : (ts : Threads) (g : Thread → Thread) → KeepsRows g → (ws : List Waiter) → HaveAddresses ts ws → HaveAddresses (with_rows g ts) ws
+addresses_kept ts g keeps [] each = tt
+addresses_kept ts g keeps (w ∷ ws) each = (state_of-with_rows g keeps w.number ts ∙ each.0, addresses_kept ts g keeps ws each.1)
 
 pub addresses_ended : (ts : Threads) (n : ℕ) (ws : List Waiter) → HaveAddresses ts ws → HaveAddresses (without n ts) (filter (λ w. not (is_waiter n w)) ws)
 addresses_ended ts n ws each = addresses_of_others ts (without n ts) n (λ u other. state_of-without_other n u other ts) ws each

@@ -1,15 +1,15 @@
 -- What holds of the rows and the waiters is kept by each change.
 use Rattle.std.proofs.Common.{ℕ, ◌+◌, ◌-◌, ◌<◌, ◌≡◌, ◌^◌, false, not, List, [], ◌∷◌, ◌++◌, map, filter, Some, refl, sym, ap, ◌∙◌, subst}
-use Rattle.kernel_threads.specs.Rows.{state_at, threads_in, is_row, stage_if, clear_row_if, table_in}
+use Rattle.kernel_threads.specs.Rows.{state_at, threads_in, is_row, stage_if, table_in}
 use Rattle.kernel_threads.specs.Waits.{HaveAddresses, IsKept, numbers_of, is_waiter}
 use Rattle.kernel_threads.specs.declared.rows.Row.{Row}
 use Rattle.kernel_threads.specs.declared.rows.Stage.{Stage}
 use Rattle.kernel_threads.specs.declared.rows.Stage.TheVariants as stage
 use Rattle.kernel_threads.specs.declared.waiters.Waiter.{Waiter}
-use Rattle.kernel_threads.proofs.Addresses.{numbers_without, numbers_push, addresses_moved, addresses_child, addresses_aimed, addresses_ended, addresses_woken, addresses_waiting}
-use Rattle.kernel_threads.proofs.Viewed.{of_live, moved_threads, moved_table, aimed_threads, aimed_table, grown_threads, grown_table, ended_threads, ended_table, woken_threads, woken_table, waiter_threads, waiter_table}
+use Rattle.kernel_threads.proofs.Addresses.{numbers_without, numbers_push, addresses_moved, addresses_child, addresses_kept, addresses_ended, addresses_woken, addresses_waiting}
+use Rattle.kernel_threads.proofs.Viewed.{of_live, moved_threads, moved_table, IsRowChange, rows_threads, rows_table, grown_threads, grown_table, ended_threads, ended_table, woken_threads, woken_table, waiter_threads, waiter_table}
 use Rattle.mach_types.proofs.Laws.{is_waiting}
-use Rattle.mach_types.specs.Kernel.Threads.{Threads, state_of, is_full, without, with_woken, with_waiter}
+use Rattle.mach_types.specs.Kernel.Threads.{Thread, Threads, state_of, is_full, without, with_woken, with_waiter}
 use Rattle.mach_types.specs.declared.events.Hart.{Hart}
 use Rattle.mach_types.specs.declared.threads.Saved.{Saved}
 use Rattle.mach_types.specs.declared.threads.ThreadState.{ThreadState}
@@ -27,11 +27,11 @@ module _ (rows changed : List Row) (given : ℕ) (ws : List Waiter) (kept : IsKe
         (addresses_moved threads n (state_at st) (ap is_waiting was ∙ old) ws kept.addresses);
   }
 
-  pub kept_aimed : (n at : ℕ) → changed ≡ map (clear_row_if n at) rows → IsKept changed given ws
-  kept_aimed n at e = record {
-    table = aimed_table rows changed given (numbers_of ws) n at e kept.table;
-    addresses = subst (λ (ts : Threads). HaveAddresses ts ws) (sym (aimed_threads rows changed given (numbers_of ws) n at (table_in rows given (numbers_of ws)) e refl))
-        (addresses_aimed threads n at ws kept.addresses);
+  pub kept_rows : (f : Row → Row) (g : Thread → Thread) → IsRowChange f g → changed ≡ map f rows → IsKept changed given ws
+  kept_rows f g is e = record {
+    table = rows_table rows changed given (numbers_of ws) f g is e kept.table;
+    addresses = subst (λ (ts : Threads). HaveAddresses ts ws) (sym (rows_threads rows changed given (numbers_of ws) f g is e (table_in rows given (numbers_of ws)) refl))
+        (addresses_kept threads g is.keeps ws kept.addresses);
   }
 
   pub kept_grown : (start : Saved) → changed ≡ rows ++ record { number = given + 1; stage = stage.Ready start; clear_at = 0 } ∷ [] → given < 2 ^ 31 - 1

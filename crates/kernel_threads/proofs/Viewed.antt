@@ -1,13 +1,13 @@
 -- A change of the rows is the change of the threads, and of what is saved, that it stands for.
 use Rattle.std.proofs.Common.{ℕ, ◌+◌, ◌-◌, ◌<◌, ◌≡◌, ◌^◌, Bool, true, false, not, cond, eqb, List, [], ◌∷◌, ◌++◌, map, filter, Some, is_some, refl, sym, ap, ◌∙◌, subst}
 use Rattle.std.proofs.lemmas.List.{map_push}
-use Rattle.kernel_threads.specs.Rows.{state_at, kept_at, thread_in, saved_in, threads_in, all_saved_in, is_row, stage_if, clear_row_if, table_in}
+use Rattle.kernel_threads.specs.Rows.{state_at, kept_at, thread_in, saved_in, threads_in, all_saved_in, is_row, stage_if, table_in}
 use Rattle.kernel_threads.specs.Table.{Table, IsTable, is_of, saved_if, with_saved, with_start, forget, has_saved, wants_saved}
 use Rattle.kernel_threads.specs.declared.rows.Row.{Row}
 use Rattle.kernel_threads.specs.declared.rows.Stage.{Stage}
 use Rattle.kernel_threads.specs.declared.rows.Stage.TheVariants as stage
-use Rattle.mach_types.proofs.Laws.{map_commutes, map_stays, map_filters, is_waiting, IsThreads-child, IsThreads-without, IsThreads-with_state, IsThreads-with_clear, IsThreads-woken, IsThreads-waiter}
-use Rattle.mach_types.specs.Kernel.Threads.{IsThreads, Thread, Threads, is_running_state, is_thread, state_of, state_if, clear_if, with_state, with_clear, with_child, is_full, without, with_waiter, with_woken, no_waiter}
+use Rattle.mach_types.proofs.Laws.{map_commutes, map_stays, map_filters, is_waiting, IsThreads-child, IsThreads-without, IsThreads-with_state, IsThreads-with_rows, IsThreads-woken, IsThreads-waiter, KeepsRows}
+use Rattle.mach_types.specs.Kernel.Threads.{IsThreads, Thread, Threads, is_running_state, is_thread, state_of, state_if, with_state, with_rows, with_child, is_full, without, with_waiter, with_woken, no_waiter}
 use Rattle.mach_types.specs.declared.events.Hart.{Hart}
 use Rattle.mach_types.specs.declared.threads.Saved.{Saved}
 use Rattle.mach_types.specs.declared.threads.ThreadState.{ThreadState}
@@ -28,17 +28,11 @@ stage_saved n st rows =
     (λ row. elim (eqb row.number n) as (λ b. saved_in (cond b (record row { stage = st }) row) ≡ cond b (row.number, kept_at st) (saved_in row)) [ true ↦ refl | false ↦ refl ])
     rows
 
-pub clear_threads : (n at : ℕ) (rows : List Row) → threads_in (map (clear_row_if n at) rows) ≡ map (clear_if n at) (threads_in rows)
-clear_threads n at rows =
-    map_commutes thread_in (clear_row_if n at) (clear_if n at)
-    (λ row. elim (eqb row.number n) as (λ b. thread_in (cond b (record row { clear_at = at }) row) ≡ cond b (record (thread_in row) { clear_at = at }) (thread_in row)) [ true ↦ refl | false ↦ refl ])
-    rows
-
-pub clear_saved : (n at : ℕ) (rows : List Row) → all_saved_in (map (clear_row_if n at) rows) ≡ all_saved_in rows
-clear_saved n at rows =
-    map_stays saved_in (clear_row_if n at)
-    (λ row. elim (eqb row.number n) as (λ b. saved_in (cond b (record row { clear_at = at }) row) ≡ saved_in row) [ true ↦ refl | false ↦ refl ])
-    rows
+-- a change of rows that is this one of their threads, of which no other table speaks, and keeps what is saved of each
+pub record IsRowChange (f : Row → Row) (g : Thread → Thread) : Type 0 where
+  pub thread : (row : Row) → thread_in (f row) ≡ g (thread_in row)
+  pub saved : (row : Row) → saved_in (f row) ≡ saved_in row
+  pub keeps : KeepsRows g
 
 -- what is saved of a row is what its stage wants
 abbrev numbered : ℕ → Bool → ℕ × Bool
@@ -77,18 +71,20 @@ module _ (rows changed : List Row) (given : ℕ) (waiters : List ℕ) where
       (subst (λ (ts : Threads). IsThreads ts) (sym (moved_threads n st (table_in rows given waiters) e refl))
       (IsThreads-with_state n (state_at st) (of_live (threads_in rows) given waiters) h.threads new before))
 
-  pub aimed_threads : (n at : ℕ) (t : Table) → changed ≡ map (clear_row_if n at) rows → table_in rows given waiters ≡ t → of_live (threads_in changed) given waiters ≡ with_clear n at t.threads
-  aimed_threads n at t e v =
-      ap (λ rs. of_live (threads_in rs) given waiters) e ∙ ap (λ live. of_live live given waiters) (clear_threads n at rows) ∙ ap (λ u. with_clear n at u.threads) v
+  module _ (f : Row → Row) (g : Thread → Thread) (is : IsRowChange f g) (e : changed ≡ map f rows) where
+    pub rows_threads : (t : Table) → table_in rows given waiters ≡ t → of_live (threads_in changed) given waiters ≡ with_rows g t.threads
+    rows_threads t v =
+        ap (λ rs. of_live (threads_in rs) given waiters) e ∙ ap (λ live. of_live live given waiters) (map_commutes thread_in f g is.thread rows)
+        ∙ ap (λ u. with_rows g u.threads) v
 
-  pub aimed_saved : (n at : ℕ) (t : Table) → changed ≡ map (clear_row_if n at) rows → table_in rows given waiters ≡ t → all_saved_in changed ≡ t.saved
-  aimed_saved n at t e v = ap all_saved_in e ∙ clear_saved n at rows ∙ ap (λ u. u.saved) v
+    pub rows_saved : (t : Table) → table_in rows given waiters ≡ t → all_saved_in changed ≡ t.saved
+    rows_saved t v = ap all_saved_in e ∙ map_stays saved_in f is.saved rows ∙ ap (λ u. u.saved) v
 
-  pub aimed_table : (n at : ℕ) → changed ≡ map (clear_row_if n at) rows → IsTable (table_in rows given waiters) → IsTable (table_in changed given waiters)
-  aimed_table n at e h =
-      IsTable-rows changed given waiters
-      (subst (λ (ts : Threads). IsThreads ts) (sym (aimed_threads n at (table_in rows given waiters) e refl))
-      (IsThreads-with_clear n at (of_live (threads_in rows) given waiters) h.threads))
+    pub rows_table : IsTable (table_in rows given waiters) → IsTable (table_in changed given waiters)
+    rows_table h =
+        IsTable-rows changed given waiters
+        (subst (λ (ts : Threads). IsThreads ts) (sym (rows_threads (table_in rows given waiters) refl))
+        (IsThreads-with_rows g is.keeps (of_live (threads_in rows) given waiters) h.threads))
 
   -- a new row
   pub grown_threads : (start : Saved) (t : Table) → changed ≡ rows ++ record { number = given + 1; stage = stage.Ready start; clear_at = 0 } ∷ [] → table_in rows given waiters ≡ t

@@ -9,7 +9,7 @@ use Rattle.std.proofs.lemmas.List.Filters.{length-filter_both}
 use Rattle.std.proofs.lemmas.List.Kept.{IsStrictlyIncreasing-filter}
 use Rattle.mach_types.proofs.Lists.{map_stays, map_filters, changed_same, changed_other, filtered_same, filtered_other, found_at_end, not_at_end}
 use Rattle.mach_types.proofs.Times.{times_push, times_one, times_one_other, times_filtered_same, times_filtered_other, found_times, length_le_from_times, IsStrictlyIncreasing-push, times_cons, eqb_same, eqb_other}
-use Rattle.mach_types.specs.Kernel.Threads.{IsThreads, times, is_waiting_state, Thread, Threads, new_thread, start_threads, is_thread, thread_of, state_of, state_if, clear_if, with_state, with_clear, with_child, is_full, no_waiter, without, with_waiter, with_woken, numbers}
+use Rattle.mach_types.specs.Kernel.Threads.{IsThreads, times, is_waiting_state, Thread, Threads, new_thread, start_threads, is_thread, thread_of, state_of, state_if, clear_if, with_state, with_rows, with_clear, with_child, is_on, is_running_on, running_on, is_full, no_waiter, without, with_waiter, with_woken, numbers}
 use Rattle.mach_types.specs.declared.events.Hart.{Hart}
 use Rattle.mach_types.specs.declared.threads.ThreadState.{ThreadState}
 use Rattle.mach_types.specs.declared.threads.ThreadState.TheVariants.{Ready, Running, Waiting}
@@ -25,12 +25,9 @@ its_state o = option_map (λ th. th.state) o
 abbrev once : Bool → ℕ
 once b = cond b 1 0
 
--- a thread in another state, or with another address to clear
+-- a thread in another state
 abbrev in_state : ThreadState → Thread → Thread
 in_state st th = record th { state = st }
-
-abbrev aimed_at : ℕ → Thread → Thread
-aimed_at at th = record th { clear_at = at }
 
 -- a thread in another state has its number, and so has one with another address to clear
 kept_number : (t : ℕ) (st : ThreadState) (th : Thread) → (state_if t st th).tid ≡ th.tid
@@ -41,9 +38,6 @@ kept_clear_number t at th = elim (eqb th.tid t) as (λ b. (cond b (record th { c
 
 pub same_numbers : (t : ℕ) (st : ThreadState) (live : List Thread) → numbers (map (state_if t st) live) ≡ numbers live
 same_numbers t st live = map_stays (λ th. th.tid) (state_if t st) (kept_number t st) live
-
-pub same_clear_numbers : (t at : ℕ) (live : List Thread) → numbers (map (clear_if t at) live) ≡ numbers live
-same_clear_numbers t at live = map_stays (λ th. th.tid) (clear_if t at) (kept_clear_number t at) live
 
 -- the state of a thread after a change of that thread, and of another
 pub state_of-with_state_same : (t : ℕ) (st : ThreadState) (ts : Threads) → state_of t (with_state t st ts) ≡ option_map (λ old. st) (state_of t ts)
@@ -58,16 +52,51 @@ state_of-with_state_other t u other st ts =
 clear_state : (t at : ℕ) (th : Thread) → (clear_if t at th).state ≡ th.state
 clear_state t at th = elim (eqb th.tid t) as (λ b. (cond b (record th { clear_at = at }) th).state ≡ th.state) [ true ↦ refl | false ↦ refl ]
 
+-- a change that keeps each thread's number and its state: of what it changes no other table speaks
+pub record KeepsRows (f : Thread → Thread) : Type 0 where
+  pub number : (th : Thread) → (f th).tid ≡ th.tid
+  pub state : (th : Thread) → (f th).state ≡ th.state
+
+pub keeps_clear : (t at : ℕ) → KeepsRows (clear_if t at)
+keeps_clear t at = record { number = kept_clear_number t at; state = clear_state t at }
+
+pub numbers-with_rows : (f : Thread → Thread) → KeepsRows f → (live : List Thread) → numbers (map f live) ≡ numbers live
+numbers-with_rows f keeps live = map_stays (λ th. th.tid) f keeps.number live
+
+pub state_of-with_rows : (f : Thread → Thread) → KeepsRows f → (u : ℕ) (ts : Threads) → state_of u (with_rows f ts) ≡ state_of u ts
+state_of-with_rows f keeps u ts = go ts.live
+  where
+    found : (th : Thread) (rest : List Thread) → its_state (find (is_thread u) (map f rest)) ≡ its_state (find (is_thread u) rest) → (b : Bool)
+        → its_state (cond b (Some (f th)) (find (is_thread u) (map f rest))) ≡ its_state (cond b (Some th) (find (is_thread u) rest))
+    found th rest same true = ap Some (keeps.state th)
+    found th rest same false = same
+
+    go : (live : List Thread) → its_state (find (is_thread u) (map f live)) ≡ its_state (find (is_thread u) live)
+    go [] = refl
+    go (th ∷ rest) =
+        ap (λ n. its_state (cond (eqb n u) (Some (f th)) (find (is_thread u) (map f rest)))) (keeps.number th)
+        ∙ found th rest (go rest) (eqb th.tid u)
+
+-- the number of what was found
+abbrev its_number : Option Thread → Option ℕ
+its_number o = option_map (λ th. th.tid) o
+
+pub running_on-with_rows : (f : Thread → Thread) → KeepsRows f → (h : ℕ) (ts : Threads) → running_on h (with_rows f ts) ≡ running_on h ts
+running_on-with_rows f keeps h ts = go ts.live
+  where
+    found : (th : Thread) (rest : List Thread) → its_number (find (is_on h) (map f rest)) ≡ its_number (find (is_on h) rest) → (b : Bool)
+        → its_number (cond b (Some (f th)) (find (is_on h) (map f rest))) ≡ its_number (cond b (Some th) (find (is_on h) rest))
+    found th rest same true = ap Some (keeps.number th)
+    found th rest same false = same
+
+    go : (live : List Thread) → its_number (find (is_on h) (map f live)) ≡ its_number (find (is_on h) live)
+    go [] = refl
+    go (th ∷ rest) =
+        ap (λ st. its_number (cond (is_running_on h st) (Some (f th)) (find (is_on h) (map f rest)))) (keeps.state th)
+        ∙ found th rest (go rest) (is_running_on h th.state)
+
 pub state_of-with_clear : (t at u : ℕ) (ts : Threads) → state_of u (with_clear t at ts) ≡ state_of u ts
-state_of-with_clear t at u ts =
-    elim (eqb_tells u t) [
-      | inl p ↦
-          ap (λ k. its_state (find (is_thread k) (map (clear_if t at) ts.live))) p.1
-          ∙ ap its_state (changed_same (λ th. th.tid) (aimed_at at) (λ th. refl) t ts.live)
-          ∙ (elim (find (is_thread t) ts.live) as (λ o. its_state (option_map (aimed_at at) o) ≡ its_state o) [ None ↦ refl | Some th ↦ refl ])
-          ∙ sym (ap (λ k. its_state (find (is_thread k) ts.live)) p.1)
-      | inr q ↦ ap its_state (changed_other (λ th. th.tid) (aimed_at at) (λ th. refl) t u q.1 ts.live)
-    ]
+state_of-with_clear t at u ts = state_of-with_rows (clear_if t at) (keeps_clear t at) u ts
 
 pub state_of-without_same : (t : ℕ) (ts : Threads) → state_of t (without t ts) ≡ None
 state_of-without_same t ts = ap its_state (filtered_same (λ th. th.tid) t ts.live)
@@ -149,13 +178,13 @@ IsThreads-with_state t st ts h new old =
       ]));
     }
 
-pub IsThreads-with_clear : (t at : ℕ) (ts : Threads) → IsThreads ts → IsThreads (with_clear t at ts)
-IsThreads-with_clear t at ts h =
+pub IsThreads-with_rows : (f : Thread → Thread) → KeepsRows f → (ts : Threads) → IsThreads ts → IsThreads (with_rows f ts)
+IsThreads-with_rows f keeps ts h =
     record {
-      rising = rising_along (numbers (map (clear_if t at) ts.live)) (numbers ts.live) (same_clear_numbers t at ts.live) h.rising;
-      given = given_along ts.given (numbers (map (clear_if t at) ts.live)) (numbers ts.live) (same_clear_numbers t at ts.live) h.given;
-      few = omega (arith, h.few, length-map ts.live (clear_if t at));
-      waiting = λ u. h.waiting u ∙ sym (ap (λ o. once (is_waiting o)) (state_of-with_clear t at u ts));
+      rising = rising_along (numbers (map f ts.live)) (numbers ts.live) (numbers-with_rows f keeps ts.live) h.rising;
+      given = given_along ts.given (numbers (map f ts.live)) (numbers ts.live) (numbers-with_rows f keeps ts.live) h.given;
+      few = omega (arith, h.few, length-map ts.live f);
+      waiting = λ u. h.waiting u ∙ sym (ap (λ o. once (is_waiting o)) (state_of-with_rows f keeps u ts));
     }
 
 -- a thread that waits no longer

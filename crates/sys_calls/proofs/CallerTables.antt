@@ -1,5 +1,6 @@
 -- What the tables say of a thread that calls, and of the others.
-use Rattle.sys_calls.proofs.Common.{◌≡◌, ℕ, Bool, true, false, cond, eqb, List, [], ◌∷◌, map, Option, Some, None, is_some, refl, ap, ◌∙◌, list_any, option_map, option_map_or, is_of, Thread, Threads, is_live, is_ready_state, running_on, runs, state_of, with_clear, Table, IsTable, saved_of, AreTables, IsCaller, Kernel, on, running_is, ready_listed, find, clear_if, is_on, is_thread}
+use Rattle.sys_calls.proofs.Common.{◌≡◌, ℕ, true, false, eqb, Option, Some, None, is_some, refl, ap, ◌∙◌, list_any, option_map, option_map_or, is_of, Thread, Threads, is_live, is_ready_state, running_on, runs, state_of, with_clear, Table, IsTable, saved_of, AreTables, IsCaller, Kernel, on, running_is, ready_listed, clear_if}
+use Rattle.mach_types.proofs.Laws.{keeps_clear, running_on-with_rows}
 use Rattle.mach_types.specs.declared.threads.ThreadState.{ThreadState}
 use Rattle.kernel_threads.proofs.Laws.{running_saves_nothing}
 
@@ -41,22 +42,5 @@ pub runs_quiet : (t : ℕ) (table : Table) → IsTable table → runs table.thre
 runs_quiet t table holds run = running_saves_nothing t run.0 table holds run.1
 
 -- an address to clear changes nothing of who runs where
-abbrev number_in : Option Thread → Option ℕ
-number_in o = option_map (λ (th : Thread). th.tid) o
-
-either : (b : Bool) (x y : Thread) (p q : Option Thread) → x.tid ≡ y.tid → number_in p ≡ number_in q → number_in (cond b (Some x) p) ≡ number_in (cond b (Some y) q)
-either true x y p q same rest = ap Some same
-either false x y p q same rest = rest
-
 pub cleared_runs : (j t at : ℕ) (ts : Threads) → running_on j (with_clear t at ts) ≡ running_on j ts
-cleared_runs j t at ts = go ts.live
-  where
-    go : (live : List Thread) → number_in (find (is_on j) (map (clear_if t at) live)) ≡ number_in (find (is_on j) live)
-    go [] = refl
-    go (th ∷ rest) =
-        let cleared : Thread = record th { clear_at = at } in
-        let later = find (is_on j) (map (clear_if t at) rest) in
-        elim (is_thread t th) as (λ b. let x : Thread = cond b cleared th in number_in (cond (is_on j x) (Some x) later) ≡ number_in (find (is_on j) (th ∷ rest))) [
-          | true ↦ either (is_on j th) cleared th later (find (is_on j) rest) refl (go rest)
-          | false ↦ either (is_on j th) th th later (find (is_on j) rest) refl (go rest)
-        ]
+cleared_runs j t at ts = running_on-with_rows (clear_if t at) (keeps_clear t at) j ts

@@ -1,8 +1,8 @@
 -- getpid(2), gettid(2) and set_tid_address(2).
 use Rattle.std.proofs.Common.{ℕ, []}
-use Rattle.block_model.proofs.Common.{Here, argument}
+use Rattle.block_model.proofs.Common.{Here, argument, clear_if, keeps_clear}
 use Rattle.block_model.specs.Calls.Numbers.{getpid, gettid, set_tid_address}
-use Rattle.block_model.proofs.CallEffects.{CallDeed, Answers, Clears, Says, small_no_error}
+use Rattle.block_model.proofs.CallEffects.{CallDeed, Answers, ChangesRows, Says, small_no_error}
 
 module _ (here : Here) (t number : ℕ) where
   pub deed_getpid : CallDeed here t number (getpid here t)
@@ -12,4 +12,4 @@ module _ (here : Here) (t number : ℕ) where
   deed_gettid = Says t
 
   pub deed_set_tid_address : CallDeed here t number (set_tid_address here t)
-  deed_set_tid_address = Answers t [] _ (λ few. small_no_error t few.low) tt (Clears (argument here t 0))
+  deed_set_tid_address = Answers t [] _ (λ few. small_no_error t few.low) tt (ChangesRows (clear_if t (argument here t 0)) (keeps_clear t (argument here t 0)))

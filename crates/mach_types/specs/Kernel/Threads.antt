@@ -57,8 +57,12 @@ clear_if t at th = if is_thread t th then record th { clear_at = at } else th
 abbrev pub with_state : ℕ → ThreadState → Threads → Threads
 with_state t st ts = record ts { live = map (state_if t st) ts.live }
 
+-- each thread changed so
+abbrev pub with_rows : (Thread → Thread) → Threads → Threads
+with_rows f ts = record ts { live = map f ts.live }
+
 abbrev pub with_clear : ℕ → ℕ → Threads → Threads
-with_clear t at ts = record ts { live = map (clear_if t at) ts.live }
+with_clear t at ts = with_rows (clear_if t at) ts
 
 -- clone(2): a child with the next number, which is ready
 abbrev pub with_child : Threads → Threads

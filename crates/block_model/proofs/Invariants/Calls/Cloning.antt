@@ -1,13 +1,13 @@
 -- clone(2).
 use Rattle.std.proofs.Common.{List, ◌≡◌, ◌≢◌, ℕ, [], ◌∷◌, refl, sym, ap, ◌∙◌, subst, arith, Bool, true, false, cond, Option, Some, None}
-use Rattle.block_model.proofs.Common.{CallDone, Here, IsGoodHere, IsSound, Kernel, PageRun, Saved, Setting, Thread, Write, argument, child_file, cleared, clone_child_cleartid, had_child, has_flag, is_full, ne_eqb, next_is_new, next_number, on, option_map, returned, running_on, runs, state_of, with_new_child}
+use Rattle.block_model.proofs.Common.{CallDone, Here, IsGoodHere, IsSound, Kernel, PageRun, Saved, Setting, Thread, Write, argument, child_file, clear_if, cleared, clone_child_cleartid, had_child, has_flag, is_full, keeps_clear, ne_eqb, next_is_new, next_number, on, option_map, returned, running_on, runs, state_of, with_new_child}
 use Rattle.block_model.proofs.AllowedHarts.{child_allowed, running_live}
 use Rattle.block_model.proofs.KernelTables.{running_is}
 use Rattle.block_model.proofs.KernelCalls.{child_not_held, child_same, tables_child}
 use Rattle.block_model.proofs.Pages.{IsPaged}
 use Rattle.block_model.proofs.ThreadRecords.{held_child}
 use Rattle.block_model.proofs.Invariants.Calls.Conditions.{IsFitTaking, IsApart, apart_own, pages_stay}
-use Rattle.block_model.proofs.Invariants.Calls.RecordSteps.{IsKept, kept_cleared, kept_still}
+use Rattle.block_model.proofs.Invariants.Calls.RecordSteps.{IsKept, kept_rows, kept_still}
 
 -- a thread that runs has another number than the next
 new_apart : (s : Setting) (h u : ℕ) (k : Kernel) → IsSound s k → running_on h k.threads ≡ Some u
@@ -44,7 +44,7 @@ module _ (s : Setting) (h t : ℕ) (k : Kernel)
 -- and then perhaps the address that the child's exit clears
 kept_if_cleared : (s : Setting) (b : Bool) (t at : ℕ) (k : Kernel) → IsSound s k
     → IsKept s k (cond b (cleared t at k) k)
-kept_if_cleared s true t at k sound = kept_cleared s t at k sound
+kept_if_cleared s true t at k sound = kept_rows s (clear_if t at) (keeps_clear t at) k sound
 kept_if_cleared s false t at k sound = kept_still s k sound
 
 pub kept_child : (here : Here) (t : ℕ) → IsSound here.setting (had_child t here.kernel)

@@ -3,12 +3,12 @@ use Rattle.std.proofs.Common.{◌≡◌, ℕ, List, [], ◌∷◌, length, map, 
 use Rattle.block_model.proofs.Common.{CallDone, Here, IsGoodHere, Kernel, PageRun, Setting, ThreadState, Write, answered_wait, broken_wait, call_number, called, clear_of, clears, gone, left, ne_eqb, registered, restricted, returned, runs, said, signalled, sum_64, taken_by, unregistered, waits, wake, woken}
 use Rattle.mach_types.specs.Kernel.SignalFrames as frame
 use Rattle.block_model.proofs.Barriers.Events.{IsAtOthers}
-use Rattle.block_model.proofs.CallEffects.{Answers, Bears, Begins, Breaks, CallDeed, Clears, Ends, EnrolsFor, Exits, Leaves, MovesOff, Prints, Registers, Remaps, Resumes, Same, Says, Signalled, Stays, TableStep, Unregisters, Waits, Wakes}
+use Rattle.block_model.proofs.CallEffects.{Answers, Bears, Begins, Breaks, CallDeed, ChangesRows, Ends, EnrolsFor, Exits, Leaves, MovesOff, Prints, Registers, Remaps, Resumes, Same, Says, Signalled, Stays, TableStep, Unregisters, Waits, Wakes}
 use Rattle.block_model.proofs.CallEffects.EachCall.{deed_called}
 use Rattle.block_model.proofs.Invariants.Calls.Cloning.{fit_child}
 use Rattle.block_model.proofs.Invariants.Calls.Conditions.{IsFitTaking, IsApart, apart_none, apart_one, apart_own, fit_kept, fit_moved}
 use Rattle.block_model.proofs.Invariants.Calls.Futexes.{apart_woken, kept_wake}
-use Rattle.block_model.proofs.Invariants.Calls.RecordSteps.{IsKept, IsMoved, kept_cleared, kept_moved, kept_printed, kept_restricted, kept_signalled, kept_still, kept_twice, kept_woken, moved_after, moved_gone, moved_left, moved_waited, kept_tables}
+use Rattle.block_model.proofs.Invariants.Calls.RecordSteps.{IsKept, IsMoved, kept_moved, kept_printed, kept_rows, kept_restricted, kept_signalled, kept_still, kept_twice, kept_woken, moved_after, moved_gone, moved_left, moved_waited, kept_tables}
 use Rattle.block_model.proofs.ThreadRecords.{has_state, held_beside, held_registered, held_unregistered}
 use Rattle.block_model.proofs.KernelTables.{running_is, waits_elsewhere}
 use Rattle.block_model.proofs.SignalTables.{returned_keeps}
@@ -45,7 +45,7 @@ module _ (here : Here) (t number : ℕ) (good : IsGoodHere here) (at : runs here
   fit_step : (n : ℕ) (entered : List Write) {k : Kernel} → TableStep here t number entered k → IsFitTaking here taken (record (said here t n) { entered = entered; kernel = k })
   fit_step n entered Same = keeping n entered now (kept_still s now good.kernel)
   fit_step n entered (Prints bytes room) = keeping n entered _ (kept_printed s bytes now good.kernel room)
-  fit_step n entered (Clears p) = keeping n entered _ (kept_cleared s t p now good.kernel)
+  fit_step n entered (ChangesRows f keeps) = keeping n entered _ (kept_rows s f keeps now good.kernel)
   fit_step n entered Leaves = moving n entered _ (moved_left s h t now good.kernel at)
   fit_step n entered (Waits p none) = moving n entered _ (moved_waited s h t p now good.kernel at)
   fit_step n entered (Stays set below some) = keeping n entered _ (kept_restricted s t set now good.kernel below some)

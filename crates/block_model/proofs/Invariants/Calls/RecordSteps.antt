@@ -1,11 +1,11 @@
 -- Steps of the kernel's record that calls are made of: what each keeps.
 use Rattle.std.proofs.Common.{◌≡◌, ◌≢◌, ℕ, ◌+◌, ◌≤◌, ◌<◌, ◌^◌, List, refl, ◌∙◌, arith, Some, length, length-append, sym, ap, subst}
-use Rattle.block_model.proofs.Common.{CONSOLE_ROOM, IsHeld, IsSound, IsTables, Kernel, Scheduling, Setting, Signalling, Threads, cleared, gone, left, printed, restricted, running_on, signalled, waited, waits, woken}
+use Rattle.block_model.proofs.Common.{CONSOLE_ROOM, IsHeld, IsSound, IsTables, KeepsRows, Kernel, Scheduling, Setting, Signalling, Thread, Threads, gone, left, printed, restricted, rows_changed, running_on, running_on-with_rows, signalled, waited, waits, woken}
 use Rattle.block_model.proofs.AllowedHarts.{kept_allowed, restricted_allowed, ended_allowed}
-use Rattle.block_model.proofs.KernelTables.{tables_cleared, cleared_same, tables_left, left_others}
+use Rattle.block_model.proofs.KernelTables.{tables_rows, tables_left, left_others}
 use Rattle.block_model.proofs.KernelCalls.{tables_allowed, tables_woken, woken_same, tables_waited, waited_others, tables_ended, ended_others}
 use Rattle.block_model.proofs.SignalTables.{KeepsThreads}
-use Rattle.block_model.proofs.ThreadRecords.{held_beside, held_cleared, held_gone, held_left, held_signalled, held_waited, held_woken}
+use Rattle.block_model.proofs.ThreadRecords.{held_beside, held_rows, held_gone, held_left, held_signalled, held_waited, held_woken}
 
 -- each hart runs the thread that it ran, the pages stay, no number is given, and the record stays sound
 pub record IsKept (s : Setting) (before after : Kernel) : Type 0 where
@@ -83,13 +83,13 @@ kept_printed s bytes k sound room = record {
   held = held_beside s.limits.harts k _ refl refl refl refl;
 }
 
-pub kept_cleared : (s : Setting) (t at : ℕ) (k : Kernel) → IsSound s k → IsKept s k (cleared t at k)
-kept_cleared s t at k sound = record {
-  running = cleared_same s.limits.harts t at k.threads k.scheduling sound.tables;
+pub kept_rows : (s : Setting) (f : Thread → Thread) → KeepsRows f → (k : Kernel) → IsSound s k → IsKept s k (rows_changed f k)
+kept_rows s f keeps k sound = record {
+  running = λ h. running_on-with_rows f keeps h k.threads;
   pages = refl;
   given = refl;
-  sound = sound_still s k (cleared t at k) sound (tables_cleared s.limits.harts t at k.threads k.scheduling sound.tables) refl refl;
-  held = held_cleared s.limits.harts t at k;
+  sound = sound_still s k (rows_changed f k) sound (tables_rows s.limits.harts f keeps k.threads k.scheduling sound.tables) refl refl;
+  held = held_rows s.limits.harts f keeps k;
 }
 
 pub kept_woken : (s : Setting) (t : ℕ) (k : Kernel) → IsSound s k → waits k.threads t → IsKept s k (woken t k)
