@@ -55,7 +55,7 @@ pub use Rattle.block_model.proofs.Sequences.{Begins, Elsewhere, IsOf, Own, Seque
 pub use Rattle.block_model.proofs.Stretches.{HasStayed, HasSteps, IsLent, Steps, is_lent, stays, steps_of, worked_keeps}
 pub use Rattle.block_model.proofs.ThreadRecords.{areas_changed, areas_fit, live_changed, registered_areas, signals_stay}
 pub use Rattle.block_model.proofs.Invariants.Calls.Futexes.{longest_waits, wake_by, wake_keeps}
-pub use Rattle.block_model.proofs.KernelTables.{any_live, left_idle, running_idle, running_is, running_there, waits_elsewhere, state_now, tables_cleared, tables_left, tables_ran, tables_start, ran_runs}
+pub use Rattle.block_model.proofs.KernelTables.{any_live, left_idle, running_idle, running_is, running_there, waits_elsewhere, state_now, tables_left, tables_ran, tables_start, ran_runs}
 pub use Rattle.block_model.proofs.Barriers.OutsideSequences.{in_no_barrier}
 pub use Rattle.block_model.proofs.PlainAgreement.{plain-nil as start_plain}
 pub use Rattle.block_model.proofs.PlainMachine.{IsSolo-append, plain_makes, IsSolo-nil as start_solo}
