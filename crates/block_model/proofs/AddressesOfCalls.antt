@@ -104,7 +104,7 @@ module _ (here : Here) (t number : ℕ) where
   lives_step : {entered : List Write} {k : Kernel} → TableStep here t number entered k → lives k ≡ lives here.kernel
   lives_step (ChangesRows f keeps) = rows_lives f here.kernel
   lives_step Leaves = left_lives t here.kernel
-  lives_step (Waits at none) = waited_lives t at here.kernel
+  lives_step (Waits at none its_number) = waited_lives t at here.kernel
   lives_step (MovesOff set below some) = left_lives t (restricted t set here.kernel)
   lives_step step = refl
 
@@ -143,7 +143,7 @@ module _ (here : Here) (t number : ℕ) where
             let rising = (kept_wake here.setting n at here.kernel sound).sound.tables.threads.rising in
             some_stay t (wake n at here.kernel).kernel.threads.live rising (omega arith);
       }
-  proper_deed (Bears entered writes free) =
+  proper_deed (Bears entered writes free its_number) =
       let clears = has_flag (argument here t 0) clone_child_cleartid in
       let more = child_lives_if t (next_number here.kernel) (argument here t 4) here.kernel clears in
       proper_going _ (λ all. (pc_past, (pc_past, tt)))

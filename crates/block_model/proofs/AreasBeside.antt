@@ -20,7 +20,7 @@ module _ (here : Here) (beside : here.beside ≢ None) (none : here.kernel.areas
     none_called (Exits more) =
         let n : ℕ = cond (clears here t) 1 0 in
         ap (without_area t) (areas_woken n (clear_of t here.kernel.threads) here.kernel ∙ none)
-    none_called (Bears entered writes free) =
+    none_called (Bears entered writes free its_number) =
         let asked = has_flag (argument here t 0) clone_child_cleartid in
         areas_cleared asked (next_number here.kernel) (argument here t 4) (had_child t here.kernel) ∙ none
     none_called deed = none

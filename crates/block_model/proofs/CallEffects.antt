@@ -54,7 +54,8 @@ pub data TableStep (here : Here) (t number : ℕ) (entered : List Write) : Kerne
       → TableStep here t number entered (printed bytes here.kernel)
   ChangesRows : (f : Thread → Thread) → KeepsRows f → TableStep here t number entered (rows_changed f here.kernel)
   Leaves : TableStep here t number entered (left t here.kernel)
-  Waits : (at : ℕ) → next_for t here.kernel.signals ≡ None → TableStep here t number entered (waited t at here.kernel)
+  Waits : (at : ℕ) → next_for t here.kernel.signals ≡ None → number ≡ 98
+      → TableStep here t number entered (waited t at here.kernel)
   Stays : (set : ℕ) → set < 2 ^ here.setting.limits.harts → set ≢ 0
       → TableStep here t number entered (restricted t set here.kernel)
   MovesOff : (set : ℕ) → set < 2 ^ here.setting.limits.harts → set ≢ 0
@@ -101,6 +102,7 @@ pub data CallDeed (here : Here) (t number : ℕ) : CallDone → Type 0 where
       })
   Exits : 1 < length here.kernel.threads.live → CallDeed here t number (one_exits here t)
   Bears : (entered : List Write) → AllWritable (is_writable here) entered → is_full here.kernel.threads ≡ false
+      → number ≡ 220
       → CallDeed here t number (record {
         files = (t, returned (next_number here.kernel) (here.file t)) ∷
             (next_number here.kernel, child_file here t) ∷ [];

@@ -77,7 +77,7 @@ module _ (here : Here) (t : ℕ) where
   tells_deed number other few (Breaks u g waiting keeps stand heeds calm) =
       tells_answer 0 (broken_wait here u ∷ []) [] (woken u (signalled g here.kernel)) (small_no_error 0 (omega arith))
   tells_deed number other few (Exits more) = λ goes lives e. absurd (false≢true (sym (not_gone t (woken_at_exit here t).kernel) ∙ lives))
-  tells_deed number other few (Bears entered writes free) =
+  tells_deed number other few (Bears entered writes free its_number) =
       let child = next_number here.kernel in
       let given = few.few in
       tells_answer child ((child, child_file here t) ∷ []) entered (with_new_child here t) (small_no_error child (omega arith))

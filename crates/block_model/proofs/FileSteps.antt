@@ -85,7 +85,7 @@ module _ (here : Here) (tid u : ℕ) where
         either kind.Exec t _ _ (own _)
         (either kind.Exec v _ (here.file u) (answered kind.Exec v (negative EINTR.0)) FileStays)
     step_called (Exits more) = woken kind.Exec (woken_at_exit here t).threads
-    step_called (Bears entered writes free) =
+    step_called (Bears entered writes free its_number) =
         either kind.Exec t _ _ (own _)
         (either kind.Exec (next_number here.kernel) (child_file here t) (here.file u)
         (λ same. AtBirth (child_file here t) refl same) FileStays)

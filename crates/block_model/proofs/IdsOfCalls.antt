@@ -26,7 +26,7 @@ either_kept false x y ids p q = q
 module _ (here : Here) (t number : ℕ) where
   ids_step : {entered : List Write} {k : Kernel} → TableStep here t number entered k → HasLostOne t here.kernel.ids k.ids
   ids_step Leaves = inr refl
-  ids_step (Waits at none) = inr refl
+  ids_step (Waits at none its_number) = inr refl
   ids_step (MovesOff set below some) = inr refl
   ids_step step = inl refl
 
@@ -34,7 +34,7 @@ module _ (here : Here) (t number : ℕ) where
   ids_deed (Answers n entered k no_error writes step) = ids_step step
   ids_deed (Wakes n at small) = inl (ids_woken n at here.kernel)
   ids_deed (Exits more) = inr (ap (without_id t) (ids_woken (cond (clears here t) 1 0) (clear_of t here.kernel.threads) here.kernel))
-  ids_deed (Bears entered writes free) =
+  ids_deed (Bears entered writes free its_number) =
       let child = had_child t here.kernel in
       inl (either_kept (has_flag (argument here t 0) clone_child_cleartid) (cleared (next_number here.kernel) (argument here t 4) child) child _ refl refl)
   ids_deed deed = inl refl

@@ -27,7 +27,7 @@ module _ (here : Here) (t number : ℕ) (all : AllHeeded here.kernel.signals) wh
       let n : ℕ = cond (clears here t) 1 0 in
       let at = clear_of t here.kernel.threads in
       heeded_gone t (wake n at here.kernel).kernel.signals (heeded_wake n at here.kernel all)
-  heeded_deed (Bears entered writes free) =
+  heeded_deed (Bears entered writes free its_number) =
       heeded_if (next_number here.kernel) (argument here t 4) (had_child t here.kernel) (has_flag (argument here t 0) clone_child_cleartid)
       (heeded_child t (next_number here.kernel) here.kernel.signals all)
   heeded_deed (Resumes words is its) = heeded_returned t (Some words) here.kernel.signals all

@@ -17,7 +17,7 @@ module _ (here : Here) (t number : ℕ) where
   deed_writes : {c : CallDone} → CallDeed here t number c → AllWritable (is_writable here) c.entered
   deed_writes (Answers n entered k no_error writes step) = writes
   deed_writes (Exits more) = cleared_writable here t
-  deed_writes (Bears entered writes free) = writes
+  deed_writes (Bears entered writes free its_number) = writes
   deed_writes (Ends entered e writes over) = writes
   deed_writes deed = tt
 

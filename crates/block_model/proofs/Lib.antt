@@ -5,7 +5,7 @@ mod AllowedHarts
 mod AreasBeside
 mod BarrierExamples
 mod Barriers
-mod CallEffects
+pub mod CallEffects
 mod Choosing
 mod Common
 mod Counts

@@ -141,7 +141,7 @@ module _ (here : Here) (t number : ℕ) where
   beside_step : {entered : List Write} {k : Kernel} → TableStep here t number entered k → IsBeside t here.kernel k
   beside_step (ChangesRows f keeps) = beside_rows t f keeps here.kernel
   beside_step Leaves = beside_left t t here.kernel
-  beside_step (Waits at none) = beside_waited t at here.kernel
+  beside_step (Waits at none its_number) = beside_waited t at here.kernel
   beside_step (MovesOff set below some) =
       let k = restricted t set here.kernel in
       beside_after t here.kernel k (left t k) (alike t here.kernel k refl refl) (beside_left t t k)
@@ -191,7 +191,7 @@ module _ (here : Here) (t : ℕ) (good : IsGoodHere here) (at : runs here ≡ So
         files = λ u f ready. answered_beside here n address u f here.kernel ready;
         beside = beside_after t here.kernel then (gone t then) (beside_wake t n address here.kernel) (beside_gone t then);
       }
-  aside_deed number (Bears entered writes free) =
+  aside_deed number (Bears entered writes free its_number) =
       let child = next_number here.kernel in
       record {
         files = λ u f ready.

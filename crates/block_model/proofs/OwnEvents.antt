@@ -52,7 +52,7 @@ module _ (here : Here) (t number : ℕ) where
       let n : ℕ = cond (clears here t) 1 0 in
       area_gone (area_of-without_area_same t
       (wake n (clear_of t here.kernel.threads) here.kernel).kernel.areas)
-  area_called (Bears entered writes free) =
+  area_called (Bears entered writes free its_number) =
       let asked = has_flag (argument here t 0) clone_child_cleartid in
       let child = had_child t here.kernel in
       area_kept (ap (area_of t) (areas_cleared asked (next_number here.kernel) (argument here t 4) child))
@@ -79,7 +79,7 @@ module _ (here : Here) (t number : ℕ) (good : IsGoodHere here) (at : runs here
   runs_step : {entered : List Write} {k : Kernel} → TableStep here t number entered k → StaysOrLeaves h now k
   runs_step (ChangesRows f keeps) = inl (running_on-with_rows f keeps h now.threads)
   runs_step Leaves = inr left_none
-  runs_step (Waits p none) = inr (waited_idle harts h t p now.threads now.scheduling good.kernel.tables at)
+  runs_step (Waits p none its_number) = inr (waited_idle harts h t p now.threads now.scheduling good.kernel.tables at)
   runs_step (MovesOff set below some) = inr left_none
   runs_step step = inl refl
 
@@ -95,7 +95,7 @@ module _ (here : Here) (t number : ℕ) (good : IsGoodHere here) (at : runs here
       let then = (wake n address now).kernel in
       let kept = kept_wake here.setting n address now good.kernel in
       inr (ended_idle harts h t then.threads then.scheduling kept.sound.tables (kept.running h ∙ at))
-  runs_called (Bears entered writes free) =
+  runs_called (Bears entered writes free its_number) =
       let sound = sound_child here.setting h t now good.kernel at free in
       inl ((kept_child here t sound).running h ∙ running_child here.setting h t now good.kernel at free h)
   runs_called deed = inl refl

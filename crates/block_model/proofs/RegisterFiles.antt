@@ -101,7 +101,7 @@ module _ (here : Here) (all : (t : ℕ) → HasRegisters (here.file t)) where
   call_has {t = t} (Breaks u g waiting keeps stand heeds calm) =
       (as_many (here.file t).file 10 0 ∙ all t, (as_many (here.file u).file 10 _ ∙ all u, tt))
   call_has {t = t} (Exits more) = woken_have here (woken_at_exit here t).threads all
-  call_has {t = t} (Bears entered writes free) = (as_many (here.file t).file 10 _ ∙ all t, (child_has t, tt))
+  call_has {t = t} (Bears entered writes free its_number) = (as_many (here.file t).file 10 _ ∙ all t, (child_has t, tt))
   call_has {t = t} (Begins targets restart others no_error its_number) = (all t, tt)
   call_has {t = t} (Resumes words is its) =
       (restored_has words (frame_counted (memory here) (here.file t) words is), tt)

@@ -28,7 +28,7 @@ module _ (here : Here) (harts : ℕ) (tables : IsTables harts here.kernel.thread
       → TableStep here t number entered k → IsCalm k
   calm_step t number at (ChangesRows f keeps) = λ u is. calm u (waited_rows f keeps u here.kernel.threads is)
   calm_step t number at Leaves = λ u is. calm u (waited_before t u Ready here.kernel.threads (λ p no. cc) is)
-  calm_step t number at (Waits p none) = λ u is.
+  calm_step t number at (Waits p none its_number) = λ u is.
       waited_or_own t u p here.kernel.threads (λ n. next_for n here.kernel.signals ≡ None) none (calm u) is
   calm_step t number at (MovesOff set below some) = λ u is. calm u (waited_before t u Ready here.kernel.threads (λ p no. cc) is)
   calm_step t number at (Signalled g keeps stand heeds quiet) = λ u is. quiet u (apart t at u is) is (calm u is)
@@ -45,7 +45,7 @@ module _ (here : Here) (harts : ℕ) (tables : IsTables harts here.kernel.thread
       let then = (wake n (clear_of t here.kernel.threads) here.kernel).kernel in
       let was = waited_with t u then.threads is in
       next_gone t u was.0 then.signals ∙ calm_wake n (clear_of t here.kernel.threads) here.kernel calm u was.1
-  calm_deed t number at (Bears entered writes free) =
+  calm_deed t number at (Bears entered writes free its_number) =
       let child = next_number here.kernel in
       calm_if child (argument here t 4) (had_child t here.kernel) (has_flag (argument here t 0) clone_child_cleartid) (λ u is.
       let was = waited_beside u here.kernel.threads tables.threads is in

@@ -76,7 +76,7 @@ module _ (here : Here) (t number harts : ℕ) (at : runs here ≡ Some t) (is : 
   agreed_step : {entered : List Write} {k : Kernel} → TableStep here t number entered k → IsAgreed harts k
   agreed_step (ChangesRows f keeps) = agreed_rows harts f keeps now is
   agreed_step Leaves = agreed_left harts here.hart t now at is
-  agreed_step (Waits p none) =
+  agreed_step (Waits p none its_number) =
       agreed_of harts _ (tables_waited harts here.hart t p now.threads now.scheduling is.tables at) (held_waited 9 t p now held)
   agreed_step (Stays set below some) = agreed_restricted harts t set now is
   agreed_step (MovesOff set below some) = agreed_left harts here.hart t (restricted t set now) at (agreed_restricted harts t set now is)
@@ -94,7 +94,7 @@ module _ (here : Here) (t number harts : ℕ) (at : runs here ≡ Some t) (is : 
       let n : ℕ = cond (clears here t) 1 0 in
       let woke = agreed_wake harts n (clear_of t now.threads) now is in
       agreed_gone harts here.hart t (wake n (clear_of t now.threads) now).kernel (woke.running here.hart ∙ at) woke.agreed
-  agreed_deed (Bears entered writes free) =
+  agreed_deed (Bears entered writes free its_number) =
       cleared_if harts (next_number now) (argument here t 4) (had_child t now) (has_flag (argument here t 0) clone_child_cleartid)
       (agreed_of harts (had_child t now) (tables_child harts t now.threads now.scheduling is.tables free) (held_child 9 t now is.tables.threads held))
   agreed_deed (Resumes words its number_is) =

@@ -1,86 +1,60 @@
 -- What an event does to the threads of a process. Who is gone stays so, and numbers aren't given twice; who waits
 -- waited, or made the call for it; and a thread that neither runs on the hart nor begins to run keeps its pc, but
 -- one that is born goes on behind the call of its parent.
-use Rattle.std.proofs.Common.{◌≡◌, ◌≢◌, ℕ, ◌+◌, ◌<◌, ◌≤◌, ◌%◌, List, [], ◌∷◌, ◌++◌, ◌⊎◌, All, arith, refl}
+use Rattle.std.proofs.Common.{◌≡◌, ◌≢◌, ℕ, ◌+◌, ◌<◌, ◌≤◌, List, [], ◌∷◌, ◌++◌, ◌⊎◌, All, arith, refl}
 use Rattle.std.proofs.Common.{sym, ap, ◌∙◌, subst, Bool, true, false, not, ◌||◌, cond, eqb, find, map, inl, inr}
-use Rattle.std.proofs.Common.{Option, Some, None, is_some, Result, Ok, Err}
+use Rattle.std.proofs.Common.{Option, Some, None, is_some}
 use Rattle.std.specs.Option.{option_map, option_map_or}
 use Rattle.std.proofs.lemmas.Bool.{cases_eq, cases_lt, eq-eqb, eqb-true, false≢true, ne_eqb}
 use Rattle.std.proofs.lemmas.List.Elements.{All-head, All-tail}
-use Rattle.mach_types.proofs.Laws.{state_of-with_child_other, state_of-with_clear, state_of-with_state_other}
-use Rattle.mach_types.proofs.Laws.{state_of-with_state_same, state_of-without_other, state_of-without_same}
-use Rattle.mach_types.specs.Events.{begun_by as named_by, choice_of, nature_of}
-use Rattle.mach_types.specs.Kernel.Areas.{are_words_writable, registration, unregistration}
-use Rattle.mach_types.specs.Kernel.PageCalls.{mmap_answer}
-use Rattle.mach_types.specs.Kernel.SignalFrames.{frame_read}
-use Rattle.mach_types.specs.Kernel.Pages.{Pages}
-use Rattle.mach_types.specs.Kernel.Scheduling.{has_hart}
+use Rattle.mach_types.proofs.Laws.{KeepsRows, keeps_clear, state_of-with_child_other, state_of-with_rows}
+use Rattle.mach_types.proofs.Laws.{state_of-with_state_other, state_of-with_state_same, state_of-without_other}
+use Rattle.mach_types.proofs.Laws.{state_of-without_same}
+use Rattle.mach_types.specs.Events.{begun_by as named_by, choice_of, kind_of}
 use Rattle.mach_types.specs.Kernel.Threads.{Thread, Threads, clear_of, is_live, is_ready, is_thread, numbers}
 use Rattle.mach_types.specs.Kernel.Threads.{is_ready_state, is_waiting_state, state_of, thread_of, with_child}
-use Rattle.mach_types.specs.Kernel.Threads.{with_clear}
+use Rattle.mach_types.specs.Kernel.Threads.{clear_if, with_rows}
 use Rattle.mach_types.specs.Kernel.Threads.{with_state, with_waiter, with_woken, without}
 use Rattle.mach_types.specs.Registers.{register}
-use Rattle.mach_types.specs.declared.barriers.Answer.{Answer}
-use Rattle.mach_types.specs.declared.barriers.Answer.TheVariants.{Begin, Value}
-use Rattle.mach_types.specs.declared.errors.Errno.{Errno}
-use Rattle.mach_types.specs.declared.errors.TheConstants.{EINVAL}
 use Rattle.mach_types.specs.declared.events.Choice.{Choice}
 use Rattle.mach_types.specs.declared.events.Choice.TheVariants as asked
 use Rattle.mach_types.specs.declared.events.Kind.{Kind}
 use Rattle.mach_types.specs.declared.events.Kind.TheVariants as kind
 use Rattle.mach_types.specs.declared.events.Tid.{Tid}
-use Rattle.mach_types.specs.declared.sequences.Area.{Area}
 use Rattle.mach_types.specs.declared.sequences.Outcome.{Outcome}
 use Rattle.mach_types.specs.declared.sequences.Outcome.TheVariants as comes_to
 use Rattle.mach_types.specs.declared.threads.Saved.{Saved}
 use Rattle.mach_types.specs.declared.threads.ThreadState.{ThreadState}
 use Rattle.mach_types.specs.declared.threads.ThreadState.TheVariants.{Ready, Running, Waiting}
-use Rattle.mach_types.specs.declared.user_memory.Store.{Store}
+use Rattle.mach_types.specs.declared.user_memory.Write.{Write}
 use Rattle.rv_inst.specs.Class.{is_call}
 use Rattle.rv_inst.specs.Words.{sum_64}
 use Rattle.rv_inst.specs.declared.effects.Effect.{Effect}
-use Rattle.block_model.specs.Calls.{call_of, called}
-use Rattle.block_model.specs.Calls.Affinity.{getaffinity_errors, getcpu_errors}
-use Rattle.block_model.specs.Calls.Affinity.{sched_setaffinity, set_given, setaffinity_errors}
-use Rattle.block_model.specs.Calls.Answers.{CallDone, Errors, argument, call_number, int_argument}
-use Rattle.block_model.specs.Calls.Answers.{killed_in_call, returned, said, unless}
-use Rattle.block_model.specs.Beside.{Neighbour}
-use Rattle.block_model.specs.Calls.Barriers.{answers}
-use Rattle.block_model.specs.Calls.Beside.{barrier_call, sequence_call}
-use Rattle.block_model.specs.Calls.Cloning.{child_file, clone, clone_child_cleartid, clone_errors, cloned}
+use Rattle.block_model.specs.Calls.Answers.{CallDone, argument, call_number}
+use Rattle.block_model.specs.Calls.Answers.{returned, said}
+use Rattle.block_model.specs.Calls.Cloning.{child_file, clone_child_cleartid}
 use Rattle.block_model.specs.Calls.Cloning.{has_flag, with_new_child}
-use Rattle.block_model.specs.Calls.Console.{Span, span_errors, spans_at, total, write, write_errors}
-use Rattle.block_model.specs.Calls.Console.{write_spans, writev, writev_errors}
-use Rattle.block_model.specs.Calls.Ending.{clears, exit, is_last}
-use Rattle.block_model.specs.Calls.Futexes.{answered_wait, futex, futex_errors, futex_wake, operation}
-use Rattle.block_model.specs.Calls.Futexes.{wait_errors, wake}
-use Rattle.block_model.specs.Calls.Memory.{changed_unless, mapped_or_refused, mmap, mmap_errors}
-use Rattle.block_model.specs.Calls.Memory.{permission_here}
-use Rattle.block_model.specs.Calls.Numbers.{set_tid_address}
-use Rattle.block_model.specs.Calls.Sequences.{registers_or_refused, rseq, unregisters}
-use Rattle.block_model.specs.Calls.Sequences.{unregisters_or_refused}
-use Rattle.block_model.specs.Calls.Signals.{broken_wait, resumed, send}
-use Rattle.block_model.specs.Calls.Signals.{sigaction_errors, sigprocmask_errors, tgkill, tgkill_errors}
-use Rattle.block_model.specs.Calls.Signals.{tkill, refuses_signal, tkill_errors, waits_in_vain, with_posted}
+use Rattle.block_model.specs.Calls.Ending.{clears}
+use Rattle.block_model.specs.Calls.Futexes.{answered_wait}
+use Rattle.block_model.specs.Calls.Futexes.{wake}
+use Rattle.block_model.specs.Calls.Signals.{broken_wait}
 use Rattle.block_model.specs.Events.{done_of, refusal_of}
-use Rattle.block_model.specs.Events.Drain.{done_drain_of}
-use Rattle.block_model.specs.Events.Exec.{by_call, by_effect, by_outcome, called_here, done_exec_by}
-use Rattle.block_model.specs.Events.Exec.{has_handler, next_effect, next_fault, outcome_of}
-use Rattle.block_model.specs.Events.Run.{done_run_by, lives_on}
-use Rattle.block_model.specs.Events.Signal.{done_next, done_signal_by, handled_unless_killed, kills}
-use Rattle.block_model.specs.Here.{Done, Here, is_writable, memory, runs, waiting_here}
+use Rattle.block_model.specs.Events.Exec.{by_call}
+use Rattle.block_model.specs.Events.Exec.{next_effect}
+use Rattle.block_model.specs.Here.{Done, Here, runs}
 use Rattle.block_model.specs.History.{Event, History, file, file_among, here_in_history, kernel, running}
-use Rattle.block_model.specs.Kernel.{cleared, gone, had_child, left, next_number, restricted, waited, woken}
+use Rattle.block_model.specs.Kernel.{cleared, gone, had_child, left, next_number, waited, woken}
 use Rattle.block_model.specs.Record.{Kernel}
 use Rattle.block_model.specs.Run.{IsRunHistory}
-use Rattle.block_model.specs.Sequences.{area_here, files_interrupted, interruption_here, is_inside_here}
+use Rattle.block_model.specs.Sequences.{files_interrupted, interruption_here}
 use Rattle.block_model.specs.Setting.{Setting}
 use Rattle.block_model.specs.Tables.{on}
-use Rattle.block_model.proofs.EventEffects.{CallKills, Calls, EventDeed, Executes, FaultKills, Faults, Handles}
-use Rattle.block_model.proofs.EventEffects.{Preempts, Restarts, Returns, RunKills, Runs, SignalKills, Skips}
-use Rattle.block_model.proofs.EventEffects.{begun_by, deed_chosen}
-use Rattle.block_model.proofs.Laws.{IsStep, is_by_kernel, run_ready, running_is, step_of, wake_keeps}
-use Rattle.mach_types.specs.Kernel.Signals.{next_for}
+use Rattle.block_model.proofs.CallEffects.{Answers, Bears, Begins, Breaks, CallDeed, ChangesRows, Ends, Exits}
+use Rattle.block_model.proofs.CallEffects.{Leaves, MovesOff, Resumes, Says, TableStep, Waits, Wakes}
+use Rattle.block_model.proofs.CallEffects.EachCall.{deed_called}
+use Rattle.block_model.proofs.EventEffects.{Calls, EventDeed, Executes, Handles, IsNext, Preempts, Restarts}
+use Rattle.block_model.proofs.EventEffects.{Returns, RunKills, Runs, SignalKills, begun_by, deed_chosen}
+use Rattle.block_model.proofs.Laws.{IsStep, run_ready, running_is, step_of, wake_keeps}
 
 -- STATES
 
@@ -150,10 +124,10 @@ module _ (u : ℕ) where
           ∙ changed st calm (state_of t ts)
       by_same (inr other) = as_was ts (with_state t st ts) (state_of-with_state_other t u other st ts)
 
-  calm_clear : (t at : ℕ) (ts : Threads) → IsCalm ts (with_clear t at ts)
-  calm_clear t at ts = record {
+  calm_rows : (f : Thread → Thread) → KeepsRows f → (ts : Threads) → IsCalm ts (with_rows f ts)
+  calm_rows f keeps ts = record {
     given = same_le ts.given;
-    state = as_was ts (with_clear t at ts) (state_of-with_clear t at u ts);
+    state = as_was ts (with_rows f ts) (state_of-with_rows f keeps u ts);
   }
 
   calm_gone : (t : ℕ) (ts : Threads) → IsCalm ts (without t ts)
@@ -173,11 +147,6 @@ module _ (u : ℕ) where
       (λ v k after waiting rest. calm_then k.threads (woken v k).threads after.threads
       (calm_woken v k.threads) rest)
 
-  calm_either : (k x y : Kernel) (b : Bool) → IsCalm k.threads x.threads → IsCalm k.threads y.threads
-      → IsCalm k.threads (cond b x y).threads
-  calm_either k x y true p q = p
-  calm_either k x y false p q = q
-
 -- CALLS
 
 -- the pc of thread u where these files are set
@@ -192,11 +161,11 @@ module _ (here : Here) (t u number : ℕ) where
   -- a call of thread t leaves thread u calm, and its pc as it was, where it isn't its own; or thread u makes it
   -- and may wait by it, or is born by it, and then stands behind it
   pub data CallStep (c : CallDone) : Type 0 where
-    Leaves : IsCalm u here.kernel.threads c.kernel.threads → (t ≢ u → pc_of here u c.files ≡ (here.file u).pc)
+    StaysCalm : IsCalm u here.kernel.threads c.kernel.threads → (t ≢ u → pc_of here u c.files ≡ (here.file u).pc)
         → CallStep c
-    Waits : number ≡ 98 → u ≡ t → here.kernel.threads.given ≤ c.kernel.threads.given
+    BeginsWait : number ≡ 98 → u ≡ t → here.kernel.threads.given ≤ c.kernel.threads.given
         → pc_of here u c.files ≡ behind here t → CallStep c
-    Bears : number ≡ 220 → u ≡ next_number here.kernel → c.kernel.threads.given ≡ u
+    BearsThread : number ≡ 220 → u ≡ next_number here.kernel → c.kernel.threads.given ≡ u
         → pc_of here u c.files ≡ behind here t → CallStep c
 
   past_own : (x : Saved) (rest : List (ℕ × Saved)) → t ≢ u → pc_of here u ((t, x) ∷ rest) ≡ pc_of here u rest
@@ -216,118 +185,51 @@ module _ (here : Here) (t u number : ℕ) where
   -- it sets the file of its thread alone
   stepped : {c : CallDone} (x : Saved) → c.files ≡ (t, x) ∷ [] → IsCalm u here.kernel.threads c.kernel.threads
       → CallStep c
-  stepped x set calm = Leaves calm (λ other. ap (pc_of here u) set ∙ past_own x [] other)
+  stepped x set calm = StaysCalm calm (λ other. ap (pc_of here u) set ∙ past_own x [] other)
 
   plain : {c : CallDone} (x : Saved) → c.files ≡ (t, x) ∷ [] → c.kernel.threads ≡ here.kernel.threads
       → CallStep c
   plain x set same = stepped x set (calm_alike u here.kernel.threads _ same)
 
-  silent : {c : CallDone} → c.files ≡ [] → c.kernel.threads ≡ here.kernel.threads → CallStep c
-  silent set same = Leaves (calm_alike u here.kernel.threads _ same) (λ other. ap (pc_of here u) set)
-
-  either : (b : Bool) {x y : CallDone} → (b ≡ true → CallStep x) → (b ≡ false → CallStep y)
-      → CallStep (cond b x y)
-  either true p q = p refl
-  either false p q = q refl
-
-  by_errors : (es : Errors) {c : CallDone} → CallStep c → CallStep (unless here t es c)
-  by_errors [] step = step
-  by_errors (e ∷ es) step = either e.0 (λ is. plain _ refl refl) (λ is. by_errors es step)
-
-  -- writing
-  step_spans : (spans : List Span) → CallStep (write_spans here t spans)
-  step_spans spans = either (eqb (total spans) 0) (λ is. plain _ refl refl)
-      (λ is. by_errors (span_errors here spans) (plain _ refl refl))
-
-  -- ending
-  step_exit : CallStep (exit here t)
-  step_exit = either (is_last here) (λ is. silent refl refl) (λ is.
-      let n : ℕ = cond (clears here t) 1 0 in
-      let at = clear_of t here.kernel.threads in
-      let then = (wake n at here.kernel).kernel in
-      Leaves (calm_then u here.kernel.threads then.threads (without t then.threads)
-      (calm_wake u n at here.kernel) (calm_gone u t then.threads))
-      (λ other. answered_pc (wake n at here.kernel).threads))
-
-  -- waiting and waking
-  step_wait : number ≡ 98
-      → CallStep (record (said here t 0) { kernel = waited t (argument here t 0) here.kernel })
-  step_wait is = by_same (cases_eq u t)
+  -- waiting
+  step_wait : (n : ℕ) (entered : List Write) (at : ℕ) → number ≡ 98
+      → CallStep (record (said here t n) { entered = entered; kernel = waited t at here.kernel })
+  step_wait n entered at is = by_same (cases_eq u t)
     where
       by_same : (u ≡ t) ⊎ (u ≢ t)
-          → CallStep (record (said here t 0) { kernel = waited t (argument here t 0) here.kernel })
-      by_same (inl same) = Waits is same (same_le here.kernel.threads.given)
-          (ap (λ b. (cond b (returned 0 (here.file t)) (here.file u)).pc) (eq-eqb t u (sym same)))
-      by_same (inr other) = Leaves
+          → CallStep (record (said here t n) { entered = entered; kernel = waited t at here.kernel })
+      by_same (inl same) = BeginsWait is same (same_le here.kernel.threads.given)
+          (ap (λ b. (cond b (returned n (here.file t)) (here.file u)).pc) (eq-eqb t u (sym same)))
+      by_same (inr other) = StaysCalm
           (record {
             given = same_le here.kernel.threads.given;
-            state = as_was u here.kernel.threads (with_waiter t (argument here t 0) here.kernel.threads)
-                (state_of-with_state_other t u other (Waiting (argument here t 0)) here.kernel.threads);
+            state = as_was u here.kernel.threads (with_waiter t at here.kernel.threads)
+                (state_of-with_state_other t u other (Waiting at) here.kernel.threads);
           })
           (λ apart. past_own _ [] apart)
 
-  step_wake : CallStep (futex_wake here t)
-  step_wake =
-      let done = wake (int_argument here t 2) (argument here t 0) here.kernel in
-      Leaves (calm_wake u (int_argument here t 2) (argument here t 0) here.kernel)
-      (λ other. past_own _ (map (answered_wait here) done.threads) other ∙ answered_pc done.threads)
-
-  step_futex : number ≡ 98 → CallStep (futex here t)
-  step_futex is = by_errors (futex_errors here t)
-      (either (eqb (operation (int_argument here t 1)) 0)
-      (λ _. by_errors (wait_errors here t) (step_wait is)) (λ _. step_wake))
-
-  -- harts
-  step_setaffinity : CallStep (sched_setaffinity here t)
-  step_setaffinity =
-      let set = set_given here t in
-      by_errors (setaffinity_errors here t)
-      (stepped _ refl
-      (calm_either u here.kernel (restricted t set here.kernel) (left t (restricted t set here.kernel))
-      (has_hart set here.hart) (calm_alike u here.kernel.threads here.kernel.threads refl)
-      (calm_state u t Ready here.kernel.threads refl)))
-
-  -- signals
-  step_broken : (v sig : ℕ) → CallStep (record {
-    files = (t, returned 0 (here.file t)) ∷ broken_wait here v ∷ [];
-    entered = [];
-    kernel = woken v (with_posted here v sig);
-    barrier = None;
-    ended = None;
-  })
-  step_broken v sig = Leaves (calm_woken u v here.kernel.threads)
-      (λ other. past_own _ (broken_wait here v ∷ []) other ∙ by_same (eqb v u) refl)
-    where
-      by_same : (b : Bool) → eqb v u ≡ b → (cond b (broken_wait here v).1 (here.file u)).pc ≡ (here.file u).pc
-      by_same true is = ap (λ n. (here.file n).pc) (eqb-true v u is)
-      by_same false is = refl
-
-  step_send : (v sig : ℕ) → CallStep (send here t v sig)
-  step_send v sig = by_errors ((refuses_signal sig, EINVAL) ∷ [])
-      (either (eqb sig 0) (λ _. plain _ refl refl)
-      (λ _. either (waits_in_vain v (with_posted here v sig)) (λ _. step_broken v sig)
-      (λ _. plain _ refl refl)))
-
-  step_resumed : (o : Option (List ℕ)) → CallStep (resumed here t o)
-  step_resumed None = silent refl refl
-  step_resumed (Some words) = plain _ refl refl
-
-  -- pages
-  step_changed : (o : Option Errno) (pages : Pages) → CallStep (changed_unless here t o pages)
-  step_changed (Some e) pages = plain _ refl refl
-  step_changed None pages = plain _ refl refl
-
-  step_mapped : (len prot : ℕ) (answer : Result ℕ Errno) → CallStep (mapped_or_refused here t len prot answer)
-  step_mapped len prot (Err e) = plain _ refl refl
-  step_mapped len prot (Ok at) = plain _ refl refl
+  -- a step of the record
+  step_said : (n : ℕ) (entered : List Write) {k : Kernel} → TableStep here t number entered k
+      → CallStep (record (said here t n) { entered = entered; kernel = k })
+  step_said n entered (ChangesRows f keeps) = stepped _ refl (calm_rows u f keeps here.kernel.threads)
+  step_said n entered Leaves = stepped _ refl (calm_state u t Ready here.kernel.threads refl)
+  step_said n entered (Waits at none is) = step_wait n entered at is
+  step_said n entered (MovesOff set below some) = stepped _ refl (calm_state u t Ready here.kernel.threads refl)
+  step_said n entered step = plain _ refl refl
 
   -- a child
-  module _ (is : number ≡ 220) where
+  module _ (is : number ≡ 220) (entered : List Write) where
     abbrev child : ℕ
     child = next_number here.kernel
 
-    abbrev born : Kernel
-    born = had_child t here.kernel
+    abbrev bearing : CallDone
+    bearing = record {
+      files = (t, returned child (here.file t)) ∷ (child, child_file here t) ∷ [];
+      entered = entered;
+      kernel = with_new_child here t;
+      barrier = None;
+      ended = None;
+    }
 
     born_given : (b : Bool) (at : ℕ)
         → (cond b (cleared child at (had_child t here.kernel)) (had_child t here.kernel)).threads.given
@@ -338,7 +240,8 @@ module _ (here : Here) (t u number : ℕ) where
     other_state : u ≢ next_number here.kernel → (b : Bool) (at : ℕ)
         → state_of u (cond b (cleared child at (had_child t here.kernel)) (had_child t here.kernel)).threads
         ≡ state_of u here.kernel.threads
-    other_state other true at = state_of-with_clear child at u (with_child here.kernel.threads)
+    other_state other true at =
+        state_of-with_rows (clear_if child at) (keeps_clear child at) u (with_child here.kernel.threads)
         ∙ state_of-with_child_other u here.kernel.threads other
     other_state other false at = state_of-with_child_other u here.kernel.threads other
 
@@ -349,17 +252,17 @@ module _ (here : Here) (t u number : ℕ) where
     child_pc false true its = refl
     child_pc false false its = absurd (false≢true its)
 
-    step_cloned : CallStep (cloned here t)
-    step_cloned = by_same (cases_eq u (next_number here.kernel))
+    step_born : CallStep bearing
+    step_born = by_same (cases_eq u (next_number here.kernel))
       where
         one_le : (n : ℕ) → n ≤ n + 1
         one_le n = omega arith
 
-        by_same : (u ≡ next_number here.kernel) ⊎ (u ≢ next_number here.kernel) → CallStep (cloned here t)
-        by_same (inl same) = Bears is same
+        by_same : (u ≡ next_number here.kernel) ⊎ (u ≢ next_number here.kernel) → CallStep bearing
+        by_same (inl same) = BearsThread is same
             (born_given (has_flag (argument here t 0) clone_child_cleartid) (argument here t 4) ∙ sym same)
             (child_pc (eqb t u) (eqb child u) (eq-eqb child u (sym same)))
-        by_same (inr other) = Leaves
+        by_same (inr other) = StaysCalm
             (record {
               given = subst (λ n. here.kernel.threads.given ≤ n)
                   (sym (born_given (has_flag (argument here t 0) clone_child_cleartid) (argument here t 4)))
@@ -371,103 +274,32 @@ module _ (here : Here) (t u number : ℕ) where
             ∙ ap (λ b. (cond b (child_file here t) (here.file u)).pc)
             (ne_eqb child u (λ its. other (sym its))))
 
-  step_clone : number ≡ 220 → CallStep (clone here t)
-  step_clone is = by_errors (clone_errors here t) (step_cloned is)
+  -- the wait of a thread that a signal breaks leaves its pc
+  broken_pc : (v : ℕ) (b : Bool) → eqb v u ≡ b
+      → (cond b (broken_wait here v).1 (here.file u)).pc ≡ (here.file u).pc
+  broken_pc v true is = ap (λ n. (here.file n).pc) (eqb-true v u is)
+  broken_pc v false is = refl
 
-  -- barriers
-  step_answers : (a : Answer) → CallStep (answers here t a)
-  step_answers (Value n) = plain _ refl refl
-  step_answers (Begin targets restart) = plain _ refl refl
-
-  -- areas
-  step_registers : (answer : Result Area Errno) → CallStep (registers_or_refused here t answer)
-  step_registers (Err e) = plain _ refl refl
-  step_registers (Ok area) = either (are_words_writable (is_writable here) area) (λ _. plain _ refl refl)
-      (λ _. silent refl refl)
-
-  step_unregister : (o : Option Area) → CallStep (unregisters here t o)
-  step_unregister None = plain _ refl refl
-  step_unregister (Some area) = either (are_words_writable (is_writable here) area) (λ _. plain _ refl refl)
-      (λ _. plain _ refl refl)
-
-  step_unregisters : (answer : Result (Unit {0}) Errno) → CallStep (unregisters_or_refused here t answer)
-  step_unregisters (Err e) = plain _ refl refl
-  step_unregisters (Ok done) = step_unregister (area_here here t)
-
-  step_clears : CallStep (set_tid_address here t)
-  step_clears = stepped _ refl (calm_clear u t (argument here t 0) here.kernel.threads)
-
-  step_rseq : CallStep (rseq here t)
-  step_rseq =
-      let at = argument here t 0 in
-      let len = int_argument here t 1 in
-      let flags = int_argument here t 2 in
-      let sig = int_argument here t 3 in
-      let old = area_here here t in
-      either (eqb (int_argument here t 2 % 2) 1)
-      {x = unregisters_or_refused here t (unregistration old at len flags sig)}
-      {y = registers_or_refused here t (registration old at len flags sig)}
-      (λ _. step_unregisters (unregistration old at len flags sig))
-      (λ _. step_registers (registration old at len flags sig))
-
-  -- the two calls that another process on the machine changes
-  step_barrier : (beside : Option Neighbour) → CallStep (barrier_call beside here t)
-  step_barrier None = step_answers _
-  step_barrier (Some other) = step_answers _
-
-  step_sequence : (beside : Option Neighbour) → CallStep (sequence_call beside here t)
-  step_sequence None = step_rseq
-  step_sequence (Some other) = plain _ refl refl
-
-  step_write : CallStep (write here t)
-  step_write = by_errors (write_errors here t)
-      (step_spans (record { at = argument here t 1; len = argument here t 2 } ∷ []))
-
-  step_writev : CallStep (writev here t)
-  step_writev = by_errors (writev_errors here t)
-      (step_spans (spans_at here (argument here t 1) (argument here t 2)))
-
-  step_tkill : CallStep (tkill here t)
-  step_tkill = by_errors (tkill_errors here t) (step_send (int_argument here t 0) (int_argument here t 1))
-
-  step_tgkill : CallStep (tgkill here t)
-  step_tgkill = by_errors (tgkill_errors here t) (step_send (int_argument here t 1) (int_argument here t 2))
-
-  step_mmap : CallStep (mmap here t)
-  step_mmap =
-      let len = argument here t 1 in
-      let prot = argument here t 2 in
-      by_errors (mmap_errors here t)
-      (step_mapped len prot (mmap_answer (permission_here here) here.kernel.pages.free len prot))
-
-  -- the table
-  step_call : CallStep (call_of number here t)
-  step_call =
-      either (eqb number 64) (λ _. step_write) (λ _.
-      either (eqb number 66) (λ _. step_writev) (λ _.
-      either (eqb number 93) (λ _. step_exit) (λ _.
-      either (eqb number 94) (λ _. silent refl refl) (λ _.
-      either (eqb number 96) (λ _. step_clears) (λ _.
-      either (eqb number 98) (λ is. step_futex (eqb-true number 98 is)) (λ _.
-      either (eqb number 122) (λ _. step_setaffinity) (λ _.
-      either (eqb number 123) (λ _. by_errors (getaffinity_errors here t) (plain _ refl refl)) (λ _.
-      either (eqb number 124) (λ _. stepped _ refl (calm_state u t Ready here.kernel.threads refl)) (λ _.
-      either (eqb number 130) (λ _. step_tkill) (λ _.
-      either (eqb number 131) (λ _. step_tgkill) (λ _.
-      either (eqb number 134) (λ _. by_errors (sigaction_errors here t) (plain _ refl refl)) (λ _.
-      either (eqb number 135) (λ _. by_errors (sigprocmask_errors here t) (plain _ refl refl)) (λ _.
-      either (eqb number 139) (λ _. step_resumed (frame_read (memory here) (here.file t))) (λ _.
-      either (eqb number 168) (λ _. by_errors (getcpu_errors here t) (plain _ refl refl)) (λ _.
-      either (eqb number 172) (λ _. plain _ refl refl) (λ _.
-      either (eqb number 178) (λ _. plain _ refl refl) (λ _.
-      either (eqb number 214) (λ _. plain _ refl refl) (λ _.
-      either (eqb number 215) (λ _. step_changed _ _) (λ _.
-      either (eqb number 220) (λ is. step_clone (eqb-true number 220 is)) (λ _.
-      either (eqb number 222) (λ _. step_mmap) (λ _.
-      either (eqb number 226) (λ _. step_changed _ _) (λ _.
-      either (eqb number 283) (λ _. step_barrier here.beside) (λ _.
-      either (eqb number 293) (λ _. step_sequence here.beside) (λ _.
-      plain _ refl refl))))))))))))))))))))))))
+  -- each call, by its deed
+  step_call : {c : CallDone} → CallDeed here t number c → CallStep c
+  step_call (Says n) = plain _ refl refl
+  step_call (Answers n entered k answer writes step) = step_said n entered step
+  step_call (Wakes n at small) = StaysCalm (calm_wake u n at here.kernel)
+      (λ other. past_own _ (map (answered_wait here) (wake n at here.kernel).threads) other
+      ∙ answered_pc (wake n at here.kernel).threads)
+  step_call (Breaks v g waiting keeps stand heeded others) = StaysCalm (calm_woken u v here.kernel.threads)
+      (λ other. past_own _ (broken_wait here v ∷ []) other ∙ broken_pc v (eqb v u) refl)
+  step_call (Exits many) =
+      let n : ℕ = cond (clears here t) 1 0 in
+      let at = clear_of t here.kernel.threads in
+      let then = (wake n at here.kernel).kernel in
+      StaysCalm (calm_then u here.kernel.threads then.threads (without t then.threads)
+      (calm_wake u n at here.kernel) (calm_gone u t then.threads))
+      (λ other. answered_pc (wake n at here.kernel).threads)
+  step_call (Bears entered writes free is) = step_born is entered
+  step_call (Begins targets restart others no_error is) = plain _ refl refl
+  step_call (Resumes words frame is) = plain _ refl refl
+  step_call (Ends entered e writes open) = StaysCalm (calm_alike u here.kernel.threads _ refl) (λ other. refl)
 
 -- EVENTS
 
@@ -522,94 +354,48 @@ module _ (here : Here) (u : ℕ) where
   interrupts t o at set same = IsLeft (calm_alike u here.kernel.threads _ same)
       (λ apart other. ap (pc_of here u) set ∙ interrupted_pc t o (λ its. apart (at ∙ ap Some its)))
 
-  either_done : {c : Choice} (b : Bool) {x y : Done} → ThreadStep c x → ThreadStep c y
-      → ThreadStep c (cond b x y)
-  either_done true p q = p
-  either_done false p q = q
+  -- the choice of an instruction, and of a thread that begins to run
+  executes_is : (c : Choice) → kind.Exec ≡ kind_of c → c ≡ asked.Exec
+  executes_is asked.Exec is = refl
+  executes_is c is = absurd cc
 
-  -- an instruction
-  module _ (t : ℕ) (at : runs here ≡ Some t) where
-    by_step : {c : CallDone} (e : Effect) → next_effect here t ≡ Some e → is_call e ≡ true
-        → CallStep here t u (call_number here t) c → ThreadStep asked.Exec (by_call here c)
-    by_step e is calls (Leaves left pc) = IsLeft left (λ apart other. pc (λ same. apart (at ∙ ap Some same)))
-    by_step e is calls (Waits number same given pc) = BeginsToWait t
-        (record { executes = refl; at = at; effect = e; is = is; calls = calls; number = number })
-        same given pc
-    by_step e is calls (Bears number same given pc) = IsBorn t
-        (record { executes = refl; at = at; effect = e; is = is; calls = calls; number = number })
-        same given pc
+  begins_is : (c : Choice) → kind.Run ≡ kind_of c → begins c ≡ Some (begun_by c)
+  begins_is (asked.Run t) is = refl
+  begins_is c is = absurd cc
 
-    step_called : (e : Effect) → next_effect here t ≡ Some e → is_call e ≡ true → (b : Bool)
-        → ThreadStep asked.Exec (by_call here (cond b (killed_in_call here) (called here t)))
-    step_called e is calls true = rests refl refl
-    step_called e is calls false = by_step e is calls (step_call here t u (call_number here t))
+  -- a call
+  by_call_step : {d : CallDone} (c : Choice) (t : ℕ) (e : Effect) → kind.Exec ≡ kind_of c → IsNext here t e
+      → is_call e ≡ true → CallStep here t u (call_number here t) d → ThreadStep c (by_call here d)
+  by_call_step c t e is next calls (StaysCalm left pc) =
+      IsLeft left (λ apart other. pc (λ same. apart (next.at ∙ ap Some same)))
+  by_call_step c t e is next calls (BeginsWait number same given pc) = BeginsToWait t
+      (record { executes = executes_is c is; at = next.at; effect = e; is = next.is; calls = calls; number = number })
+      same given pc
+  by_call_step c t e is next calls (BearsThread number same given pc) = IsBorn t
+      (record { executes = executes_is c is; at = next.at; effect = e; is = next.is; calls = calls; number = number })
+      same given pc
 
-    step_effect : (fault : Option ℕ) (o : Option Effect) → next_effect here t ≡ o
-        → ThreadStep asked.Exec (by_effect here t fault o)
-    step_effect (Some signal) o is = either_done (has_handler here t signal) (rests refl refl)
-        (rests refl refl)
-    step_effect None None is = rests refl refl
-    step_effect None (Some e) is = by_kind (is_call e) refl
-      where
-        by_kind : (b : Bool) → is_call e ≡ b
-            → ThreadStep asked.Exec
-            (cond b (by_call here (called_here here t)) (by_outcome here t (outcome_of here t e)))
-        by_kind true calls = step_called e is calls (is_inside_here here t)
-        by_kind false calls = sets t _ at refl calm
-
-    step_delivery : (signal : ℕ) (o : Outcome) (killer : Option ℕ)
-        → ThreadStep asked.Signal (handled_unless_killed here t signal o killer)
-    step_delivery signal o None = sets t _ at refl calm
-    step_delivery signal o (Some killer) = interrupts t o at refl refl
-
-    step_next : (next : Option ℕ) → ThreadStep asked.Signal (done_next here t next)
-    step_next None = rests refl refl
-    step_next (Some signal) = step_delivery signal (interruption_here here t)
-        (kills here t signal (interruption_here here t))
-
-  step_exec : (r : Option ℕ) → runs here ≡ r → ThreadStep asked.Exec (done_exec_by here r)
-  step_exec None at = rests refl refl
-  step_exec (Some t) at = step_effect t at (next_fault here t) (next_effect here t) refl
-
-  step_drain : (ws : List Store) → ThreadStep asked.Drain (done_drain_of here ws)
-  step_drain [] = rests refl refl
-  step_drain (w ∷ ws) = rests refl refl
-
-  -- an event of the kernel other than a run and the delivery of a signal
-  step_deed : (c : Choice) (tid : ℕ) {k : Kind} {d : Done} → EventDeed here tid k d
-      → is_by_kernel (nature_of k).maker ≡ true → k ≢ kind.Run → k ≢ kind.Signal → ThreadStep c d
-  step_deed c tid Skips is no_run no_signal = absurd (false≢true is)
-  step_deed c tid (Faults t signal its handler) is no_run no_signal = absurd (false≢true is)
-  step_deed c tid (FaultKills t signal its) is no_run no_signal = absurd (false≢true is)
-  step_deed c tid (CallKills t e next calls) is no_run no_signal = absurd (false≢true is)
-  step_deed c tid (Calls t e next calls outside) is no_run no_signal = absurd (false≢true is)
-  step_deed c tid (Executes t e next) is no_run no_signal = absurd (false≢true is)
-  step_deed c tid (Restarts t at) is no_run no_signal = interrupts t (interruption_here here t) at refl refl
-  step_deed c tid (Returns t at) is no_run no_signal = sets t _ at refl calm
-  step_deed c tid (Preempts k t leaves at) is no_run no_signal =
+  -- each event, by its deed
+  step_deed : (c : Choice) {k : Kind} {d : Done} → EventDeed here (begun_by c) k d → k ≡ kind_of c → ThreadStep c d
+  step_deed c (Calls t e next calls outside) is =
+      by_call_step c t e is next calls (step_call here t u (call_number here t) (deed_called here t))
+  step_deed c (Executes t e next) is = sets t _ next.at refl calm
+  step_deed c (Restarts t at) is = interrupts t (interruption_here here t) at refl refl
+  step_deed c (Returns t at) is = sets t _ at refl calm
+  step_deed c (Preempts k t leaves at) is =
       IsLeft (calm_state u t Ready here.kernel.threads refl) (λ apart other. refl)
-  step_deed c tid Runs is no_run no_signal = absurd (no_run refl)
-  step_deed c tid RunKills is no_run no_signal = absurd (no_run refl)
-  step_deed c tid (Handles t signal at) is no_run no_signal = absurd (no_signal refl)
-  step_deed c tid (SignalKills t signal killer at) is no_run no_signal = absurd (no_signal refl)
-  step_deed c tid deed is no_run no_signal = rests refl refl
-
-  step_signal : (r : Option ℕ) → runs here ≡ r → ThreadStep asked.Signal (done_signal_by here r)
-  step_signal None at = rests refl refl
-  step_signal (Some t) at = step_next t at (next_for t here.kernel.signals)
-
-  step_run : (t : Tid) (o : Outcome) → ThreadStep (asked.Run t) (done_run_by here t.0 o)
-  step_run t o = either_done (lives_on here t.0 o)
-      (IsLeft (calm_state u t.0 (on here.hart) here.kernel.threads refl)
-      (λ apart other. interrupted_pc t.0 o (λ same. other (ap Some same))))
-      (IsLeft calm (λ apart other. interrupted_pc t.0 o (λ same. other (ap Some same))))
+  step_deed c Runs is = IsLeft (calm_state u (begun_by c) (on here.hart) here.kernel.threads refl)
+      (λ apart other. interrupted_pc (begun_by c) (interruption_here here (begun_by c))
+      (λ same. other (begins_is c is ∙ ap Some same)))
+  step_deed c RunKills is = IsLeft calm
+      (λ apart other. interrupted_pc (begun_by c) (interruption_here here (begun_by c))
+      (λ same. other (begins_is c is ∙ ap Some same)))
+  step_deed c (Handles t signal at) is = sets t _ at refl calm
+  step_deed c (SignalKills t signal killer at) is = interrupts t (interruption_here here t) at refl refl
+  step_deed c deed is = rests refl refl
 
   step_choice : (c : Choice) → ThreadStep c (done_of c here)
-  step_choice asked.Exec = step_exec (runs here) refl
-  step_choice asked.Drain = step_drain (waiting_here here)
-  step_choice (asked.Run t) = step_run t (interruption_here here t.0)
-  step_choice asked.Signal = step_signal (runs here) refl
-  step_choice c = step_deed c (begun_by c) (deed_chosen here c) refl (λ is. cc) (λ is. cc)
+  step_choice c = step_deed c (deed_chosen here c) refl
 
 -- WHO LIVES
 

@@ -9,7 +9,7 @@ use Rattle.std.proofs.lemmas.List.Filters.{length-filter_both}
 use Rattle.std.proofs.lemmas.List.Kept.{IsStrictlyIncreasing-filter}
 use Rattle.mach_types.proofs.Lists.{map_stays, map_filters, changed_same, changed_other, filtered_same, filtered_other, found_at_end, not_at_end}
 use Rattle.mach_types.proofs.Times.{times_push, times_one, times_one_other, times_filtered_same, times_filtered_other, found_times, length_le_from_times, IsStrictlyIncreasing-push, times_cons, eqb_same, eqb_other}
-use Rattle.mach_types.specs.Kernel.Threads.{IsThreads, times, is_waiting_state, Thread, Threads, new_thread, start_threads, is_thread, thread_of, state_of, state_if, clear_if, with_state, with_rows, with_clear, with_child, is_on, is_running_on, running_on, is_full, no_waiter, without, with_waiter, with_woken, numbers}
+use Rattle.mach_types.specs.Kernel.Threads.{IsThreads, times, is_waiting_state, Thread, Threads, new_thread, start_threads, is_thread, thread_of, state_of, state_if, clear_if, with_state, with_rows, with_child, is_on, is_running_on, running_on, is_full, no_waiter, without, with_waiter, with_woken, numbers}
 use Rattle.mach_types.specs.declared.events.Hart.{Hart}
 use Rattle.mach_types.specs.declared.threads.ThreadState.{ThreadState}
 use Rattle.mach_types.specs.declared.threads.ThreadState.TheVariants.{Ready, Running, Waiting}
@@ -94,9 +94,6 @@ running_on-with_rows f keeps h ts = go ts.live
     go (th ∷ rest) =
         ap (λ st. its_number (cond (is_running_on h st) (Some (f th)) (find (is_on h) (map f rest)))) (keeps.state th)
         ∙ found th rest (go rest) (is_running_on h th.state)
-
-pub state_of-with_clear : (t at u : ℕ) (ts : Threads) → state_of u (with_clear t at ts) ≡ state_of u ts
-state_of-with_clear t at u ts = state_of-with_rows (clear_if t at) (keeps_clear t at) u ts
 
 pub state_of-without_same : (t : ℕ) (ts : Threads) → state_of t (without t ts) ≡ None
 state_of-without_same t ts = ap its_state (filtered_same (λ th. th.tid) t ts.live)

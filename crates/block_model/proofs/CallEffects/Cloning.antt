@@ -10,8 +10,8 @@ told : (here : Here) (flags flag p value : ℕ) → may_write here flags flag p 
 told here flags flag p value may =
     written_where (is_writable here) (has_flag flags flag) (are_writable here p 4) (word_written p value ∷ []) may (λ can. ((omega arith, can), tt))
 
-pub deed_clone : (here : Here) (t number : ℕ) → CallDeed here t number (clone here t)
-deed_clone here t number =
+pub deed_clone : (here : Here) (t number : ℕ) → number ≡ 220 → CallDeed here t number (clone here t)
+deed_clone here t number is =
     let flags = argument here t 0 in
     let child = next_number here.kernel in
     let parents = argument here t 2 in
@@ -21,4 +21,4 @@ deed_clone here t number =
     by_errors (clone_errors here t) _ (λ none.
     let both = and_parts first second (not-false (first && second) none.1.1.0) in
     Bears _ (both_writable (is_writable here) (written_if flags clone_parent_settid parents child) (written_if flags clone_child_settid own child)
-    (told here flags clone_parent_settid parents child both.0) (told here flags clone_child_settid own child both.1)) none.1.0)
+    (told here flags clone_parent_settid parents child both.0) (told here flags clone_child_settid own child both.1)) none.1.0 is)

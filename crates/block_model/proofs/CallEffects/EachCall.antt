@@ -26,7 +26,7 @@ deed_call_of here t number =
     either (eqb number 93) (λ _. deed_exit here t number) (λ _.
     either (eqb number 94) (λ _. deed_exit_group here t number) (λ _.
     either (eqb number 96) (λ _. deed_set_tid_address here t number) (λ _.
-    either (eqb number 98) (λ _. deed_futex here t number) (λ _.
+    either (eqb number 98) (λ is. deed_futex here t number (eqb-true number 98 is)) (λ _.
     either (eqb number 122) (λ _. deed_setaffinity here t number) (λ _.
     either (eqb number 123) (λ _. deed_getaffinity here t number) (λ _.
     either (eqb number 124) (λ _. deed_yield here t number) (λ _.
@@ -40,7 +40,7 @@ deed_call_of here t number =
     either (eqb number 178) (λ _. deed_gettid here t number) (λ _.
     either (eqb number 214) (λ is. at_number here t number 214 _ is (deed_brk here t)) (λ _.
     either (eqb number 215) (λ is. at_number here t number 215 _ is (deed_munmap here t)) (λ _.
-    either (eqb number 220) (λ _. deed_clone here t number) (λ _.
+    either (eqb number 220) (λ is. deed_clone here t number (eqb-true number 220 is)) (λ _.
     either (eqb number 222) (λ is. at_number here t number 222 _ is (deed_mmap here t)) (λ _.
     either (eqb number 226) (λ is. at_number here t number 226 _ is (deed_mprotect here t)) (λ _.
     either (eqb number 283) (λ is. deed_barrier_call here t number (eqb-true number 283 is) here.beside refl) (λ _.

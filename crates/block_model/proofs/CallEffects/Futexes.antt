@@ -1,14 +1,14 @@
 -- futex(2).
-use Rattle.std.proofs.Common.{ℕ, [], arith, eqb}
+use Rattle.std.proofs.Common.{◌≡◌, ℕ, [], arith, eqb}
 use Rattle.block_model.proofs.Common.{Here, argument, int_argument, mod-lt, next_for}
 use Rattle.block_model.specs.Calls.Futexes.{futex, futex_errors, futex_wait, operation, wait_errors}
 use Rattle.block_model.proofs.SignalsOfWaiters.{none_left}
 use Rattle.block_model.proofs.CallEffects.{CallDeed, Waits, Wakes, answers_0, by_errors, either}
 
-module _ (here : Here) (t number : ℕ) where
+module _ (here : Here) (t number : ℕ) (is : number ≡ 98) where
   deed_wait : CallDeed here t number (futex_wait here t)
   deed_wait = by_errors (wait_errors here t) _ (λ none.
-      answers_0 [] _ tt (Waits (argument here t 0) (none_left (next_for t here.kernel.signals) none.1.1.1.0)))
+      answers_0 [] _ tt (Waits (argument here t 0) (none_left (next_for t here.kernel.signals) none.1.1.1.0) is))
 
   pub deed_futex : CallDeed here t number (futex here t)
   deed_futex =

@@ -47,7 +47,7 @@ module _ (here : Here) (t number : ℕ) (good : IsGoodHere here) (at : runs here
   fit_step n entered (Prints bytes room) = keeping n entered _ (kept_printed s bytes now good.kernel room)
   fit_step n entered (ChangesRows f keeps) = keeping n entered _ (kept_rows s f keeps now good.kernel)
   fit_step n entered Leaves = moving n entered _ (moved_left s h t now good.kernel at)
-  fit_step n entered (Waits p none) = moving n entered _ (moved_waited s h t p now good.kernel at)
+  fit_step n entered (Waits p none its_number) = moving n entered _ (moved_waited s h t p now good.kernel at)
   fit_step n entered (Stays set below some) = keeping n entered _ (kept_restricted s t set now good.kernel below some)
   fit_step n entered (MovesOff set below some) =
       let k = restricted t set now in
@@ -89,7 +89,7 @@ module _ (here : Here) (t number : ℕ) (good : IsGoodHere here) (at : runs here
       let kept = kept_wake s n address now good.kernel in
       let moved = moved_gone s h t then kept.sound (kept.running h ∙ at) in
       fit_moved here taken _ refl (apart_woken here n address good) (moved_after s h now then (gone t then) kept moved)
-  fit_deed (Bears entered writes free) = fit_child here t entered taken good at free
+  fit_deed (Bears entered writes free its_number) = fit_child here t entered taken good at free
   fit_deed (Begins set restart others no_error its_number) = record {
     others = λ k ne. refl;
     apart = apart_one here t (record (here.file t) { pc = sum_64 (here.file t).pc 4 }) good at;
