@@ -289,7 +289,7 @@ module _ (here : Here) (t u number : ℕ) where
       ∙ answered_pc (wake n at here.kernel).threads)
   step_call (Breaks v g waiting keeps stand heeded others) = StaysCalm (calm_woken u v here.kernel.threads)
       (λ other. past_own _ (broken_wait here v ∷ []) other ∙ broken_pc v (eqb v u) refl)
-  step_call (Exits many) =
+  step_call (Exits more) =
       let n : ℕ = cond (clears here t) 1 0 in
       let at = clear_of t here.kernel.threads in
       let then = (wake n at here.kernel).kernel in
@@ -299,7 +299,7 @@ module _ (here : Here) (t u number : ℕ) where
   step_call (Bears entered writes free is) = step_born is entered
   step_call (Begins targets restart others no_error is) = plain _ refl refl
   step_call (Resumes words frame is) = plain _ refl refl
-  step_call (Ends entered e writes open) = StaysCalm (calm_alike u here.kernel.threads _ refl) (λ other. refl)
+  step_call (Ends entered e writes over) = StaysCalm (calm_alike u here.kernel.threads _ refl) (λ other. refl)
 
 -- EVENTS
 
