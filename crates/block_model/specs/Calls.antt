@@ -26,9 +26,9 @@ pub mod Numbers
 pub mod Sequences
 pub mod Signals
 
--- the call of this number; one that isn't there answers ENOSYS
-abbrev pub call_of : ℕ → Here → ℕ → CallDone
-call_of number here t =
+-- the call of this number, of those that hang on their own process alone; one that isn't there answers ENOSYS
+abbrev pub own_call_of : ℕ → Here → ℕ → CallDone
+own_call_of number here t =
     if number == 64 then write here t
     else if number == 66 then writev here t
     else if number == 93 then exit here t
@@ -51,9 +51,14 @@ call_of number here t =
     else if number == 220 then clone here t
     else if number == 222 then mmap here t
     else if number == 226 then mprotect here t
-    else if number == 283 then barrier_call here.beside here t
-    else if number == 293 then sequence_call here.beside here t
     else refused here t ENOSYS
+
+-- the call of this number; membarrier(2) and rseq(2) hang on the process beside their own too
+abbrev pub call_of : ℕ → Here → ℕ → CallDone
+call_of number here t =
+    if number == 283 then barrier_call here.beside here t
+    else if number == 293 then sequence_call here.beside here t
+    else own_call_of number here t
 
 -- what the call of thread t does
 abbrev pub called : Here → ℕ → CallDone

@@ -5,8 +5,9 @@ use Rattle.mach_types.specs.Kernel.Barriers.{answer_of, barrier_at}
 use Rattle.mach_types.specs.Kernel.PairBarriers.{answer_beside}
 use Rattle.mach_types.specs.declared.barriers.BarrierCommand.TheVariants.{Global, GlobalExpedited, PrivateExpedited, PrivateExpeditedRseq}
 use Rattle.mach_types.specs.declared.errors.TheConstants.{EINVAL, EPERM}
+use Rattle.block_model.specs.Calls.{own_call_of}
 use Rattle.block_model.specs.Calls.Beside.{membarrier_beside}
-use Rattle.shared_procs.proofs.Common.{◌≡◌, ℕ, Bool, true, false, cond, eqb, Option, Some, None, is_some, refl, Answer, answers, argument, asked, BarrierCommand, Begin, call_of, CallDone, concerned, Here, int_argument, Neighbour, option_map_or, refusal, Registered, running_harts, signed_32, targets, Value}
+use Rattle.shared_procs.proofs.Common.{◌≡◌, ℕ, Bool, true, false, ap, cond, eqb, Option, Some, None, is_some, refl, Answer, answers, argument, asked, BarrierCommand, Begin, call_of, CallDone, concerned, Here, int_argument, Neighbour, option_map_or, refusal, Registered, running_harts, signed_32, targets, Value}
 
 -- a call but for the harts that its barrier is about
 abbrev pub but_barrier : CallDone → CallDone
@@ -89,19 +90,12 @@ module _ (x : Here) (p q : Around) where
 
   -- EACH CALL
 
-  -- the call of a number that is the same in both, or else these
-  or : (b : Bool) (c y v : CallDone) → AreSame y v → AreSame (cond b c y) (cond b c v)
-  or true c y v same = λ waits. refl
-  or false c y v same = same
-
   module _ (n t : ℕ) where
-    of : (number : ℕ) (c y v : CallDone) → AreSame y v → AreSame (cond (eqb n number) c y) (cond (eqb n number) c v)
-    of number = or (eqb n number)
+    -- a call but membarrier(2) and rseq(2) asks nothing of what stands at the hart
+    same_own_call : own_call_of n a t ≡ own_call_of n b t
+    same_own_call = refl
 
     pub same_call_of : AreSame (call_of n a t) (call_of n b t)
     same_call_of =
-        of 64 _ _ _ (of 66 _ _ _ (of 93 _ _ _ (of 94 _ _ _ (of 96 _ _ _ (of 98 _ _ _ (of 122 _ _ _
-        (of 123 _ _ _ (of 124 _ _ _ (of 130 _ _ _ (of 131 _ _ _ (of 134 _ _ _ (of 135 _ _ _ (of 139 _ _ _
-        (of 168 _ _ _ (of 172 _ _ _ (of 178 _ _ _ (of 214 _ _ _ (of 215 _ _ _ (of 220 _ _ _ (of 222 _ _ _
-        (of 226 _ _ _
-        (pick (eqb n 283) _ _ _ _ (same_barrier t) (of 293 _ _ _ (λ waits. refl))))))))))))))))))))))))
+        pick (eqb n 283) _ _ _ _ (same_barrier t)
+        (pick (eqb n 293) _ _ _ _ (λ waits. refl) (λ waits. ap but_barrier same_own_call))

@@ -1,7 +1,7 @@
 -- Each call of the table is one of the deeds.
 use Rattle.std.proofs.Common.{◌≡◌, ◌≢◌, ℕ, eqb, refl, sym, subst, true, None}
 use Rattle.block_model.proofs.Common.{CallDone, Here, call_number, called, eqb-true}
-use Rattle.block_model.specs.Calls.{call_of}
+use Rattle.block_model.specs.Calls.{call_of, own_call_of}
 use Rattle.block_model.proofs.CallEffects.{Begins, CallDeed, Says, either}
 use Rattle.block_model.proofs.CallEffects.Affinity.{deed_getaffinity, deed_getcpu, deed_setaffinity, deed_yield}
 use Rattle.block_model.proofs.CallEffects.Barriers.{deed_barrier_call}
@@ -19,8 +19,8 @@ at_number : (here : Here) (t number k : ℕ) (c : CallDone) → eqb number k ≡
     → CallDeed here t number c
 at_number here t number k c is deed = subst (λ n. CallDeed here t n c) (sym (eqb-true number k is)) deed
 
-deed_call_of : (here : Here) (t number : ℕ) → CallDeed here t number (call_of number here t)
-deed_call_of here t number =
+deed_own_call : (here : Here) (t number : ℕ) → CallDeed here t number (own_call_of number here t)
+deed_own_call here t number =
     either (eqb number 64) (λ _. deed_write here t number) (λ _.
     either (eqb number 66) (λ _. deed_writev here t number) (λ _.
     either (eqb number 93) (λ _. deed_exit here t number) (λ _.
@@ -43,9 +43,13 @@ deed_call_of here t number =
     either (eqb number 220) (λ is. deed_clone here t number (eqb-true number 220 is)) (λ _.
     either (eqb number 222) (λ is. at_number here t number 222 _ is (deed_mmap here t)) (λ _.
     either (eqb number 226) (λ is. at_number here t number 226 _ is (deed_mprotect here t)) (λ _.
+    Says _))))))))))))))))))))))
+
+deed_call_of : (here : Here) (t number : ℕ) → CallDeed here t number (call_of number here t)
+deed_call_of here t number =
     either (eqb number 283) (λ is. deed_barrier_call here t number (eqb-true number 283 is) here.beside refl) (λ _.
     either (eqb number 293) (λ _. deed_sequence_call here t number here.beside refl) (λ _.
-    Says _))))))))))))))))))))))))
+    deed_own_call here t number))
 
 pub deed_called : (here : Here) (t : ℕ) → CallDeed here t (call_number here t) (called here t)
 deed_called here t = deed_call_of here t (call_number here t)

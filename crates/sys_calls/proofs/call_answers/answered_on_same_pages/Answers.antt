@@ -57,7 +57,9 @@ returns-in_default-clause-answered c = λ h hart told read.
     let p = c.requires.off_pages in
     let d = c.in_default in
     let is : call_of n h t ≡ refused h t ENOSYS =
-    is_not 64 n _ _ (λ e. absurd (omega (arith, d, e)))
+    is_not 283 n _ _ o.membarrier
+    ∙ is_not 293 n _ _ o.rseq
+    ∙ is_not 64 n _ _ (λ e. absurd (omega (arith, d, e)))
     ∙ is_not 66 n _ _ (λ e. absurd (omega (arith, d, e)))
     ∙ is_not 93 n _ _ o.exit
     ∙ is_not 94 n _ _ o.exit_group
@@ -78,8 +80,6 @@ returns-in_default-clause-answered c = λ h hart told read.
     ∙ is_not 215 n _ _ p.munmap
     ∙ is_not 220 n _ _ (λ e. absurd (omega (arith, d, e)))
     ∙ is_not 222 n _ _ p.mmap
-    ∙ is_not 226 n _ _ p.mprotect
-    ∙ is_not 283 n _ _ o.membarrier
-    ∙ is_not 293 n _ _ o.rseq in
+    ∙ is_not 226 n _ _ p.mprotect in
     subst (λ (w : List Write). IsAnswered h t c.args.kernel.now c.args.pages.now c.args.kernel.now c.args.pages.now w (Err ENOSYS) (call_of n h t)) (sym c.requires.fresh)
     (answered_said h t c.args.kernel.now c.args.pages.now (Err ENOSYS) (call_of n h t) told is)
