@@ -26,7 +26,7 @@ pub mod Numbers
 pub mod Sequences
 pub mod Signals
 
--- the call of this number, of those that hang on their own process alone; one that isn't there answers ENOSYS
+-- the call of this number, of those that hang on the state of no other process; one that isn't there answers ENOSYS
 abbrev pub own_call_of : ℕ → Here → ℕ → CallDone
 own_call_of number here t =
     if number == 64 then write here t
@@ -53,7 +53,7 @@ own_call_of number here t =
     else if number == 226 then mprotect here t
     else refused here t ENOSYS
 
--- the call of this number; membarrier(2) and rseq(2) hang on the process beside their own too
+-- the call of this number; membarrier(2) and rseq(2) hang on the state of the process beside their own too
 abbrev pub call_of : ℕ → Here → ℕ → CallDone
 call_of number here t =
     if number == 283 then barrier_call here.beside here t
