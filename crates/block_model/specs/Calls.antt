@@ -53,7 +53,7 @@ own_call_of number here t =
     else if number == 226 then mprotect here t
     else refused here t ENOSYS
 
--- the call of this number; membarrier(2) and rseq(2) hang on the state of the process beside their own too
+-- the call of this number; membarrier(2) and rseq(2) are others where a process is beside their own
 abbrev pub call_of : ℕ → Here → ℕ → CallDone
 call_of number here t =
     if number == 283 then barrier_call here.beside here t
