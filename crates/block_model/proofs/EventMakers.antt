@@ -1,5 +1,6 @@
--- What follows of what an event is: one of the kernel executes no instruction and no store, and lets no store that waits enter memory; and
--- one that interrupts no thread writes nothing, where it is of the kernel.
+-- What follows of what an event is: one of the kernel executes no instruction and no store, and lets no
+-- store that waits enter memory; and one that interrupts no thread writes nothing, where it is of the
+-- kernel.
 use Rattle.std.proofs.Common.{◌≡◌, ℕ, [], Bool, true, false, None, refl, sym, ◌∙◌}
 use Rattle.block_model.proofs.Common.{Choice, Done, Here, Kind, done_of, false≢true}
 use Rattle.mach_types.specs.Events.{is_interrupting, is_preempt, kind_of, maker_of, nature_of}
