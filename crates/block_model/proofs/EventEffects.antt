@@ -22,8 +22,8 @@ pub record IsNext (here : Here) (t : ℕ) (e : Effect) : Type 0 where
 
 -- nothing; an instruction that isn't there; a fault that is handled or kills; a call that kills inside a
 -- sequence, or is made; another instruction; a store that enters memory; requests that are taken, with a
--- restart or without; a barrier that returns; a thread that leaves, by an event of any kind that makes one leave; one that begins to run, or is killed at
--- it; a signal that is handled, or kills
+-- restart or without; a barrier that returns; a thread that leaves, by an event of any kind that makes one
+-- leave; one that begins to run, or is killed at it; a signal that is handled, or kills
 pub data EventDeed (here : Here) (tid : ℕ) : Kind → Done → Type 0 where
   Nothing : (k : Kind) → EventDeed here tid k (nothing here)
   Skips : EventDeed here tid kind.Exec (one_instruction here)

@@ -1,5 +1,5 @@
--- What an allowed event needs, by what it is: a thread that runs on its hart, and that this one waits in no barrier. And what holds of each
--- event by which a thread leaves its hart, of whatever kind.
+-- What an allowed event needs, by what it is: a thread that runs on its hart, and that this one waits in
+-- no barrier. And what holds of each event by which a thread leaves its hart, of whatever kind.
 use Rattle.std.proofs.Common.{◌≡◌, ◌||◌, ℕ, Bool, true, false, not, Option, Some, None, refl, [], cond, sym, ap, ◌∙◌}
 use Rattle.block_model.proofs.Common.{Choice, Entry, Event, Here, History, Kind, Sequence, Setting, Why, choice_with, done_of, done_preempt_by, false≢true, is_inside_at, next_for, number_of, refusal_delivery, refusal_done_by, refusal_exec_by, refusal_of, refusal_preempt_by, refusal_signal_by, runs, sequence_on, thread_in, unless_waiting, waiting_here}
 use Rattle.mach_types.specs.Events.{is_return, is_run, is_take, kind_of, nature_of, is_leaving, is_preempt}
@@ -28,11 +28,13 @@ abbrev pub needs_no_barrier : Kind → Bool
 needs_no_barrier k = needs_by (nature_of k).maker (is_take k || (is_return k || is_run k))
 
 -- what is refused where no thread runs
-some_runs : (refusal : Option ℕ → Option Why) → (refusal None ≡ None → ⊥) → (r : Option ℕ) → refusal r ≡ None → (t : ℕ) × (r ≡ Some t)
+some_runs : (refusal : Option ℕ → Option Why) → (refusal None ≡ None → ⊥) → (r : Option ℕ) → refusal r ≡ None
+    → (t : ℕ) × (r ≡ Some t)
 some_runs refusal never None free = absurd (never free)
 some_runs refusal never (Some t) free = (t, refl)
 
-pub has_thread : (c : Choice) (here : Here) → refusal_of c here ≡ None → needs_thread (kind_of c) ≡ true → (t : ℕ) × (runs here ≡ Some t)
+pub has_thread : (c : Choice) (here : Here) → refusal_of c here ≡ None → needs_thread (kind_of c) ≡ true
+    → (t : ℕ) × (runs here ≡ Some t)
 has_thread asked.Exec here free needs = some_runs (refusal_exec_by here) (λ none. cc) (runs here) free
 has_thread asked.Done here free needs = some_runs (refusal_done_by here) (λ none. cc) (runs here) free
 has_thread asked.Preempt here free needs = some_runs (refusal_preempt_by here) (λ none. cc) (runs here) free
@@ -52,7 +54,8 @@ signal_outside : (here : Here) (r : Option ℕ) → refusal_signal_by here r ≡
 signal_outside here None free = absurd cc
 signal_outside here (Some t) free = (out_of_barrier here.awaits (refusal_delivery here (next_for t here.kernel.signals)) free).0
 
-pub waits_in_none : (c : Choice) (here : Here) → refusal_of c here ≡ None → needs_no_barrier (kind_of c) ≡ true → here.awaits ≡ None
+pub waits_in_none : (c : Choice) (here : Here) → refusal_of c here ≡ None
+    → needs_no_barrier (kind_of c) ≡ true → here.awaits ≡ None
 waits_in_none asked.Exec here free needs = exec_outside here (runs here) free
 waits_in_none asked.Preempt here free needs = preempt_outside here (runs here) free
 waits_in_none asked.Signal here free needs = signal_outside here (runs here) free
@@ -67,11 +70,13 @@ leaving_needs kind.Take leaves = absurd (false≢true leaves)
 leaving_needs kind.Run leaves = absurd (false≢true leaves)
 leaving_needs k leaves = refl
 
-leaving_names : (k : Kind) (x : Entry) (here : Here) → is_preempt k ≡ true → thread_in (choice_with k x) here ≡ runs here
+leaving_names : (k : Kind) (x : Entry) (here : Here) → is_preempt k ≡ true
+    → thread_in (choice_with k x) here ≡ runs here
 leaving_names kind.Run x here leaves = absurd (false≢true leaves)
 leaving_names k x here leaves = refl
 
-pub leaving_runs : (k : Kind) (x : Entry) (here : Here) → is_preempt k ≡ true → refusal_of (choice_with k x) here ≡ None
+pub leaving_runs : (k : Kind) (x : Entry) (here : Here) → is_preempt k ≡ true
+    → refusal_of (choice_with k x) here ≡ None
     → runs here ≡ Some (number_of (thread_in (choice_with k x) here))
 leaving_runs k x here leaves free =
     let its = has_thread (choice_with k x) here free (ap needs_thread (kind_back k x.tid) ∙ leaving_needs k leaves) in
@@ -82,7 +87,8 @@ stores_where : (here : Here) (r : Option ℕ) → refusal_preempt_by here r ≡ 
 stores_where here None free = absurd cc
 stores_where here (Some t) free = none_waits (waiting_here here) (out_of_barrier here.awaits (unless_waiting (waiting_here here)) free).1
 
-pub leaving_waits : (k : Kind) (x : Entry) (here : Here) → is_preempt k ≡ true → refusal_of (choice_with k x) here ≡ None → waiting_here here ≡ []
+pub leaving_waits : (k : Kind) (x : Entry) (here : Here) → is_preempt k ≡ true
+    → refusal_of (choice_with k x) here ≡ None → waiting_here here ≡ []
 leaving_waits kind.Preempt x here leaves free = stores_where here (runs here) free
 leaving_waits k x here leaves free = absurd (false≢true leaves)
 
@@ -93,7 +99,8 @@ leaving_does kind.Preempt x here t leaves at = ap (done_preempt_by here) at
 leaving_does k x here t leaves at = absurd (false≢true leaves)
 
 -- and the sequence in which it was hangs then
-pub moved_leaving : (s : Setting) (e : Event) (before : History) (m : Movement) (still : Option Sequence) → is_leaving m ≡ true
+pub moved_leaving : (s : Setting) (e : Event) (before : History) (m : Movement) (still : Option Sequence)
+    → is_leaving m ≡ true
     → hanging_moved s e before m still ≡ cond (is_inside_at s e.entry.hart.0 before) (sequence_on s e.entry.hart.0 before) None
 moved_leaving s e before Stays still leaves = absurd (false≢true leaves)
 moved_leaving s e before Leaves still leaves = refl

@@ -35,8 +35,9 @@ is_inside_at s h before = option_map_or (is_inside_here (here_in_history s befor
 
 -- WHICH EVENTS A SEQUENCE HAS
 
--- whether a sequence takes in an event of its hart before which its thread is inside, and which interrupts a thread or doesn't: one
--- that the hart makes; and of the kernel's, that it takes requests and interrupts nothing
+-- whether a sequence takes in an event of its hart before which its thread is inside, and which interrupts
+-- a thread or doesn't: one that the hart makes; and of the kernel's, that it takes requests and interrupts
+-- nothing
 abbrev pub takes_in_of_kernel : BarrierPart → Bool → Bool
 takes_in_of_kernel Apart interrupts = false
 takes_in_of_kernel Takes interrupts = not interrupts

@@ -229,7 +229,8 @@ pub record IsKilledByDelivery (s : Setting) (e : Event) (before : History) : Typ
       → is_handler (action_of signal (kernel s before).signals) ≡ true
       → (e.done.ended ≡ Some (Killed SIGSEGV)) × (can_write_frame (can_be_written s before) (file s e.entry.tid.0 before) ≡ false)
 
--- how an interruption ends the process, by what it is; a take of requests does so only where the check of the thread finds something bad
+-- how an interruption ends the process, by what it is; a take of requests does so only where the check of
+-- the thread finds something bad
 abbrev pub IsDeadFrom : Setting → Interruption → Event → History → Type 0
 IsDeadFrom s Never e before = ⊥
 IsDeadFrom s Requested e before =

@@ -131,7 +131,8 @@ impl Passed {
     }
 }
 
-/// Whether a sequence takes in an event of this kind, before which its thread is inside, and which interrupts a thread or doesn't.
+/// Whether a sequence takes in an event of this kind, before which its thread is inside, and which
+/// interrupts a thread or doesn't.
 fn takes_in(kind: Kind, interrupts: bool) -> bool
     ensures { result ≡ takes_in kind interrupts }
 {

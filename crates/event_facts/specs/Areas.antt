@@ -72,7 +72,8 @@ area_words None byte (Some area) = kept_words (words_of byte area)
 
 -- OF AN EVENT
 
--- whether the kernel writes in events of this choice, which are this call or none: in those that may interrupt a thread, and in calls
+-- whether the kernel writes in events of this choice, which are this call or none: in those that may
+-- interrupt a thread, and in calls
 abbrev pub is_of_kernel : Choice → Option SystemCall → Bool
 is_of_kernel c call = is_interrupting (nature_of (kind_of c)).interruption true true || (is_instruction (kind_of c) && is_some call)
 

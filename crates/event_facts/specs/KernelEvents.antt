@@ -47,8 +47,8 @@ lost_from h kept ws k = if h == k then [] else lost_facts k (reservation_in kept
 abbrev pub registers_after : Here → ℕ → Option Regs
 registers_after after t = registers_seen (runs after) (state_of t after.kernel.threads) t (after.file t)
 
--- whether an event sets registers of the thread that runs on its hart: an instruction, a barrier that returns and the delivery of a
--- signal do; and what else isn't plain sets none
+-- whether an event sets registers of the thread that runs on its hart: an instruction, a barrier that
+-- returns and the delivery of a signal do; and what else isn't plain sets none
 abbrev pub sets_own : Kind → Bool
 sets_own k = is_instruction k || is_return k || is_signal k
 

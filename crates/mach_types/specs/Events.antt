@@ -83,8 +83,9 @@ number_of_choice c = option_map_or (λ (t : Tid). length all_kinds + t.0) (begun
 
 -- WHAT AN EVENT OF A KIND IS
 
--- who makes it, where it leaves its thread, what interrupts its thread (rseq(2)), and what it is to barriers (membarrier(2)). All that
--- is told of kinds elsewhere is read off this, but which condition of an event fails and what the event does
+-- who makes it, where it leaves its thread, what interrupts its thread (rseq(2)), and what it is to
+-- barriers (membarrier(2)). All that is told of kinds elsewhere is read off this, but which condition of
+-- an event fails and what the event does
 abbrev pub nature_of : Kind → Nature
 nature_of kind.Exec = record { maker = Thread; movement = Stays; interruption = Never; barriers = Apart }
 nature_of kind.Drain = record { maker = Buffer; movement = Stays; interruption = Never; barriers = Apart }
@@ -124,8 +125,8 @@ is_preempt k = is_leaving (nature_of k).movement
 abbrev pub is_run : Kind → Bool
 is_run k = is_beginning (nature_of k).movement
 
--- whether an event interrupts its thread, where a request that it takes asks for a restart or doesn't, and a thread runs on its hart or
--- doesn't
+-- whether an event interrupts its thread, where a request that it takes asks for a restart or doesn't, and
+-- a thread runs on its hart or doesn't
 abbrev pub is_interrupting : Interruption → Bool → Bool → Bool
 is_interrupting Never restart busy = false
 is_interrupting Requested restart busy = restart && busy

@@ -63,7 +63,8 @@ pub enum Movement {
     Begins,
 }
 
-/// What interrupts the thread of an event, so that the restartable sequence in which it is doesn't go on (rseq(2)).
+/// What interrupts the thread of an event, so that the restartable sequence in which it is doesn't go on
+/// (rseq(2)).
 #[derive(Clone, Copy, Drop)]
 pub enum Interruption {
     /// Nothing.
