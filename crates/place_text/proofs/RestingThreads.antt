@@ -5,7 +5,7 @@ use Rattle.std.specs.Option.{option_and_then, option_map}
 use Rattle.std.proofs.lemmas.Bool.Decides.{nat_tests}
 use Rattle.kernel_threads.specs.Table.{IsTable, Table, has_saved, is_of, saved_of, wants_saved}
 use Rattle.mach_types.proofs.Laws.{map_finds}
-use Rattle.mach_types.specs.Kernel.Threads.{Thread, Threads, is_running_state, is_thread, state_of, thread_of}
+use Rattle.mach_types.specs.Kernel.Threads.{Thread, is_running_state, is_thread, state_of, thread_of}
 use Rattle.mach_types.specs.declared.threads.Saved.{Saved}
 use Rattle.mach_types.specs.declared.threads.ThreadState.{ThreadState}
 use Rattle.mach_types.specs.declared.threads.ThreadState.TheVariants.{Ready, Running, Waiting}
