@@ -36,17 +36,28 @@ use Rattle.urcu_lib.specs.declared.regs.ReadRegs.{ReadRegs}
 use Rattle.urcu_lib.specs.declared.regs.SyncRegs.{SyncRegs}
 
 -- one block of each kind in a program
-pub record Layout : Type 0 where
+pub record SlotWords : Type 0 where
   pub counter : ℕ
   pub slots : ℕ
   pub readers : ℕ
   pub reader : ℕ → ℕ
+
+pub record ReadBlocks : Type 0 where
   pub lock_at : ℕ
-  pub lock : ReadRegs
   pub unlock_at : ℕ
-  pub unlock : ReadRegs
+  pub lock : ReadRegs
+
+pub record SyncPlace : Type 0 where
   pub sync_at : ℕ
   pub sync : SyncRegs
+
+pub record Layout : Type 0 where
+  pub words : SlotWords
+  pub open words use *
+  pub reads : ReadBlocks
+  pub open reads use *
+  pub waits : SyncPlace
+  pub open waits use *
 
 abbrev pub urcu_of : Layout → Urcu
 urcu_of x = record {
@@ -55,7 +66,7 @@ urcu_of x = record {
   slot_count = x.readers;
   reader = x.reader;
   locks = λ at. cond (eqb at x.lock_at) (Some x.lock) None;
-  unlocks = λ at. cond (eqb at x.unlock_at) (Some x.unlock) None;
+  unlocks = λ at. cond (eqb at x.unlock_at) (Some x.lock) None;
   syncs = λ at. cond (eqb at x.sync_at) (Some x.sync) None;
   readers = λ at. x.readers;
 }
@@ -281,7 +292,7 @@ module _ (s : Setting) (x : Layout) (first : ℕ) where
   is_lock_store i e before = executes (x.lock_at + 4) e && eqb (value e before x.lock.slot) (slot_of i)
 
   abbrev is_unlock_store : ℕ → Event → History → Bool
-  is_unlock_store i e before = executes x.unlock_at e && eqb (value e before x.unlock.slot) (slot_of i)
+  is_unlock_store i e before = executes x.unlock_at e && eqb (value e before x.lock.slot) (slot_of i)
 
   abbrev is_sync_store : Event → Bool
   is_sync_store e = executes (x.sync_at + 28) e
@@ -402,22 +413,22 @@ module _ (s : Setting) (x : Layout) (first : ℕ) where
   unlock_store_of : (i : ℕ) (e : Event) (before : History) → IsUnlockStore s u i e before
       → is_unlock_store i e before ≡ true
   unlock_store_of i e before it =
-      let its = only it.place x.unlock_at x.unlock it.regs it.block in
-      and_from (executes x.unlock_at e) (eqb (value e before x.unlock.slot) (slot_of i))
+      let its = only it.place x.unlock_at x.lock it.regs it.block in
+      and_from (executes x.unlock_at e) (eqb (value e before x.lock.slot) (slot_of i))
       (executes_it x.unlock_at e (subst (λ n. IsExecAt n e) its.0 it.exec))
-      (eq-eqb (value e before x.unlock.slot) (slot_of i)
+      (eq-eqb (value e before x.lock.slot) (slot_of i)
       (ap (λ (r : ReadRegs). value e before r.slot) its.1 ∙ it.to))
 
   unlock_store_is : (i : ℕ) (e : Event) (before : History) → is_unlock_store i e before ≡ true
       → IsUnlockStore s u i e before
   unlock_store_is i e before is =
-      let parts = and_parts (executes x.unlock_at e) (eqb (value e before x.unlock.slot) (slot_of i)) is in
+      let parts = and_parts (executes x.unlock_at e) (eqb (value e before x.lock.slot) (slot_of i)) is in
       record {
         place = x.unlock_at;
-        regs = x.unlock;
-        block = ap (λ b. cond b (Some x.unlock) None) (eq-eqb x.unlock_at x.unlock_at refl);
+        regs = x.lock;
+        block = ap (λ b. cond b (Some x.lock) None) (eq-eqb x.unlock_at x.unlock_at refl);
         exec = it_executes x.unlock_at e parts.0;
-        to = eqb-true (value e before x.unlock.slot) (slot_of i) parts.1;
+        to = eqb-true (value e before x.lock.slot) (slot_of i) parts.1;
       }
 
   sync_of : (at : ℕ) (r : SyncRegs) → u.syncs at ≡ Some r → at ≡ x.sync_at
