@@ -16,8 +16,8 @@ use Rattle.percpu_lib.proofs.Changes.{value_changed}
 use Rattle.percpu_lib.proofs.Courses.{IsCourse}
 use Rattle.percpu_lib.proofs.RingData.{in_ring, in_slot, in_words, ring_there, ring_word, same_there, word_low}
 use Rattle.percpu_lib.proofs.RingData.{word_ring}
-use Rattle.percpu_lib.proofs.RingLaw.{After, Done, Inside, RingPlace, Stays, beside_number, course_by, form}
-use Rattle.percpu_lib.proofs.RingLaw.{last_store, stays_so, store}
+use Rattle.percpu_lib.proofs.RingLaw.{After, Done, Inside, RingPlace, Stays, beside_number, course_by, executed}
+use Rattle.percpu_lib.proofs.RingLaw.{form, last_store, stays_so, store}
 use Rattle.percpu_lib.proofs.RingPlaces.{AreOfRing, head_in, slot_in, slot_low, tail_in}
 use Rattle.percpu_lib.proofs.RingStores.{IsBeside, beside_first, beside_last, stored_first, stored_last}
 
@@ -58,15 +58,13 @@ module _ (r : RingPlace gets) where
         so_far : (from : ℕ) → AreOfRing ring from 8 → Stays gets r es from
         so_far from its = stays_so gets r es (stored k) is from (ring_stays k from few its)
 
+    ran : (j : ℕ) → es ≡ stored j → stores h last ≡ stores h begun ++ stored j
+    ran j is = executed gets r temps es last after (stored j) is
+
     not_got : Inside gets r es → IsNoGet s p ring h t count begun last
     not_got so_far = record {
       same = ring_kept so_far.0 so_far.1 so_far.3;
-      stored = record {
-        some = so_far.0;
-        few = so_far.1;
-        enough = so_far.2;
-        stored = after.stored ∙ ap (λ (x : List Store). stores h begun ++ x) so_far.3;
-      };
+      stored = record { some = so_far.0; few = so_far.1; enough = so_far.2; stored = ran so_far.0 so_far.3 };
       kept = after.kept;
     }
 

@@ -1,7 +1,7 @@
 -- What the sequences of both ring blocks have in common: one run of its thread alone, which reads head and tail,
 -- tests how many words the ring holds, moves its words one by one, and stores the number that it counted on.
 use Rattle.std.proofs.Common.{◌≡◌, ◌≢◌, ℕ, zero, suc, ◌+◌, ◌*◌, ◌<◌, ◌≤◌, ◌%◌, ◌^◌, List, [], ◌∷◌, ◌++◌, refl}
-use Rattle.std.proofs.Common.{ap, ◌∙◌, subst, arith, Bool, true, false, not, inl, inr, ◌⊎◌, Some, pos, slice_get}
+use Rattle.std.proofs.Common.{ap, ◌∙◌, subst, arith, eqb, Bool, true, false, not, inl, inr, ◌⊎◌, Some, pos, slice_get}
 use Rattle.std.proofs.lemmas.Int.{ints}
 use Rattle.mach_types.specs.Bytes.{word_at}
 use Rattle.mach_types.specs.Registers.{register}
@@ -17,7 +17,7 @@ use Rattle.alone.proofs.Laws.{word_unchanged}
 use Rattle.alone.proofs.Means.{means_add, means_addi, means_ld, means_sd, means_slli}
 use Rattle.alone.proofs.Paths.{leaves, then_branch, then_load, then_next, then_store}
 use Rattle.alone_laws.specs.Spans.{alone_from, code_of, sees}
-use Rattle.block_model.specs.History.{History}
+use Rattle.block_model.specs.History.{History, stores}
 use Rattle.block_model.specs.Setting.{Setting}
 use Rattle.percpu_lib.specs.Forms.{Form, IsBlockPlace, committed}
 use Rattle.percpu_lib.specs.RingForms.{IsRingApart, first_stores, ring_end, word_of, word_store}
@@ -33,6 +33,7 @@ use Rattle.percpu_lib.proofs.CourseLaw.{IsAfter, course_of, way}
 use Rattle.percpu_lib.proofs.Courses.{IsCourse}
 use Rattle.percpu_lib.proofs.RingData.{area_bytes, in_ring, loaded_is, raw, ring_pointer, word_low}
 use Rattle.percpu_lib.proofs.RingMeans.{means_andi, slot_number}
+use Rattle.percpu_lib.proofs.RingParts.{LiesSo}
 use Rattle.percpu_lib.proofs.RingParts.{IsEnough, IsShort, compare_of, compares, exits, flag_of, form_by, from_by}
 use Rattle.percpu_lib.proofs.RingParts.{from_stays, from_used, front_of, good_of, insts_of, insts_six, into_by}
 use Rattle.percpu_lib.proofs.RingParts.{into_pointer, into_used, is_enough, is_short, load_of, loads, moves_by}
@@ -402,14 +403,34 @@ module _ (k : RingKind) (r : RingPlace k) where
   by_flag y was (inl is) = begins y was is
   by_flag y was (inr isnt) = ends y was isnt
 
+  -- a number of the ring is loaded into a register
+  reads : (n rd from offset : ℕ) (temps : ℕ → ℕ)
+      → slice_get form.words n ≡ Some (Some (inst.Ld rd 5 (pos offset))) → 5 ≤ n → n < 18 + 6 * count
+      → is_changed p rd ≡ true → eqb rd 0 ≡ false → rd < 32 → temps 5 ≡ ring → LiesSo offset from ring → (y : Stand)
+      → IsAt (is_changed p) old (at + 4 * n) temps [] y
+      → ((z : Stand) → IsAt (is_changed p) old (at + 4 * (n + 1)) (put rd (word_of s h from begun) temps) [] z
+      → KeepsOn w z)
+      → KeepsOn w y
+  reads n rd from offset temps there past before may some_rd few five lies y was rest =
+      let low = place.low in
+      let low_ring = apart.low_ring in
+      let is = lies.is in
+      let small = lies.low in
+      then_load w (at + 4 * n) temps [] y was (here n past before) none_yet (inst.Ld rd 5 (pos offset))
+      (standing.holds n (inst.Ld rd 5 (pos offset)) there)
+      from 8 rd (raw s h begun area.at ring value count apart from).0 (at + 4 * (n + 1)) true
+      (λ f like. means_ld f (at + 4 * n) rd 5 (pos offset) ring from (like.temp 5 refl ∙ five) (omega (arith, ints)))
+      (in_ring s h begun area.at ring value count apart from lies.its)
+      (word_unchanged seen from 8 ∙ (raw s h begun area.at ring value count apart from).1) may some_rd few
+      (omega arith) (omega arith) (omega arith)
+      (λ z next. rest z
+      (subst (λ v. IsAt (is_changed p) old (at + 4 * (n + 1)) (put rd v temps) [] z)
+      (loaded_is s h begun area.at ring value count apart from) next))
+
   pub keeps : KeepsOn w (alone_from s h t begun 0)
   keeps =
       let low = place.low in
       let low_ring = apart.low_ring in
-      let first_is = (number_lies k ring).is in
-      let other_is = (other_lies k ring).is in
-      let low_first = (number_lies k ring).low in
-      let low_other = (other_lies k ring).low in
       to_cell s form at area h t begun Inside Done formed standing place 13 8192 begins_so none_yet
       (area_bytes s h begun area.at ring value count apart) rings refl (omega arith)
       (λ y now.
@@ -419,28 +440,13 @@ module _ (k : RingKind) (r : RingPlace k) where
       (like.temp p.value (value_changed p) ∙ value_0) (omega (arith, small_value)))
       refl refl (omega arith) (omega arith) (omega arith)
       (λ b copied.
-      then_load w (at + 40) temps_1 [] b copied (here 10 (omega arith) (omega arith)) none_yet
-      (inst.Ld 6 5 (pos (offset_of k))) (standing.holds 10 (inst.Ld 6 5 (pos (offset_of k))) refl)
-      first_at 8 6 (raw s h begun area.at ring value count apart first_at).0 (at + 44) true
-      (λ f like. means_ld f (at + 40) 6 5 (pos (offset_of k)) ring first_at (like.temp 5 refl) (omega (arith, ints)))
-      (in_ring s h begun area.at ring value count apart first_at (number_lies k ring).its)
-      (word_unchanged seen first_at 8 ∙ (raw s h begun area.at ring value count apart first_at).1) refl refl
-      (omega arith) (omega arith) (omega arith) (omega arith)
+      reads 10 6 first_at (offset_of k) temps_1 refl (omega arith) (omega arith) refl refl (omega arith) refl
+      (number_lies k ring) b copied
       (λ z next.
-      then_load w (at + 44) (put 6 number temps_1) [] z
-      (subst (λ n. IsAt (is_changed p) old (at + 44) (put 6 n temps_1) [] z)
-      (loaded_is s h begun area.at ring value count apart first_at) next)
-      (here 11 (omega arith) (omega arith)) none_yet
-      (inst.Ld 7 5 (pos (other_of k))) (standing.holds 11 (inst.Ld 7 5 (pos (other_of k))) refl)
-      second_at 8 7 (raw s h begun area.at ring value count apart second_at).0 (at + 48) true
-      (λ f like. means_ld f (at + 44) 7 5 (pos (other_of k)) ring second_at (like.temp 5 refl) (omega (arith, ints)))
-      (in_ring s h begun area.at ring value count apart second_at (other_lies k ring).its)
-      (word_unchanged seen second_at 8 ∙ (raw s h begun area.at ring value count apart second_at).1) refl refl
-      (omega arith) (omega arith) (omega arith) (omega arith)
+      reads 11 7 second_at (other_of k) (put 6 number temps_1) refl (omega arith) (omega arith) refl refl
+      (omega arith) refl (other_lies k ring) z next
       (λ u then.
-      then_next w (at + 48) temps_2 [] u
-      (subst (λ n. IsAt (is_changed p) old (at + 48) (put 7 n (put 6 number temps_1)) [] u)
-      (loaded_is s h begun area.at ring value count apart second_at) then)
+      then_next w (at + 48) temps_2 [] u then
       (here 12 (omega arith) (omega arith)) none_yet (sub_of k) (standing.holds 12 (sub_of k) refl) 7 holds (at + 52)
       (λ f like. subtracts k s h ring begun f (at + 48) (at + 52) (omega arith) (like.temp 6 refl) (like.temp 7 refl))
       refl refl (omega arith) (omega arith) (omega arith)
@@ -462,6 +468,11 @@ module _ (k : RingKind) (r : RingPlace k) where
 
   abbrev pub Stays : List Store → ℕ → Type 0
   Stays es from = word_at (seen_byte es seen) from 8 ≡ word_at seen from 8
+
+  -- what was executed
+  pub executed : (temps : ℕ → ℕ) (es : List Store) (last : History) → After temps es last → (ys : List Store)
+      → es ≡ ys → stores h last ≡ stores h begun ++ ys
+  executed temps es last after ys is = after.stored ∙ ap (λ (x : List Store). stores h begun ++ x) is
 
   -- the same of equal stores
   pub stays_so : (xs ys : List Store) → xs ≡ ys → (from : ℕ) → Stays ys from → Stays xs from

@@ -14,8 +14,8 @@ use Rattle.percpu_lib.proofs.Changes.{value_changed}
 use Rattle.percpu_lib.proofs.Courses.{IsCourse}
 use Rattle.percpu_lib.proofs.RingData.{apart_behind, behind_contents, content_there, head_there, in_ring, in_slot}
 use Rattle.percpu_lib.proofs.RingData.{ring_there, word_low}
-use Rattle.percpu_lib.proofs.RingLaw.{After, Done, Inside, RingPlace, Stays, beside_number, course_by, form}
-use Rattle.percpu_lib.proofs.RingLaw.{last_store, stays_so, store}
+use Rattle.percpu_lib.proofs.RingLaw.{After, Done, Inside, RingPlace, Stays, beside_number, course_by, executed}
+use Rattle.percpu_lib.proofs.RingLaw.{form, last_store, stays_so, store}
 use Rattle.percpu_lib.proofs.RingPlaces.{slot_low, tail_in}
 use Rattle.percpu_lib.proofs.RingStores.{beside_first, beside_last, stored_first, stored_last}
 
@@ -60,15 +60,13 @@ module _ (r : RingPlace puts) where
         (stays_so puts r es (stored k) is (ring + 8) (tail_stays k))
         (λ j lt. stays_so puts r es (stored k) is (slot_of ring (head + j)) (contents_stay k few room j lt))
 
+    ran : (j : ℕ) → es ≡ stored j → stores h last ≡ stores h begun ++ stored j
+    ran j is = executed puts r temps es last after (stored j) is
+
     not_put : Inside puts r es → IsNoPut s p ring h t count begun last
     not_put so_far = record {
       same = ring_kept so_far.0 so_far.1 so_far.2 so_far.3;
-      stored = record {
-        some = so_far.0;
-        few = so_far.1;
-        room = so_far.2;
-        stored = after.stored ∙ ap (λ (x : List Store). stores h begun ++ x) so_far.3;
-      };
+      stored = record { some = so_far.0; few = so_far.1; room = so_far.2; stored = ran so_far.0 so_far.3 };
       kept = after.kept;
     }
 
