@@ -1,6 +1,6 @@
 -- A sequence of an alloc block is one run of its thread alone, and so takes one item or none.
 use Rattle.std.proofs.Common.{◌≡◌, ◌≢◌, ℕ, ◌+◌, ◌-◌, ◌*◌, ◌≤◌, ◌%◌, ◌^◌, List, [], ◌∷◌, ◌++◌, refl, ap}
-use Rattle.std.proofs.Common.{◌∙◌, subst, arith, Bool, true, false, eqb, Option, Some, inl}
+use Rattle.std.proofs.Common.{◌∙◌, subst, arith, true, false, eqb, Option, Some, inl}
 use Rattle.std.proofs.Common.{inr, ◌⊎◌, pos, negsuc, unwrap_or}
 use Rattle.std.proofs.lemmas.Bool.{cases_Bool, eqb-false, eqb-true}
 use Rattle.mach_types.specs.Bytes.{word_at}

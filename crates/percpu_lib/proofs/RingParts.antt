@@ -1,7 +1,7 @@
 -- In what a put into a ring and a get out of it differ, by the kind of block: the number that is counted on, which
 -- is the tail or the head; the words of the test; and what becomes of each word.
-use Rattle.std.proofs.Common.{◌≡◌, ◌≢◌, ℕ, ◌+◌, ◌*◌, ◌-◌, ◌%◌, ◌^◌, ◌<◌, ◌≤◌, List, [], ◌∷◌, ◌++◌, Bool, true}
-use Rattle.std.proofs.Common.{false, not, ltb, Option, Some, pos, inl, inr, ◌⊎◌, length, refl, ap, ◌∙◌, arith, slice_get}
+use Rattle.std.proofs.Common.{◌≡◌, ℕ, suc, ◌+◌, ◌*◌, ◌-◌, ◌%◌, ◌^◌, ◌<◌, ◌≤◌, List, ◌++◌, Bool, true}
+use Rattle.std.proofs.Common.{false, not, ltb, Option, Some, pos, length, refl, ap, ◌∙◌, arith, slice_get}
 use Rattle.std.proofs.lemmas.Bool.{ltb-false, ltb-true}
 use Rattle.std.proofs.lemmas.Int.{ints}
 use Rattle.mach_types.specs.Bytes.{each_byte, word_at}
