@@ -34,9 +34,9 @@ use Rattle.percpu_lib.proofs.Courses.{IsCourse}
 use Rattle.percpu_lib.proofs.RingData.{area_bytes, in_ring, loaded_is, raw, ring_pointer, word_low}
 use Rattle.percpu_lib.proofs.RingMeans.{means_andi, slot_number}
 use Rattle.percpu_lib.proofs.RingParts.{LiesSo}
-use Rattle.percpu_lib.proofs.RingParts.{IsEnough, IsShort, compare_of, compares, exits, flag_of, form_by, from_by}
-use Rattle.percpu_lib.proofs.RingParts.{from_stays, from_used, front_of, good_of, insts_of, insts_six, into_by}
-use Rattle.percpu_lib.proofs.RingParts.{into_pointer, into_used, is_enough, is_short, load_of, loads, moves_by}
+use Rattle.percpu_lib.proofs.RingParts.{IsEnough, IsShort, compare_of, compares, exits, flag_of, form_by}
+use Rattle.percpu_lib.proofs.RingParts.{formed_by, from_by, from_stays, from_used, front_of, good_of, insts_of, insts_six}
+use Rattle.percpu_lib.proofs.RingParts.{into_by, into_pointer, into_used, is_enough, is_short, load_of, loads, moves_by}
 use Rattle.percpu_lib.proofs.RingParts.{number_at, number_lies, offset_of, other_at, other_lies, other_of, save_of}
 use Rattle.percpu_lib.proofs.RingParts.{saves, stays, sub_of, subtracts, test_of, words_by}
 use Rattle.percpu_lib.proofs.RingPlaces.{slot_wraps}
@@ -70,27 +70,28 @@ pub record RingSize : Type 0 where
 pub record RingPlace (k : RingKind) : Type 0 where
   pub site : Site
   pub size : RingSize
-  pub formed : IsFormed (form_by k size.count size.p)
   pub standing : AreHeld (code_of site.s.program.pages) site.at (words_by k size.p size.count)
   pub place : IsBlockPlace site.s (form_by k size.count size.p) site.at site.area site.h site.t site.begun
 
 abbrev pub place_by : (k : RingKind) (s : Setting) (count : ℕ) → 1 ≤ count → count ≤ 4 → (p : Slots) (at : ℕ)
-    (area : Area) (h t : ℕ) (begun : History) → IsFormed (form_by k count p)
-    → AreHeld (code_of s.program.pages) at (words_by k p count) → AreSlots p
+    (area : Area) (h t : ℕ) (begun : History) → AreHeld (code_of s.program.pages) at (words_by k p count)
+    → AreSlots p
     → IsBlockPlace s (form_by k count p) at area h t begun → RingPlace k
-place_by k s count some many p at area h t begun formed standing slots place = record {
+place_by k s count some many p at area h t begun standing slots place = record {
   site = record { s = s; at = at; area = area; h = h; t = t; begun = begun };
   size = record { count = count; some = some; many = many; p = p; slots = slots };
-  formed = formed;
   standing = standing;
   place = place;
 }
 
 module _ (k : RingKind) (r : RingPlace k) where
-  open r use {site.{s, at, area, h, t, begun}, size.{count, some, many, p, slots}, formed, standing, place}
+  open r use {site.{s, at, area, h, t, begun}, size.{count, some, many, p, slots}, standing, place}
 
   abbrev pub form : Form
   form = form_by k count p
+
+  abbrev formed : IsFormed form
+  formed = formed_by k count many p
 
   begins_so : BeginsSo form 13 8192
   begins_so =
@@ -416,7 +417,7 @@ module _ (k : RingKind) (r : RingPlace k) where
       let low_ring = apart.low_ring in
       let is = lies.is in
       let small = lies.low in
-      then_load w (at + 4 * n) temps [] y was (here n past before) none_yet (inst.Ld rd 5 (pos offset))
+      then_load w (at + 4 * n) temps [] y was (here n (omega arith) (omega arith)) none_yet (inst.Ld rd 5 (pos offset))
       (standing.holds n (inst.Ld rd 5 (pos offset)) there)
       from 8 rd (raw s h begun area.at ring value count apart from).0 (at + 4 * (n + 1)) true
       (λ f like. means_ld f (at + 4 * n) rd 5 (pos offset) ring from (like.temp 5 refl ∙ five) (omega (arith, ints)))
