@@ -234,13 +234,15 @@ module _ (s : Setting) (h : ℕ) (begun : History) (area ring value count : ℕ)
     (apart : IsRingApart s area ring value count h begun) where
   pub from_used : (k : RingKind) (number j : ℕ) → j < count
       → each_byte (ring_bytes area ring value count) (from_by k ring value number j) 8 ≡ true
-  from_used puts number j lt = in_words s h begun area ring value count apart (value + 8 * j) (omega arith) (omega arith)
+  from_used puts number j lt =
+      in_words s h begun area ring value count apart (value + 8 * j) (omega arith) (omega arith)
   from_used gets number j lt = in_slot s h begun area ring value count apart (number + j)
 
   pub into_used : (k : RingKind) (number j : ℕ) → j < count
       → each_byte (ring_bytes area ring value count) (into_by k ring value number j) 8 ≡ true
   into_used puts number j lt = in_slot s h begun area ring value count apart (number + j)
-  into_used gets number j lt = in_words s h begun area ring value count apart (value + 8 * j) (omega arith) (omega arith)
+  into_used gets number j lt =
+      in_words s h begun area ring value count apart (value + 8 * j) (omega arith) (omega arith)
 
   pub from_stays : (k : RingKind) (number : ℕ) (word : ℕ → ℕ) (j : ℕ) → j < count
       → word_at (seen_byte (first_stores (λ i. word_store (into_by k ring value number i) (word i)) j)
