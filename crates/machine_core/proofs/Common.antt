@@ -45,7 +45,7 @@ pub use Rattle.process.specs.declared.parts.Parts.{Parts}
 pub use Rattle.rv_inst.specs.Class.{sets_register}
 pub use Rattle.rv_inst.specs.Execution.{Outcome, instruction_gate, seen_byte}
 pub use Rattle.rv_inst.specs.declared.effects.Effect.{Effect}
-pub use Rattle.std.proofs.Common.{All, Bool, Err, IfOk, IsSome, List, None, Ok, Option, Result, Some, [], ap, append-nil, append_assoc, ap₂, arith, cond, drop, eq-eqb, eqb, false, get_or, if◌then◌else◌, inl, inr, is_none, is_some, le-leb, le-ltb, leb, leb-false, length, ltb, map, min, not, refl, rules, set, slice_get, subst, suc, sym, take, true, zero, ℕ, ◌&&◌, ◌++◌, ◌+◌, ◌-◌, ◌<◌, ◌^◌, ◌||◌, ◌∙◌, ◌∷◌, ◌≡◌, ◌≢◌, ◌≤◌, ◌⊎◌}
+pub use Rattle.std.proofs.Common.{All, Bool, Err, IfOk, IsSome, List, None, Ok, Option, Result, Some, [], add-zero, ap, append-nil, append_assoc, ap₂, arith, cond, drop, eq-eqb, eqb, false, get_or, if◌then◌else◌, inl, inr, is_none, is_some, le-leb, le-ltb, leb, leb-false, length, ltb, map, min, not, refl, rules, set, slice_get, subst, suc, sym, take, true, zero, ℕ, ◌&&◌, ◌++◌, ◌+◌, ◌-◌, ◌<◌, ◌^◌, ◌||◌, ◌∙◌, ◌∷◌, ◌≡◌, ◌≢◌, ◌≤◌, ◌⊎◌}
 pub use Rattle.std.proofs.lemmas.Bool.{and_from, and_parts, and_right, cases_eq, false≢true, lt-leb, lt-ltb, ne_eqb, or_parts, or_right}
 pub use Rattle.std.proofs.lemmas.Option.{get_or_from_slice_get, same_Some, slice_get-get_or}
 pub use Rattle.std.proofs.lemmas.Result.{IfOk-at_ok}

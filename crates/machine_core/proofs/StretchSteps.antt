@@ -1,6 +1,6 @@
 -- Instructions that touch registers alone, one after another, as `run` chooses them on credit: what becomes of the parts of a
 -- machine and of its log.
-use Rattle.machine_core.proofs.Common.{◌≡◌, ◌≢◌, ℕ, ◌+◌, ◌-◌, ◌<◌, ◌≤◌, ◌&&◌, List, [], ◌∷◌, ◌++◌, length, map, refl, sym, ap, ◌∙◌, subst, arith, Bool, true, false, cond, eqb, ltb, leb, get_or, set, slice_get, Option, None, Some, Ok, is_none, is_some, append-nil, suc, eq-eqb, ◌⊎◌, inl, inr, option_and_then, option_map, option_map_or, option_or, with_item, cases_eq, ne_eqb, same_Some, slice_get-get_or, InRange, Choice, Entry, Hart, HartState, History, ImagePage, IsBlockRun, Parts, Saved, Seen, Setting, Sight, executed, here_in_history, ran, sets_register, Tid, instruction_gate, Effect, draws, pick, Generator, generator_in, word, Pick, after_pick-settled, byte_in, all_chosen, choice_at, credit_at, has_ended, next_entry, pick_at, entry_in, history, over_at, done_of, refusal_of, is_held, effect_at, fault_at, others_gate, refusal_exec_by, unless_in_barrier, Here, is_storable, is_writable, memory, reached, runs, waiting_here, fault_by, fetched, next_effect, here_of, plain_after, plain_over, plain_seen, is_local_on, sight_in, stand_of, Stretch, advanced, goes_on, longest, stepped, Steps, length-history, same_here, same_state, credit_of, file_of, file_on, hart_at, IsAfter, answer_to, answered, followed, generators_after, is_followed, is_picked, IsPlanned, and_right, append_assoc, and_parts, and_from, all_stored, written, Outcome, has_credit, on_credit, by_outcome, file_after, none_of_both, credited, changed_as, entry_exec, get_set_other, get_set_same, in_list, none_beside, performing, plain_next, plain_own, runs_there, saved_plain, thread_is}
+use Rattle.machine_core.proofs.Common.{◌≡◌, ◌≢◌, ℕ, ◌+◌, ◌-◌, ◌<◌, ◌≤◌, ◌&&◌, List, [], ◌∷◌, ◌++◌, length, map, refl, sym, ap, ◌∙◌, subst, arith, Bool, true, false, cond, eqb, ltb, leb, get_or, set, slice_get, Option, None, Some, Ok, is_none, is_some, append-nil, suc, eq-eqb, ◌⊎◌, inl, inr, option_and_then, option_map, option_map_or, option_or, with_item, cases_eq, ne_eqb, same_Some, slice_get-get_or, InRange, Choice, Entry, Hart, HartState, History, ImagePage, IsBlockRun, Parts, Saved, Seen, Setting, Sight, executed, here_in_history, ran, sets_register, Tid, instruction_gate, Effect, draws, pick, Generator, generator_in, word, Pick, after_pick-settled, byte_in, all_chosen, choice_at, credit_at, has_ended, next_entry, pick_at, entry_in, history, over_at, done_of, refusal_of, is_held, effect_at, fault_at, others_gate, refusal_exec_by, unless_in_barrier, Here, is_storable, is_writable, memory, reached, runs, waiting_here, fault_by, fetched, next_effect, here_of, plain_after, plain_over, plain_seen, is_local_on, sight_in, stand_of, Stretch, advanced, goes_on, longest, stepped, Steps, length-history, same_here, same_state, credit_of, file_of, file_on, hart_at, IsAfter, answer_to, answered, followed, generators_after, is_followed, is_picked, IsPlanned, and_right, append_assoc, and_parts, and_from, all_stored, written, Outcome, has_credit, on_credit, by_outcome, file_after, none_of_both, credited, changed_as, entry_exec, get_set_other, get_set_same, in_list, none_beside, performing, plain_next, plain_own, runs_there, saved_plain, thread_is, add-zero}
 use Rattle.std.proofs.lemmas.List.{length-append}
 use Rattle.mach_types.specs.Registers.{with_register}
 use Rattle.mach_types.specs.declared.events.Choice.TheVariants as asked
@@ -57,33 +57,32 @@ pub record IsOnWay (s : Setting) (seed : ℕ) (log : List Entry) (m : Parts) (wo
 abbrev at_log : Setting → ℕ → List Entry → Seen
 at_log s seed log = record { setting = s; seed = seed; log = log }
 
-place_on : (s : Setting) (seed : ℕ) (log : List Entry) (m : Parts) (words : List Generator) (h : Hart) (t : Tid) (x : HartState) → IsOnWay s seed log m words h t x → length log < s.limits.steps
-    → IsLogPlace (at_log s seed log) m h.0
-place_on s seed log m words h t x way room =
-    log_place (at_log s seed log) m h.0 way.run way.settled.tied way.limits way.goes room way.lt
+-- the place there, and the state of the hart, which is the plain machine's
+module _ (s : Setting) (seed : ℕ) (log : List Entry) (m : Parts) (words : List Generator) (h : Hart) (t : Tid) (x : HartState) (way : IsOnWay s seed log m words h t x) where
+  place_on : length log < s.limits.steps → IsLogPlace (at_log s seed log) m h.0
+  place_on room = log_place (at_log s seed log) m h.0 way.run way.settled.tied way.limits way.goes room way.lt
 
--- the hart's state is the plain machine's
-pub own_is : (s : Setting) (seed : ℕ) (log : List Entry) (m : Parts) (words : List Generator) (h : Hart) (t : Tid) (x : HartState) → IsOnWay s seed log m words h t x
-    → x ≡ hart_at s (plain_after s log) h.0 (credit_of m.harts.items h.0)
-own_is s seed log m words h t x way =
-    same_Some x (hart_at s (plain_after s log) h.0 (credit_of m.harts.items h.0)) (sym way.there ∙ way.settled.tied.harts h.0 way.lt)
+  pub own_is : x ≡ hart_at s (plain_after s log) h.0 (credit_of m.harts.items h.0)
+  own_is = same_Some x (hart_at s (plain_after s log) h.0 (credit_of m.harts.items h.0)) (sym way.there ∙ way.settled.tied.harts h.0 way.lt)
 
--- so its thread runs there, with its file
-runs_is : (s : Setting) (seed : ℕ) (log : List Entry) (m : Parts) (words : List Generator) (h : Hart) (t : Tid) (x : HartState) → IsOnWay s seed log m words h t x
-    → runs (here_of (at_log s seed log) h.0) ≡ Some t.0
-runs_is s seed log m words h t x way =
-    thread_is (runs (here_of (at_log s seed log) h.0)) t (sym way.busy ∙ ap (λ (y : HartState). y.running) (own_is s seed log m words h t x way))
+  -- so its thread runs there, with its file, and waits in no barrier
+  pub runs_is : runs (here_of (at_log s seed log) h.0) ≡ Some t.0
+  runs_is = thread_is (runs (here_of (at_log s seed log) h.0)) t (sym way.busy ∙ ap (λ (y : HartState). y.running) own_is)
 
-file_is : (s : Setting) (seed : ℕ) (log : List Entry) (m : Parts) (words : List Generator) (h : Hart) (t : Tid) (x : HartState) → IsOnWay s seed log m words h t x
-    → file_of x ≡ (here_of (at_log s seed log) h.0).file t.0
-file_is s seed log m words h t x way =
-    let here = here_of (at_log s seed log) h.0 in
-    ap file_of (own_is s seed log m words h t x way) ∙ ap (λ o. let f : Saved = record { file = (file_on here o).file; pc = (file_on here o).pc } in f) (runs_is s seed log m words h t x way)
+  file_is : file_of x ≡ (here_of (at_log s seed log) h.0).file t.0
+  file_is =
+      let here = here_of (at_log s seed log) h.0 in
+      ap file_of own_is ∙ ap (λ o. let f : Saved = record { file = (file_on here o).file; pc = (file_on here o).pc } in f) runs_is
 
--- and it waits in no barrier
-waits_is : (s : Setting) (seed : ℕ) (log : List Entry) (m : Parts) (words : List Generator) (h : Hart) (t : Tid) (x : HartState) → IsOnWay s seed log m words h t x
-    → (here_of (at_log s seed log) h.0).awaits ≡ None
-waits_is s seed log m words h t x way = sym (ap (λ (y : HartState). y.waits) (own_is s seed log m words h t x way)) ∙ way.no_barrier
+  waits_is : (here_of (at_log s seed log) h.0).awaits ≡ None
+  waits_is = sym (ap (λ (y : HartState). y.waits) own_is) ∙ way.no_barrier
+
+  -- and the run goes on
+  not_ended_on : length log < s.limits.steps → has_ended s (history s log) ≡ false
+  not_ended_on room =
+      let long = length-history s log in
+      let goes : over_at s (history s log) ≡ None = sym (way.settled.tied.ended ∙ ap plain_over (same_state (at_log s seed log) way.run)) ∙ way.goes in
+      not_ended s (history s log) goes (omega (arith, long, room))
 
 -- the next instruction there, which makes no fault and may be executed
 fault_by_effect : (here : Here) (t : ℕ) (rd value to : ℕ) → effect_at here t ≡ Some (effect.Next rd value to) → fault_at here t ≡ None
@@ -181,13 +180,6 @@ next_by : (s : Setting) (seed h : ℕ) (before : History) (o : Option Choice) �
     → next_entry s seed h before ≡ option_map (λ c. entry_in c (here_in_history s before h)) o
 unfolding next_entry
 next_by s seed h before o is = ap (option_map (λ c. entry_in c (here_in_history s before h))) is
-
-not_ended_on : (s : Setting) (seed : ℕ) (log : List Entry) (m : Parts) (words : List Generator) (h : Hart) (t : Tid) (x : HartState) → IsOnWay s seed log m words h t x → length log < s.limits.steps
-    → has_ended s (history s log) ≡ false
-not_ended_on s seed log m words h t x way room =
-    let long = length-history s log in
-    let goes : over_at s (history s log) ≡ None = sym (way.settled.tied.ended ∙ ap plain_over (same_state (at_log s seed log) way.run)) ∙ way.goes in
-    not_ended s (history s log) goes (omega (arith, long, room))
 
 state_is : (pages : List ImagePage) (x : HartState) (a : Stretch) (rd value to k : ℕ) → a.file ≡ file_of x → next_effect pages a.file ≡ Some (effect.Next rd value to) → k ≡ a.credit - 1
     → (let z : HartState = record (moved x rd value to) { credit = k } in z) ≡ after_one (stepped pages a) (a.credit - 1) x
@@ -293,11 +285,8 @@ state_after_none a l x file credit same =
     ap (λ (b : Stretch). state_after b 0 x) (sym same)
     ∙ (ap (λ (f : Saved). let z : HartState = record x { file = f.file; pc = f.pc; credit = a.credit; ran = x.ran + 0; events = x.events + 0 } in z) file
     ∙ (ap (λ n. let z : HartState = record x { credit = n; ran = x.ran + 0; events = x.events + 0 } in z) credit
-    ∙ (ap (λ n. let z : HartState = record x { ran = n; events = x.events + 0 } in z) (none_more x.ran)
-    ∙ ap (λ n. let z : HartState = record x { events = n } in z) (none_more x.events))))
-  where
-    none_more : (n : ℕ) → n + 0 ≡ n
-    none_more n = omega arith
+    ∙ (ap (λ n. let z : HartState = record x { ran = n; events = x.events + 0 } in z) (add-zero x.ran)
+    ∙ ap (λ n. let z : HartState = record x { events = n } in z) (add-zero x.events))))
 
 state_after_more : (a l : Stretch) (credit n : ℕ) (x : HartState) → state_after l n (after_one a credit x) ≡ state_after l (suc n) x
 state_after_more a l credit n x =

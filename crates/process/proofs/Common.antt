@@ -85,7 +85,7 @@ pub use Rattle.rv_inst.specs.Execution.{access_fault, fault_in, has_reserved, in
 pub use Rattle.rv_inst.specs.Sizes.{HasAccessSizes}
 pub use Rattle.rv_inst.specs.declared.effects.Effect.{Effect}
 pub use Rattle.rv_inst.specs.declared.instruction.Inst.{Inst}
-pub use Rattle.std.proofs.Common.{All, AllPairs, Bool, Err, Fits, IfSome, IsOk, IsTrue, List, None, Ok, OnOk, Option, Result, Some, [], add-one, ap, append-nil, arith, cond, drop, eq-eqb, eqb, false, filter, find, get_or, if◌then◌else◌, inl, inr, is_le, is_lt, is_some, length, length-append, ltb, map, max, min, nat_cmp, nat_eq, nat_le, nat_lt, not, position, refl, rules, set, slice_get, slice_index, subst, suc, sym, take, true, w8, zero, ℕ, ◌%◌, ◌&&◌, ◌*◌, ◌++◌, ◌+◌, ◌-◌, ◌/◌, ◌<◌, ◌^◌, ◌||◌, ◌↔◌, ◌∙◌, ◌∷◌, ◌≡◌, ◌≢◌, ◌≤◌, ◌⊎◌}
+pub use Rattle.std.proofs.Common.{All, AllPairs, Bool, Err, Fits, IfSome, IsOk, IsTrue, List, None, Ok, OnOk, Option, Result, Some, [], add-one, add-zero, ap, append-nil, arith, cond, drop, eq-eqb, eqb, false, filter, find, get_or, if◌then◌else◌, inl, inr, is_le, is_lt, is_some, length, length-append, ltb, map, max, min, nat_cmp, nat_eq, nat_le, nat_lt, not, position, refl, rules, set, slice_get, slice_index, subst, suc, sym, take, true, w8, zero, ℕ, ◌%◌, ◌&&◌, ◌*◌, ◌++◌, ◌+◌, ◌-◌, ◌/◌, ◌<◌, ◌^◌, ◌||◌, ◌↔◌, ◌∙◌, ◌∷◌, ◌≡◌, ◌≢◌, ◌≤◌, ◌⊎◌}
 pub use Rattle.std.proofs.Math.Path.{fun_ext}
 pub use Rattle.std.proofs.Math.Seq.{take-length}
 pub use Rattle.std.proofs.lemmas.Bool.{OnTrue_at, and_from, and_parts, and_right, cases_eq, cases_lt, cond_both, eqb-true, false≢true, le-ltb, lt-leb, lt-ltb, ltb-false, ne_eqb, not-false, not-true, not_from_false, or_right}
@@ -95,7 +95,7 @@ pub use Rattle.std.proofs.lemmas.List.{drop_all, get_or-map, get_or-set_other, g
 pub use Rattle.std.proofs.lemmas.List.Edits.{map_over_more}
 pub use Rattle.std.proofs.lemmas.List.Folds.{Any-from_list_any, list_any-from_Any, list_any_more}
 pub use Rattle.std.proofs.lemmas.List.Kept.{AllPairs-filter, AllPairs-from_increasing}
-pub use Rattle.std.proofs.lemmas.Option.{get_or_from_slice_get, same_Some, slice_get-get_or, slice_get_past, slice_get_read, slice_get_within}
+pub use Rattle.std.proofs.lemmas.Option.{get_or_from_slice_get, none-some, same_Some, slice_get-get_or, slice_get_past, slice_get_read, slice_get_within}
 pub use Rattle.std.specs.List.{AllByRecursion, Any, list_any, position_or_len}
 pub use Rattle.std.specs.List.Sorted.{IsBinarySearchResult, IsStrictlyIncreasing}
 pub use Rattle.std.specs.Option.{IsSome, option_and_then, option_map, option_map_or, option_or}

@@ -1,7 +1,6 @@
 -- The event done: whose barrier returns, and the parts after it.
-use Rattle.process.proofs.Common.{◌≡◌, ◌≢◌, ℕ, append-nil, refl, sym, ap, ◌∙◌, eq-eqb, Option, Some, None, option_map, ne_eqb, Tid, HartState, Here, Plain, Setting, Why, counted, file_among, hart_at, hart_in, here_in_plain, refusal_of, runs, thread, Idle, done_done_by, refusal_done_by, refusal_return, gone_on}
+use Rattle.process.proofs.Common.{◌≡◌, ◌≢◌, ℕ, append-nil, refl, sym, ap, ◌∙◌, eq-eqb, Option, Some, None, option_map, ne_eqb, Tid, HartState, Here, Plain, Setting, Why, counted, file_among, hart_at, hart_in, here_in_plain, refusal_of, runs, thread, Idle, done_done_by, refusal_done_by, refusal_return, gone_on, add-zero}
 use Rattle.mach_types.specs.declared.events.Choice.TheVariants as asked
-use Rattle.process.proofs.HartEvents.{zero_more}
 use Rattle.process.proofs.HartStates.{own_after}
 
 -- why none does, as the hart tells it
@@ -31,7 +30,7 @@ returner here free = go (runs here) refl free
 -- the own hart
 pub returned_own : (credit : ℕ) (s : Setting) (p : Plain) (h t : ℕ) (x y : HartState) → x ≡ hart_at s p h credit → runs (here_in_plain s p h) ≡ Some t → y ≡ counted (gone_on x)
     → y ≡ own_after s p h (done_done_by (here_in_plain s p h) (Some t)) credit
-returned_own credit s p h t x y at runs is = is ∙ rw (at, append-nil, zero_more (p.ran h), runs, eq-eqb t t refl) refl
+returned_own credit s p h t x y at runs is = is ∙ rw (at, append-nil, add-zero (p.ran h), runs, eq-eqb t t refl) refl
 
 -- it sets the file of no other thread
 pub file_apart : (here : Here) (t u : ℕ) → u ≢ t → file_among (done_done_by here (Some t)).files u (here.file u) ≡ here.file u

@@ -14,7 +14,7 @@ same_length (x ∷ xs) (y ∷ ys) same = ap suc (same_length xs ys (λ k. same (
 abbrev pub HaveLost : ℕ → Done → List HartState → List HartState → Type 0
 HaveLost h d xs ys = (k : ℕ) → slice_get ys k ≡ option_map (lost_unless (eqb k h) d.entered) (slice_get xs k)
 
-pub mapped_is : (f : HartState → HartState) (o : Option HartState) → is_some (option_map f o) ≡ is_some o
+pub mapped_is : {A B : Type 0} (f : A → B) (o : Option A) → is_some (option_map f o) ≡ is_some o
 mapped_is f None = refl
 mapped_is f (Some x) = refl
 

@@ -1,5 +1,7 @@
 -- Stores that wait on pages, and the gate of the next instruction.
 use Rattle.process.proofs.Common.{and_right, not-true, ◌≡◌, ℕ, zero, suc, ◌+◌, ◌-◌, ◌/◌, ◌<◌, ◌≤◌, List, [], ◌∷◌, length, take, get_or, refl, sym, ap, ◌∙◌, arith, Bool, true, false, cond, not, ◌&&◌, ◌||◌, Option, Some, None, is_some, nat_le, nat_lt, list_any, option_or, le-ltb, take-length, list_any_more, slice_get-get_or, each_byte, is_in, HartState, IsTied, Next, Parts, Plain, Setting, Stand, Store, Why, exec_refusal, hart_at, here_at, runs, Idle, InBarrier, instruction_gate, Neighbour, or_in_segment, lies_waiting_on, is_held, next_effect, next_fault, others_gate, refusal_exec, unless_in_barrier, IsNextAt, lies_in, lies_outside, nat_tests, each_byte-fails, not-false, not_from_false, ◌↔◌, min, max, IsTrue, Any, Any-from_list_any, list_any-from_Any, covers, PageRun, is_in_segment, lies_on, AreOfSegment}
+use Rattle.std.proofs.Math.Bool.{or_comm}
+use Rattle.std.specs.Cmp.{both_ways}
 use Rattle.mach_types.proofs.Laws.{each_byte-same}
 use Rattle.store_buffers.specs.Pages.{HasByteAmong}
 use Rattle.sys_calls.specs.Remapped.{has_page}
@@ -54,14 +56,9 @@ lies_among pages w lies =
     let on = has_page-tells pages (is.byte / 4096) (not-false (has_page pages (is.byte / 4096)) is.fails) in
     (is.byte, covers-from w is.byte is.low is.high, on.0, on.1)
 
-same_truth : (a b : Bool) → (a ≡ true → b ≡ true) → (b ≡ true → a ≡ true) → a ≡ b
-same_truth true b to from = sym (to refl)
-same_truth false true to from = from refl
-same_truth false false to from = refl
-
 -- what a buffer answers
 pub touches_is : (pages : PageSpan) (ws : List Store) (r : Bool) → IsTrue r ↔ Any (HasByteAmong pages.first pages.count) ws → r ≡ list_any (lies_in pages) ws
-touches_is pages ws r told = same_truth r (list_any (lies_in pages) ws)
+touches_is pages ws r told = both_ways r (list_any (lies_in pages) ws)
     (λ is. let has = told.0 is in list_any-from_Any (lies_in pages) ws (has.0, has.1, has.2, has.3, among_lies pages has.1 has.4))
     (λ is. let has = Any-from_list_any (lies_in pages) ws is in told.1 (has.0, has.1, has.2, has.3, lies_among pages has.1 has.4))
 
@@ -140,9 +137,6 @@ any_same : (beside : Option Neighbour) (pages kept : PageSpan) (r : PageRun) (ws
 any_same beside pages kept r ws same shared = ap (λ (test : Store → Bool). list_any test ws) (λ i w. lies_same beside pages kept r w same shared i)
 
 -- the harts' buffers are the plain machine's
-or_swapped : (a b : Bool) → (a || b) ≡ (b || a)
-or_swapped a b = grind arith
-
 module _ (beside : Option Neighbour) (pages kept : PageSpan) (r : PageRun) (waiting : ℕ → List Store) (xs : List HartState) (some : HartState)
     (same : (n : ℕ) → has_page pages n ≡ is_in r n) (shared : AreOfSegment beside kept) (harts : (k : ℕ) → k < length xs → (get_or xs k some).buffer ≡ waiting k)
   where
@@ -156,7 +150,7 @@ module _ (beside : Option Neighbour) (pages kept : PageSpan) (r : PageRun) (wait
         let more : n + 1 ≡ suc n = omega arith in
         ap (λ k. list_any waits (take k xs)) (sym more)
         ∙ list_any_more waits xs n some lt
-        ∙ or_swapped (list_any waits (take n xs)) (waits (get_or xs n some))
+        ∙ or_comm (list_any waits (take n xs)) (waits (get_or xs n some))
         ∙ ap (λ b. b || list_any waits (take n xs)) (ap (list_any (lies_outside pages kept)) (harts n lt) ∙ any_same beside pages kept r (waiting n) same shared)
         ∙ ap (λ b. list_any (lies_on beside r) (waiting n) || b) (first_wait n (omega arith))
 

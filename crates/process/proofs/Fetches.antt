@@ -1,5 +1,5 @@
 -- The instruction word at an address that is a multiple of 4: its four bytes lie in one page.
-use Rattle.process.proofs.Common.{nat_tests, ◌≡◌, ◌≢◌, ℕ, ◌+◌, ◌*◌, ◌/◌, ◌%◌, ◌<◌, ◌&&◌, List, [], ◌∷◌, map, Option, Some, None, Bool, true, false, cond, nat_le, nat_lt, nat_eq, nat_cmp, refl, ap, sym, ◌∙◌, arith, option_map, ne_eqb, is_in, permission_of, ImagePage, code_word, image_run, page_of, return_run, stack_run, start_runs, word_of_page, lt-leb, is_le, is_lt, slice_index, joined, can_execute, code_byte, image_byte, page_byte, word_in}
+use Rattle.process.proofs.Common.{nat_tests, ◌≡◌, ◌≢◌, ℕ, ◌+◌, ◌*◌, ◌/◌, ◌%◌, ◌&&◌, List, [], ◌∷◌, map, Option, Some, None, Bool, true, false, cond, nat_le, nat_lt, nat_eq, nat_cmp, refl, ap, sym, ◌∙◌, arith, option_map, ne_eqb, is_in, permission_of, ImagePage, code_word, image_run, page_of, return_run, stack_run, start_runs, word_of_page, is_le, is_lt, slice_index, joined, can_execute, code_byte, image_byte, page_byte, word_in}
 
 -- a byte of page n at an offset, where it may be executed
 abbrev pub code_in : List ImagePage → ℕ → ℕ → Option ℕ
@@ -63,7 +63,3 @@ pub word_of_image : (pages : List ImagePage) (a : ℕ) → a % 4 ≡ 0 → is_in
 word_of_image pages a aligned stack other =
     let not_return : is_in return_run (a / 4096) ≡ false = one_page 0x3FFFFF0 (a / 4096) ∙ ne_eqb 0x3FFFFF0 (a / 4096) (λ e. other (sym e)) in
     four_bytes pages a aligned ∙ (rw (stack, not_return) (by_page (page_of pages (a / 4096)) (permission_of (map image_run pages) (a / 4096)) (a % 4096) (permission-image pages (a / 4096))))
-
--- below the stack only pages of the image lie
-pub word_below_stack : (pages : List ImagePage) (a : ℕ) → a % 4 ≡ 0 → a / 4096 < 0x3FFFF00 → code_word pages a ≡ word_of_page (page_of pages (a / 4096)) (a % 4096)
-word_below_stack pages a aligned low = word_of_image pages a aligned (rw (lt-leb 0x3FFFF00 (a / 4096) low) refl) (λ is. omega (arith, low, is))

@@ -1,23 +1,20 @@
 -- The own hart after each kind of event.
-use Rattle.process.proofs.Common.{◌≡◌, ℕ, ◌+◌, ◌<◌, List, ◌∷◌, drop, refl, ◌∙◌, arith, true, Some, None, append-nil, eq-eqb, no_registers, HartState, IsTables, Plain, Saved, Setting, Store, by_call, by_outcome, counted, file_among, files_interrupted, hart_at, here_in_plain, is_ready, runs, thread, entered, hart_after, killed_in_call, done_drain_of, done_preempt_by, done_killed, done_running, id_of, with_id, begun_without, left_idle, ran_runs}
+use Rattle.process.proofs.Common.{◌≡◌, ℕ, ◌+◌, ◌<◌, List, ◌∷◌, drop, refl, ◌∙◌, true, Some, None, append-nil, eq-eqb, no_registers, HartState, IsTables, Plain, Saved, Setting, Store, by_call, by_outcome, counted, file_among, files_interrupted, hart_at, here_in_plain, is_ready, runs, thread, entered, hart_after, killed_in_call, done_drain_of, done_preempt_by, done_killed, done_running, id_of, with_id, begun_without, left_idle, ran_runs, add-zero}
 use Rattle.mach_types.specs.declared.sequences.Outcome.{Outcome as Comes}
 use Rattle.rv_inst.specs.Execution.{Outcome}
 use Rattle.process.proofs.ExecEvent.{fault_killing, fault_pending}
 use Rattle.process.proofs.HartStates.{own_after}
 
-pub zero_more : (n : ℕ) → n + 0 ≡ n
-zero_more n = omega arith
-
 -- drain
 pub drain_own : (credit : ℕ) (s : Setting) (p : Plain) (h : ℕ) (w : Store) (ws : List Store) (x y : HartState) → x ≡ hart_at s p h credit →
     y ≡ record x { buffer = drop 1 x.buffer; events = x.events + 1 } → y ≡ own_after s p h (done_drain_of (here_in_plain s p h) (w ∷ ws)) credit
-drain_own credit s p h w ws x y at is = is ∙ rw (at, append-nil, zero_more (p.ran h)) refl
+drain_own credit s p h w ws x y at is = is ∙ rw (at, append-nil, add-zero (p.ran h)) refl
 
 -- preempt
 pub preempt_own : (credit : ℕ) (s : Setting) (p : Plain) (h t : ℕ) (x y : HartState) → x ≡ hart_at s p h credit → IsTables s.limits.harts p.kernel.threads p.kernel.scheduling → runs (here_in_plain s p h) ≡ Some t →
     y ≡ record x { file = no_registers; pc = 0; running = None; reserved = None; cid = 0; events = x.events + 1 } → y ≡ own_after s p h (done_preempt_by (here_in_plain s p h) (Some t)) credit
 preempt_own credit s p h t x y at tables runs is =
-    is ∙ rw (at, append-nil, zero_more (p.ran h), left_idle s.limits.harts h t p.kernel.threads p.kernel.scheduling tables runs) refl
+    is ∙ rw (at, append-nil, add-zero (p.ran h), left_idle s.limits.harts h t p.kernel.threads p.kernel.scheduling tables runs) refl
 
 -- run, where the thread begins to run, and where the process is killed
 pub run_own : (credit : ℕ) (s : Setting) (p : Plain) (h t : ℕ) (o : Comes) (saved : Saved) (id : ℕ) (x y : HartState) → x ≡ hart_at s p h credit → IsTables s.limits.harts p.kernel.threads p.kernel.scheduling →

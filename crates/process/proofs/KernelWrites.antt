@@ -1,5 +1,5 @@
 -- What the kernel writes by an event: the pointer of an area that an interruption clears, and behind it the words of the area or the frame of a handler.
-use Rattle.process.proofs.Common.{◌≡◌, ◌≢◌, ℕ, List, [], ◌++◌, append-nil, refl, sym, ap, ◌∙◌, Bool, true, false, cond, is_some, Option, Some, None, option_and_then, option_map, same_Some, interruption, pc_after, words_on, writes_of, mask_of, Choice, Entry, Tid, Area, Done, Hart, Here, IsPlace, Outcome, Parts, Saved, Stand, Write, area_here, area_of, byte_in, can_write_in, done_of, here_at, interruption_here, next_id, refusal_of, runs, areas_by_number, entry_in, number_of, thread_in, done_done_by, done_preempt_by, done_killed, done_run, done_running, lives_on, done_delivery, file_interrupted, handled_unless_killed, kills, kills_unhandled, done_take_by, killed_by, can_write_words, words_to, IsInterrupted, frame_unless, killer_of, foreseen_writes, interrupts, area_on, done_run_by}
+use Rattle.process.proofs.Common.{◌≡◌, ◌≢◌, ℕ, List, [], ◌++◌, append-nil, refl, sym, ap, ◌∙◌, Bool, true, false, cond, is_some, Option, Some, None, option_and_then, option_map, same_Some, interruption, pc_after, words_on, writes_of, mask_of, Choice, Entry, Tid, Area, Done, Hart, Here, IsPlace, Outcome, Parts, Saved, Stand, Write, area_here, area_of, byte_in, can_write_in, done_of, here_at, interruption_here, next_id, refusal_of, runs, areas_by_number, entry_in, number_of, thread_in, done_done_by, done_preempt_by, done_killed, done_run, done_running, lives_on, done_delivery, file_interrupted, handled_unless_killed, kills, kills_unhandled, done_take_by, killed_by, can_write_words, words_to, IsInterrupted, frame_unless, killer_of, foreseen_writes, interrupts, area_on, done_run_by, none-some}
 use Rattle.mach_types.specs.Events.{kind_of, nature_of}
 use Rattle.mach_types.specs.declared.events.Choice.TheVariants as asked
 use Rattle.mach_types.specs.declared.events.Interruption.{Interruption}
@@ -83,12 +83,9 @@ nothing_foreseen c here free none = sym (writes_none here c refl refl)
 
 -- ONE THREAD IS INTERRUPTED
 
-fatal : (o : Outcome) → is_some (killed_by o) ≡ true → is_fatal o ≡ true
-fatal (comes_to.Killed why) dies = refl
-fatal o dies = cc
-
-nothing_comes : {A : Type 0} {x : A} → Some x ≡ None → ⊥
-nothing_comes is = cc
+fatal_is : (o : Outcome) → is_fatal o ≡ is_some (killed_by o)
+fatal_is (comes_to.Killed why) = refl
+fatal_is o = refl
 
 -- the kinds of events in which something follows an interruption that kills nothing
 abbrev pub is_following : Interruption → Bool
@@ -99,10 +96,6 @@ is_following Signalled = true
 
 abbrev pub is_followed : Choice → Bool
 is_followed c = is_following (nature_of (kind_of c)).interruption
-
-pub kills_none : (o : Outcome) → is_some (killed_by o) ≡ false → is_fatal o ≡ false
-kills_none (comes_to.Killed why) lives = cc
-kills_none o lives = refl
 
 -- where requests are taken
 take_writes : (here : Here) (b : Bool) (r : Option ℕ) (t : ℕ) (area : Option Area) (o : Outcome) → r ≡ Some t → area ≡ area_here here t → o ≡ interruption_here here t
@@ -144,15 +137,15 @@ killed_foreseen (asked.Run t) here area o free there is dies =
     let same : there.thread ≡ t.0 = same_Some there.thread t.0 (sym there.at) in
     let has : area ≡ area_here here t.0 = there.has ∙ ap (area_here here) same in
     let comes : o ≡ interruption_here here t.0 = there.comes ∙ ap (interruption_here here) same in
-    ap (λ a. writes_of a o) has ∙ sym (killed_run here t.0 o (fatal o dies)) ∙ ap (λ p. (done_run_by here t.0 p).entered) comes
+    ap (λ a. writes_of a o) has ∙ sym (killed_run here t.0 o (fatal_is o ∙ dies)) ∙ ap (λ p. (done_run_by here t.0 p).entered) comes
 killed_foreseen asked.Signal here area o free there is dies =
     let its = receiving here free in
     let same : there.thread ≡ its.thread = same_Some there.thread its.thread (sym there.at ∙ its.at) in
     let has : area ≡ area_here here its.thread = there.has ∙ ap (area_here here) same in
     let comes : o ≡ interruption_here here its.thread = there.comes ∙ ap (interruption_here here) same in
-    ap (λ a. writes_of a o) has ∙ sym (killed_delivery here its.thread its.signal o (fatal o dies))
+    ap (λ a. writes_of a o) has ∙ sym (killed_delivery here its.thread its.signal o (fatal_is o ∙ dies))
     ∙ ap (λ p. (done_delivery here its.thread its.signal p).entered) comes ∙ sym (ap (λ (d : Done). d.entered) its.done)
-killed_foreseen c here area o free there is dies = absurd (nothing_comes (is ∙ interrupted_is c here free))
+killed_foreseen c here area o free there is dies = absurd (none-some o (sym (is ∙ interrupted_is c here free)))
 
 -- nothing follows it where requests are taken either
 pub take_foreseen : (c : Choice) (here : Here) (area : Option Area) (o : Outcome) → refusal_of c here ≡ None → IsForeseen c here area o → Some o ≡ (done_of c here).interrupted
@@ -160,7 +153,7 @@ pub take_foreseen : (c : Choice) (here : Here) (area : Option Area) (o : Outcome
 take_foreseen asked.Take here area o free there is alone = take_writes here here.restart (runs here) there.thread area o there.at there.has there.comes is
 take_foreseen (asked.Run t) here area o free there is alone = absurd cc
 take_foreseen asked.Signal here area o free there is alone = absurd cc
-take_foreseen c here area o free there is alone = absurd (nothing_comes (is ∙ interrupted_is c here free))
+take_foreseen c here area o free there is alone = absurd (none-some o (sym (is ∙ interrupted_is c here free)))
 
 -- the words follow it where a thread begins to run
 pub run_foreseen : (c : Choice) (here : Here) (t : Tid) (area : Option Area) (o : Outcome) → c ≡ asked.Run t → IsForeseen c here area o → is_some (killed_by o) ≡ false
@@ -169,7 +162,7 @@ run_foreseen c here t area o is there lives =
     let same : there.thread ≡ t.0 = same_Some there.thread t.0 (sym there.at ∙ ap (λ (k : Choice). thread_in k here) is) in
     let has : area ≡ area_here here t.0 = there.has ∙ ap (area_here here) same in
     let comes : o ≡ interruption_here here t.0 = there.comes ∙ ap (interruption_here here) same in
-    run_writes here t.0 area o has comes (kills_none o lives) ∙ sym (ap (λ (k : Choice). foreseen_writes k here) is)
+    run_writes here t.0 area o has comes (fatal_is o ∙ lives) ∙ sym (ap (λ (k : Choice). foreseen_writes k here) is)
 
 -- and the frame where a signal is delivered
 pub signal_foreseen : (here : Here) (o : Outcome) → refusal_of asked.Signal here ≡ None → (done_of asked.Signal here).interrupted ≡ Some o → is_some (killed_by o) ≡ false
@@ -180,7 +173,7 @@ signal_foreseen here o free is lives its =
     let s = its.signal in
     let comes : interruption_here here t ≡ o =
     same_Some (interruption_here here t) o (ap (option_map (interruption_here here)) (sym its.at) ∙ sym (interrupted_is asked.Signal here free) ∙ is) in
-    ap (λ killer. writes_of (area_here here t) o ++ frame_unless killer (file_interrupted here t o) (mask_of t here.kernel.signals)) (sym (unhandled here t s o (kills_none o lives)))
+    ap (λ killer. writes_of (area_here here t) o ++ frame_unless killer (file_interrupted here t o) (mask_of t here.kernel.signals)) (sym (unhandled here t s o (fatal_is o ∙ lives)))
     ∙ sym (delivery_writes here t s o (kills here t s o)) ∙ ap (λ p. (done_delivery here t s p).entered) (sym comes) ∙ sym (ap (λ (d : Done). d.entered) its.done)
 
 -- as the parts tell it

@@ -1,6 +1,6 @@
 -- Barriers on harts: which harts run threads, and the harts beside one that asks, or that takes its requests.
-use Rattle.process.proofs.Common.{◌≡◌, ◌≢◌, ℕ, zero, suc, ◌+◌, ◌-◌, ◌<◌, ◌≤◌, ◌^◌, List, set, refl, sym, ap, ◌∙◌, arith, Bool, true, false, cond, eqb, eq-eqb, ◌||◌, Option, Some, None, is_some, slice_get, ne_eqb, option_map, option_map_or, slice_get_past, HartState, Here, IsPlace, IsTied, Parts, Plain, Setting, Stand, asked_by, by_call, harts_that, is_busy, lost_unless, running_on, thread, CallDone, running_harts, with_hart, has_hart}
-use Rattle.process.proofs.Events.{AreBeside}
+use Rattle.process.proofs.Common.{◌≡◌, ◌≢◌, ℕ, zero, suc, ◌+◌, ◌-◌, ◌<◌, ◌≤◌, ◌^◌, List, set, refl, sym, ap, ◌∙◌, arith, Bool, true, false, cond, eqb, eq-eqb, ◌||◌, Option, Some, None, is_some, slice_get, ne_eqb, option_map, option_map_or, slice_get_past, HartState, Here, IsPlace, IsTied, Parts, Plain, Setting, Stand, asked_by, by_call, harts_that, is_busy, lost_unless, running_on, thread, CallDone, running_harts, with_hart, has_hart, add-zero}
+use Rattle.process.proofs.Events.{AreBeside, mapped_is}
 use Rattle.process.proofs.HartStates.{beside_unless, get_set_other, get_set_same, of_each}
 
 -- two tests that agree on the first so many harts give one set
@@ -12,19 +12,12 @@ same_harts f g (suc n) same =
     rw (rest, last) refl
 
 -- the harts that run threads are those on which the plain machine's threads run
-is_run : (o : Option ℕ) → is_some (option_map thread o) ≡ is_some o
-is_run None = refl
-is_run (Some t) = refl
-
-plus_none : (n : ℕ) → n + 0 ≡ n
-plus_none n = omega arith
-
 past_all : (f : ℕ → Bool) (n d : ℕ) → ((k : ℕ) → n ≤ k → f k ≡ false) → harts_that f (n + d) ≡ harts_that f n
-past_all f n zero none = ap (harts_that f) (plus_none n)
+past_all f n zero none = ap (harts_that f) (add-zero n)
 past_all f n (suc d) none =
     let next : n + suc d ≡ suc (n + d) = omega arith in
     let last = none (n + d) (omega arith) in
-    ap (harts_that f) next ∙ ap (λ b. harts_that f (n + d) + cond b (2 ^ (n + d)) 0) last ∙ plus_none (harts_that f (n + d)) ∙ past_all f n d none
+    ap (harts_that f) next ∙ ap (λ b. harts_that f (n + d) + cond b (2 ^ (n + d)) 0) last ∙ add-zero (harts_that f (n + d)) ∙ past_all f n d none
 
 pub running_tied : (s : Setting) (p : Plain) (m : Parts) → IsTied s p m → s.limits.harts ≤ 8
     → harts_that (is_busy m.harts.items) 8 ≡ running_harts p.kernel.threads s.limits.harts
@@ -36,7 +29,7 @@ running_tied s p m tied few =
     ∙ past_all (is_busy m.harts.items) n (8 - n)
     (λ k past. ap (λ o. option_map_or (λ (x : HartState). is_some x.running) o false) (slice_get_past m.harts.items k (omega (arith, all, past))))
     ∙ same_harts (is_busy m.harts.items) (λ k. is_some (running_on k p.kernel.threads)) n
-    (λ k lt. ap (λ o. option_map_or (λ (x : HartState). is_some x.running) o false) (tied.harts k lt) ∙ is_run (running_on k p.kernel.threads))
+    (λ k lt. ap (λ o. option_map_or (λ (x : HartState). is_some x.running) o false) (tied.harts k lt) ∙ mapped_is thread (running_on k p.kernel.threads))
 
 pub running_here : (v : Stand) (m : Parts) (h : ℕ) → IsPlace v m h
     → harts_that (is_busy m.harts.items) 8 ≡ running_harts v.plain.kernel.threads v.setting.limits.harts

@@ -1,5 +1,5 @@
 -- A plain instruction that was executed is the one that was planned, and what it did is its event.
-use Rattle.process.proofs.Common.{◌≡◌, ℕ, ◌+◌, Bool, true, false, cond, ◌&&◌, List, [], is_some, get_or, set, not, refl, sym, ap, ◌∙◌, subst, Some, None, option_or, all_stored, is_call, HasAccessSizes, hart_after, is_held, refusal_exec, fetched, Effect, Hart, HartState, ImagePage, IsNextAt, IsPlace, IsPlanned, IsUncounted, Parts, Plain, Setting, Stand, byte_in, by_outcome, can_write_in, counted, credit_of, done_of, exec_refusal, hart_at, here_at, here_in_plain, runs, file_of, stepped, Others, IsPlainStep, IsAlone}
+use Rattle.process.proofs.Common.{◌≡◌, ℕ, ◌+◌, Bool, true, false, cond, ◌&&◌, List, [], is_some, get_or, set, refl, sym, ap, ◌∙◌, subst, Some, None, option_or, all_stored, is_call, HasAccessSizes, hart_after, is_held, refusal_exec, fetched, Effect, Hart, HartState, ImagePage, IsNextAt, IsPlace, IsPlanned, IsUncounted, Parts, Plain, Setting, Stand, byte_in, by_outcome, can_write_in, counted, credit_of, done_of, exec_refusal, hart_at, here_at, here_in_plain, runs, file_of, stepped, Others, IsPlainStep, IsAlone}
 use Rattle.mach_types.specs.declared.events.Choice.TheVariants as asked
 use Rattle.rv_inst.specs.Execution.{Outcome}
 use Rattle.block_model.specs.Instruction.{next_effect}
@@ -13,10 +13,6 @@ use Rattle.process.proofs.NextInstruction.{gate_at, next_read, planned}
 use Rattle.process.proofs.Places.{hart_is, runs_there}
 use Rattle.process.proofs.PlainInstructions.{performing, plain_next}
 use Rattle.process.proofs.SavedFiles.{saved_plain}
-
-pub was_some : (b : Bool) → not b ≡ false → b ≡ true
-was_some true is = refl
-was_some false is = cc
 
 -- it waits for no other hart
 others_of_plain : (held b : Bool) → b ≡ false → None ≡ option_or None (cond (b && held) (Some Others) None)

@@ -1,9 +1,8 @@
 -- The event of a signal: who receives it, and the parts after it.
-use Rattle.process.proofs.Common.{◌≡◌, ◌≢◌, ℕ, List, [], ◌∷◌, append-nil, refl, sym, ap, ◌∙◌, subst, Bool, cond, eqb, not, is_some, length, Option, Some, None, slice_get, option_and_then, option_map, ne_eqb, same_Some, AreSaved, Done, Hart, HartState, Here, IsPlace, IsUncounted, IsWritten, Kernel, Map, Outcome, Parts, Plain, Running, Saved, Setting, Stand, Store, Why, Write, area_of, counted, credit_of, done_of, file_among, file_on, hart_at, hart_in, here_at, here_in_plain, interruption_here, lost_unless, refusal_of, runs, state_of, thread, Idle, InBarrier, Waiting, IsTable, Table, running_saves_nothing, HoldsTables, holds_signals, unless_in_barrier, unless_waiting, handled_unless_killed, kills, IsChanged, IsDelivered, IsInterrupted, done_here, ended_unless, next_on, NoSignal, next_for, done_next, done_signal_by, refusal_delivery, refusal_signal_by, gone_on_with}
+use Rattle.process.proofs.Common.{◌≡◌, ◌≢◌, ℕ, List, [], ◌∷◌, append-nil, refl, sym, ap, ◌∙◌, subst, Bool, cond, eqb, not, is_some, length, Option, Some, None, slice_get, option_and_then, option_map, ne_eqb, same_Some, AreSaved, Done, Hart, HartState, Here, IsPlace, IsUncounted, IsWritten, Kernel, Map, Outcome, Parts, Plain, Running, Saved, Setting, Stand, Store, Why, Write, area_of, counted, credit_of, done_of, file_among, file_on, hart_at, hart_in, here_at, here_in_plain, interruption_here, lost_unless, refusal_of, runs, state_of, thread, Idle, InBarrier, Waiting, IsTable, Table, running_saves_nothing, HoldsTables, holds_signals, unless_in_barrier, unless_waiting, handled_unless_killed, kills, IsChanged, IsDelivered, IsInterrupted, done_here, ended_unless, next_on, NoSignal, next_for, done_next, done_signal_by, refusal_delivery, refusal_signal_by, gone_on_with, add-zero}
 use Rattle.process.proofs.SavedFiles.{saved_but_one}
 use Rattle.mach_types.specs.declared.events.Choice.TheVariants as asked
 use Rattle.process.proofs.Entries.{uncounted_as}
-use Rattle.process.proofs.HartEvents.{zero_more}
 use Rattle.process.proofs.HartStates.{own_after}
 use Rattle.process.proofs.Interruptions.{begun_beside}
 use Rattle.process.proofs.Memory.{pages_written, readable_written}
@@ -75,8 +74,8 @@ some_store (w ∷ ws) some = refl
 delivered_own : (credit : ℕ) (s : Setting) (p : Plain) (h t signal : ℕ) (o : Outcome) (killer : Option ℕ) (saved : Saved) (x y : HartState) → x ≡ hart_at s p h credit → runs (here_in_plain s p h) ≡ Some t
     → saved ≡ file_among (handled_unless_killed (here_in_plain s p h) t signal o killer).files t (p.file t) → y ≡ counted (gone_on_with saved x)
     → y ≡ own_after s p h (handled_unless_killed (here_in_plain s p h) t signal o killer) credit
-delivered_own credit s p h t signal o None saved x y at runs kept is = is ∙ rw (at, append-nil, zero_more (p.ran h), runs, kept) refl
-delivered_own credit s p h t signal o (Some killer) saved x y at runs kept is = is ∙ rw (at, append-nil, zero_more (p.ran h), runs, kept) refl
+delivered_own credit s p h t signal o None saved x y at runs kept is = is ∙ rw (at, append-nil, add-zero (p.ran h), runs, kept) refl
+delivered_own credit s p h t signal o (Some killer) saved x y at runs kept is = is ∙ rw (at, append-nil, add-zero (p.ran h), runs, kept) refl
 
 -- WHAT IS KEPT
 

@@ -1,9 +1,8 @@
 -- The event take: what the interruption of the hart's thread comes to, if it is to restart, and the parts after it.
-use Rattle.process.proofs.Common.{◌≡◌, ◌≢◌, ℕ, List, [], append-nil, refl, sym, ap, ◌∙◌, subst, Bool, true, false, cond, eqb, eq-eqb, Option, Some, None, slice_get, set, ne_eqb, option_and_then, option_map, option_or, interruption, pc_after, writes_of, AreSaved, Area, Done, End, Hart, HartState, Here, IsPlace, IsUncounted, IsWritten, Map, Outcome, Parts, Plain, Saved, Setting, Stand, Write, area_here, byte_in, can_write_in, counted, credit_of, done_of, file_among, files_interrupted, hart_at, hart_in, here_at, here_in_plain, interruption_here, is_writable, lost_unless, memory, refusal_of, runs, unless_waiting, done_take, done_take_by, killed_by, ended_by, NoRequest, only_took, took_and_interrupted, IsRestarted, noticed, restart_here, taken_or_noticed, taken_with}
+use Rattle.process.proofs.Common.{◌≡◌, ◌≢◌, ℕ, List, [], append-nil, refl, sym, ap, ◌∙◌, subst, Bool, true, false, cond, eqb, eq-eqb, Option, Some, None, slice_get, set, ne_eqb, option_and_then, option_map, option_or, interruption, pc_after, writes_of, AreSaved, Area, Done, End, Hart, HartState, Here, IsPlace, IsUncounted, IsWritten, Map, Outcome, Parts, Plain, Saved, Setting, Stand, Write, area_here, byte_in, can_write_in, counted, credit_of, done_of, file_among, files_interrupted, hart_at, hart_in, here_at, here_in_plain, interruption_here, is_writable, lost_unless, memory, refusal_of, runs, unless_waiting, done_take, done_take_by, killed_by, ended_by, NoRequest, only_took, took_and_interrupted, IsRestarted, noticed, restart_here, taken_or_noticed, taken_with, add-zero}
 use Rattle.mach_types.specs.declared.events.Choice.TheVariants as asked
 use Rattle.process.proofs.Entries.{uncounted_as}
 use Rattle.process.proofs.Events.{AreBeside, lost_nothing}
-use Rattle.process.proofs.HartEvents.{zero_more}
 use Rattle.process.proofs.HartStates.{beside, beside_unless, get_set_other, get_set_same, of_each, own_after}
 use Rattle.process.proofs.Interruptions.{file_is, none_written}
 use Rattle.process.proofs.Memory.{pages_written, readable_written}
@@ -112,14 +111,14 @@ take_beside here h files ws comes came ended xs ys zs x at lost took k = took k 
 -- the own hart: its thread, if one runs, goes on at this pc
 took_own : (credit : ℕ) (s : Setting) (p : Plain) (h : ℕ) (came : Option Outcome) (ended : Option End) (x : HartState) → x ≡ hart_at s p h credit
     → counted (taken_with None x) ≡ own_after s p h (done_so (here_in_plain s p h) [] [] came ended) credit
-took_own credit s p h came ended x at = rw (at, append-nil, zero_more (p.ran h)) refl
+took_own credit s p h came ended x at = rw (at, append-nil, add-zero (p.ran h)) refl
 
 interrupted_own : (credit : ℕ) (s : Setting) (p : Plain) (h t : ℕ) (o : Outcome) (ended : Option End) (ws : List Write) (x : HartState) → x ≡ hart_at s p h credit → runs (here_in_plain s p h) ≡ Some t
     → counted (taken_with (Some o) x) ≡ own_after s p h (done_so (here_in_plain s p h) (files_interrupted (here_in_plain s p h) t o) ws (Some o) ended) credit
 interrupted_own credit s p h t o ended ws x at runs =
     let file : record (p.file t) { pc = pc_after (p.file t).pc o } ≡ file_among (files_interrupted (here_in_plain s p h) t o) t (p.file t) =
     file_is (here_in_plain s p h) t o (p.file t) refl in
-    rw (at, append-nil, zero_more (p.ran h), runs, ← file) refl
+    rw (at, append-nil, add-zero (p.ran h), runs, ← file) refl
 
 -- THE PARTS AFTER IT
 

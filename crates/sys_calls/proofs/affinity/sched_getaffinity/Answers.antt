@@ -1,5 +1,6 @@
 -- The harts of the thread that is named.
-use Rattle.sys_calls.proofs.Common.{◌≡◌, ℕ, ◌%◌, Bool, true, false, not, ◌||◌, cond, eqb, List, [], ◌∷◌, ◌++◌, Ok, Err, nat_lt, refl, sym, ap, subst, ◌∙◌, EFAULT, EINVAL, ESRCH, Here, HoldsTables, IsAnswered, IsRead, Kernel, Map, Saved, Threads, Write, can_write_in, each_byte, int_in, is_live, register, Scheduling, affinity_of, CallDone, Errors, double_written, said, unless, cond-false, sched_getaffinity}
+use Rattle.sys_calls.proofs.Common.{◌≡◌, ℕ, ◌%◌, Bool, true, false, not, ◌||◌, cond, eqb, List, [], ◌∷◌, ◌++◌, Ok, Err, nat_lt, sym, ap, subst, ◌∙◌, EFAULT, EINVAL, ESRCH, Here, HoldsTables, IsAnswered, IsRead, Kernel, Map, Saved, Threads, Write, can_write_in, each_byte, int_in, is_live, register, Scheduling, affinity_of, CallDone, Errors, double_written, said, unless, cond-false, sched_getaffinity}
+use Rattle.std.proofs.lemmas.Bool.{not-true}
 use Rattle.sys_calls.proofs.GuestMemory.{argument_is, int_argument_is, met, unmet}
 use Rattle.sys_calls.proofs.CallAnswers.{answered_said, answered_wrote}
 use Rattle.sys_calls.proofs.affinity.sched_getaffinity.Goals as goal
@@ -7,13 +8,6 @@ use Rattle.sys_calls.proofs.affinity.sched_getaffinity.Goals as goal
 -- no size for a set
 abbrev no_size : ℕ → Bool
 no_size len = nat_lt len 8 || not (eqb (len % 8) 0)
-
-sized : (len : ℕ) (b : Bool) → b ≡ not (no_size len) → b ≡ true → no_size len ≡ false
-sized len b is e = go (no_size len) (sym is ∙ e)
-  where
-    go : (c : Bool) → not c ≡ true → c ≡ false
-    go true e = cc
-    go false e = refl
 
 -- the tests are asked of the page map, of the threads and of the registers; the harts are those of the tables
 abbrev tests : (ℕ → Bool) → Threads → ℕ → ℕ → ℕ → Errors
@@ -39,7 +33,7 @@ returns-then-not-writable-clause-answered c = λ h told read.
     let m = c.args.pages.now in
     let is = tests_are h k m t c.args.saved.now told read c.int_argument-named.result c.int_argument-len.result c.argument-at.result
     c.int_argument-named.ensures c.int_argument-len.ensures c.argument-at.ensures
-    ∙ cond-false _ _ _ (sized c.int_argument-len.result c.is_set_size.result c.is_set_size.ensures c.if-not-is_set_size.false)
+    ∙ cond-false _ _ _ (not-true _ (sym c.is_set_size.ensures ∙ c.if-not-is_set_size.false))
     ∙ cond-false _ _ _ (sym c.names_nobody.ensures ∙ c.if-names_nobody.false) ∙ unmet _ _ (sym c.writable.ensures ∙ c.if-not-writable.true) in
     subst (λ (w : List Write). IsAnswered h t k m k m w (Err EFAULT) (sched_getaffinity h t)) (sym c.requires.fresh) (answered_said h t k m (Err EFAULT) (sched_getaffinity h t) told is)
 
@@ -54,7 +48,7 @@ returns-clause-answered c = λ h told read.
     let is : sched_getaffinity h t ≡ record (said h t 8) { entered = ws } =
     tests_are h k c.args.pages.now t c.args.saved.now told read c.int_argument-named.result c.int_argument-len.result at
     c.int_argument-named.ensures c.int_argument-len.ensures c.argument-at.ensures
-    ∙ cond-false _ _ _ (sized c.int_argument-len.result c.is_set_size.result c.is_set_size.ensures c.if-not-is_set_size.false)
+    ∙ cond-false _ _ _ (not-true _ (sym c.is_set_size.ensures ∙ c.if-not-is_set_size.false))
     ∙ cond-false _ _ _ (sym c.names_nobody.ensures ∙ c.if-names_nobody.false) ∙ met _ _ (sym c.writable.ensures ∙ c.if-not-writable.false)
     ∙ ap (λ (n : ℕ). record (said h t 8) { entered = double_written at n ∷ [] }) (sym harts) in
     let done = answered_wrote h t k c.args.pages.now m' (Ok 8) ws told c.write_double.ensures.entered in

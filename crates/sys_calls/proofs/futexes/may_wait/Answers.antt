@@ -20,9 +20,6 @@ tests_are h k m t saved told read at timeout p q =
     sym (λ i. unless h t (tests (read.bytes i) (at_is i) (int_argument_is h t saved read.file 2 i) (timeout_is i) (next_for t (told.signals i))) (waits h t))
 
 -- the word, as it is read
-same_word : (n word wanted w : ℕ) → n ≡ word → w ≡ wanted → n ≡ w → eqb word wanted ≡ true
-same_word n word wanted w p q e = eq-eqb word wanted (sym p ∙ e ∙ q)
-
 other_word : (n word wanted w : ℕ) → n ≡ word → w ≡ wanted → n ≢ w → eqb word wanted ≡ false
 other_word n word wanted w p q ne = ne_eqb word wanted (λ e. ne (p ∙ e ∙ sym q))
 
@@ -41,12 +38,12 @@ pub returns-then-is_some-clause-refused : goal.returns-then-is_some-clause-refus
 returns-then-is_some-clause-refused c = λ h told read.
     tests_are h c.args.kernel.now c.args.pages.now c.args.tid.0 c.args.saved.now told read c.argument-at.result c.argument.result c.argument-at.ensures c.argument.ensures
     ∙ met _ _ (eq-eqb c.argument.result 0 c.if-argument-ne0.false) ∙ met _ _ (sym c.readable.ensures ∙ c.if-not-readable.false)
-    ∙ met _ _ (same_word _ _ _ _ c.number_at.ensures (c.from.ensures ∙ c.int_argument.ensures) c.if-number_at-from.false)
+    ∙ met _ _ (eq-eqb _ _ (sym c.number_at.ensures ∙ c.if-number_at-from.false ∙ (c.from.ensures ∙ c.int_argument.ensures)))
     ∙ cond-true _ _ _ (sym (ap (λ (o : Option ℕ). is_some o) c.next_for.ensures) ∙ sym c.is_some.ensures ∙ c.if-is_some.true)
 
 pub returns-clause-waits : goal.returns-clause-waits
 returns-clause-waits c = λ h told read.
     tests_are h c.args.kernel.now c.args.pages.now c.args.tid.0 c.args.saved.now told read c.argument-at.result c.argument.result c.argument-at.ensures c.argument.ensures
     ∙ met _ _ (eq-eqb c.argument.result 0 c.if-argument-ne0.false) ∙ met _ _ (sym c.readable.ensures ∙ c.if-not-readable.false)
-    ∙ met _ _ (same_word _ _ _ _ c.number_at.ensures (c.from.ensures ∙ c.int_argument.ensures) c.if-number_at-from.false)
+    ∙ met _ _ (eq-eqb _ _ (sym c.number_at.ensures ∙ c.if-number_at-from.false ∙ (c.from.ensures ∙ c.int_argument.ensures)))
     ∙ cond-false _ _ _ (sym (ap (λ (o : Option ℕ). is_some o) c.next_for.ensures) ∙ sym c.is_some.ensures ∙ c.if-is_some.false)

@@ -1,5 +1,6 @@
 -- The bytes are one span.
-use Rattle.sys_calls.proofs.Common.{◌≡◌, ℕ, ◌-◌, ◌≤◌, ◌<◌, Bool, true, false, ◌&&◌, List, [], ◌∷◌, ◌++◌, length, take, Option, is_some, sym, ap, ◌∙◌, arith, append-nil, Ok, Err, EFAULT, ENOSPC, CONSOLE_ROOM, Here, IsRead, Map, Saved, are_readable, argument, byte_in, each_byte, memory, register, Span, all_readable, bytes_from, bytes_of, is_elsewhere, room, total, cond-false, write}
+use Rattle.sys_calls.proofs.Common.{◌≡◌, ℕ, ◌-◌, ◌≤◌, ◌<◌, Bool, true, false, List, [], ◌∷◌, ◌++◌, length, take, Option, is_some, sym, ap, ◌∙◌, arith, append-nil, Ok, Err, EFAULT, ENOSPC, CONSOLE_ROOM, Here, IsRead, Map, Saved, are_readable, argument, byte_in, each_byte, memory, register, Span, all_readable, bytes_from, bytes_of, is_elsewhere, room, total, cond-false, write}
+use Rattle.std.proofs.Math.Bool.{and-true}
 use Rattle.sys_calls.proofs.GuestMemory.{argument_is, readable_at}
 use Rattle.sys_calls.proofs.CallAnswers.{answered_printed, answered_said}
 use Rattle.sys_calls.proofs.ConsoleWrites.{spans_full, spans_unreadable, spans_wrote}
@@ -8,10 +9,6 @@ use Rattle.sys_calls.proofs.writing.write.Goals as goal
 abbrev one : Here → ℕ → List Span
 one h t = record { at = argument h t 1; len = argument h t 2 } ∷ []
 
-and_true : (b c : Bool) → b ≡ c → (b && true) ≡ c
-and_true true c e = e
-and_true false c e = e
-
 -- the one span: some bytes, and whether they can be read
 some_bytes : (h : Here) (t n : ℕ) → n ≡ argument h t 2 → (n ≡ 0 → ⊥) → total (one h t) ≡ 0 → ⊥
 some_bytes h t n is ne none = ne (omega arith)
@@ -19,8 +16,8 @@ some_bytes h t n is ne none = ne (omega arith)
 readable_one : (h : Here) (t at n : ℕ) (m : Map) (b r : Bool) (saved : Saved) → IsRead h m t saved → at ≡ register saved.file 11 → n ≡ register saved.file 12
     → r ≡ each_byte (λ a. is_some (byte_in m a)) at n → r ≡ b → all_readable h (one h t) ≡ b
 readable_one h t at n m b r saved read at-is n-is e d =
-    and_true (are_readable h (argument h t 1) (argument h t 2)) b
-    (sym (readable_at h m t saved read at (argument h t 1) n (argument h t 2) (at-is ∙ argument_is h t saved read.file 1) (n-is ∙ argument_is h t saved read.file 2)) ∙ sym e ∙ d)
+    and-true (are_readable h (argument h t 1) (argument h t 2))
+    ∙ sym (readable_at h m t saved read at (argument h t 1) n (argument h t 2) (at-is ∙ argument_is h t saved read.file 1) (n-is ∙ argument_is h t saved read.file 2)) ∙ sym e ∙ d
 
 pub returns-then-not-readable-clause-answered : goal.returns-then-not-readable-clause-answered
 returns-then-not-readable-clause-answered c = λ h t told read.

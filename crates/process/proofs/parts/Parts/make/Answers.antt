@@ -1,4 +1,4 @@
-use Rattle.process.proofs.Common.{sym, ◌∙◌, IsUncounted, done_of, here_at}
+use Rattle.process.proofs.Common.{rules, sym, ◌∙◌, IsUncounted, done_of, here_at}
 use Rattle.std.proofs.lemmas.Result.{IfOk-at_ok}
 use Rattle.process.proofs.parts.Parts.make.Goals as goal
 
@@ -14,9 +14,4 @@ returns-in-Ok-clause-answer c v place alone = sym c.in-Ok.is ∙ c.made.ensures.
 pub returns-in-Ok-clause-after : goal.returns-in-Ok-clause-after
 returns-in-Ok-clause-after c v place alone =
     let h = c.args.hart.0 in
-    (IfOk-at_ok (λ e. IsUncounted v h (done_of c.args.choice (here_at v h)) c.args.self.now c.made.new.self) c.in-Ok.is (c.made.ensures.made v place alone)).after c.count.new.self (record {
-      harts = c.count.ensures.harts;
-      pages = c.count.ensures.pages;
-      kernel = c.count.ensures.kernel;
-      ended = c.count.ensures.ended;
-    })
+    (IfOk-at_ok (λ e. IsUncounted v h (done_of c.args.choice (here_at v h)) c.args.self.now c.made.new.self) c.in-Ok.is (c.made.ensures.made v place alone)).after c.count.new.self (search rules)

@@ -1,4 +1,5 @@
 -- A call and its count.
+use Rattle.process.proofs.Common.{rules}
 use Rattle.process.proofs.parts.Parts.make_call.Goals as goal
 
 pub count-requires : goal.count-requires
@@ -6,9 +7,4 @@ count-requires c = (c.call_with_writes-written.ensures.made c.requires.stand c.r
 
 pub returns-clause-after : goal.returns-clause-after
 returns-clause-after c v place plan =
-    (c.call_with_writes-written.ensures.made v place plan).after c.count.new.self (record {
-      harts = c.count.ensures.harts;
-      pages = c.count.ensures.pages;
-      kernel = c.count.ensures.kernel;
-      ended = c.count.ensures.ended;
-    })
+    (c.call_with_writes-written.ensures.made v place plan).after c.count.new.self (search rules)

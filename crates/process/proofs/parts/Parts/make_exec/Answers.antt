@@ -1,4 +1,4 @@
-use Rattle.std.proofs.Common.{sym, subst, ◌∙◌}
+use Rattle.std.proofs.Common.{rules, sym, subst, ◌∙◌}
 use Rattle.std.specs.Prelude.{◌≡◌, IfSome, Ok}
 use Rattle.std.proofs.lemmas.Result.{IfOk-at_ok}
 use Rattle.process.proofs.Common.{IsPlace, IsUncounted, Parts, done_of, here_at}
@@ -22,12 +22,7 @@ returns-in-Some-clause-answer c v place alone =
 pub returns-in-Some-clause-after : goal.returns-in-Some-clause-after
 returns-in-Some-clause-after c v place alone =
     let h = c.args.hart.0 in
-    (subst (λ r. IfSome r (λ e. IsUncounted v h (done_of asked.Exec (here_at v h)) c.args.self.now c.exec_plain.new.self)) c.in-Some.is (c.exec_plain.ensures.made v place alone)).after c.count.new.self (record {
-      harts = c.count.ensures.harts;
-      pages = c.count.ensures.pages;
-      kernel = c.count.ensures.kernel;
-      ended = c.count.ensures.ended;
-    })
+    (subst (λ r. IfSome r (λ e. IsUncounted v h (done_of asked.Exec (here_at v h)) c.args.self.now c.exec_plain.new.self)) c.in-Some.is (c.exec_plain.ensures.made v place alone)).after c.count.new.self (search rules)
 
 pub count-requires-in-Ok : goal.count-requires-in-Ok
 count-requires-in-Ok c =
@@ -46,12 +41,7 @@ returns-in-Ok-clause-after c v place alone =
     let there = subst (λ (m : Parts). IsPlace v m h) (sym c.in-None.ensures.none) place in
     let made = subst (λ (m : Parts). IsUncounted v h (done_of asked.Exec (here_at v h)) m c.exec_any.new.self) c.in-None.ensures.none
     (IfOk-at_ok (λ e. IsUncounted v h (done_of asked.Exec (here_at v h)) c.exec_plain.new.self c.exec_any.new.self) c.in-Ok.is (c.exec_any.ensures.made v there alone)) in
-    made.after c.count-in-Ok.new.self (record {
-      harts = c.count-in-Ok.ensures.harts;
-      pages = c.count-in-Ok.ensures.pages;
-      kernel = c.count-in-Ok.ensures.kernel;
-      ended = c.count-in-Ok.ensures.ended;
-    })
+    made.after c.count-in-Ok.new.self (search rules)
 
 pub returns-in-Err-clause-answer : goal.returns-in-Err-clause-answer
 returns-in-Err-clause-answer c v place alone =

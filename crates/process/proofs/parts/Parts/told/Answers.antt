@@ -1,11 +1,7 @@
-use Rattle.process.proofs.Common.{◌≡◌, ℕ, sym, ap, ◌∙◌, eqb, List, slice_get, option_map, after_writes, Words, words_entered, words_on, words_written, Write, byte_in, lost_unless}
+use Rattle.process.proofs.Common.{sym, ap, ◌∙◌, eqb, List, slice_get, option_map, after_writes, Words, words_entered, words_on, words_written, Write, byte_in, lost_unless}
 use Rattle.process.proofs.Events.{lost_nothing}
 use Rattle.process.proofs.Interruptions.{told_all, told_answer, told_none, told_pages, words_visible}
 use Rattle.process.proofs.parts.Parts.told.Goals as goal
-
--- the words of a hart and an id
-words_are : {cpu hart cid id : ℕ} → cpu ≡ hart → cid ≡ id → words_on cpu cid ≡ words_on hart id
-words_are p q = λ i. words_on (p i) (q i)
 
 pub returns-then-not-set_cpu-clause-answer : goal.returns-then-not-set_cpu-clause-answer
 returns-then-not-set_cpu-clause-answer c h same =
@@ -15,9 +11,8 @@ pub returns-then-not-set_cpu-clause-pages : goal.returns-then-not-set_cpu-clause
 returns-then-not-set_cpu-clause-pages c h same =
     let m = c.args.self.now.pages in
     let area = c.in-Some.area in
-    let is = words_are c.from-cpu.ensures c.from-cid.ensures in
     told_pages h m c.set_cpu.new.mem c.args.area area _ c.set_cpu.result c.in-Some.is same c.set_cpu.ensures.answer c.set_cpu.ensures.alike
-    (λ a. c.set_cpu.ensures.bytes a ∙ ap (λ (w : Words). after_writes (words_entered c.set_cpu.result area w) (byte_in m) a) is)
+    (λ a. c.set_cpu.ensures.bytes a ∙ ap (λ (w : Words). after_writes (words_entered c.set_cpu.result area w) (byte_in m) a) (λ i. words_on (c.from-cpu.ensures i) (c.from-cid.ensures i)))
 
 pub returns-then-not-set_cpu-clause-harts : goal.returns-then-not-set_cpu-clause-harts
 returns-then-not-set_cpu-clause-harts c h k same =
@@ -38,9 +33,8 @@ pub returns-clause-pages : goal.returns-clause-pages
 returns-clause-pages c h same =
     let m = c.args.self.now.pages in
     let area = c.in-Some.area in
-    let is = words_are c.from-cpu.ensures c.from-cid.ensures in
     rw c.lose.ensures.pages (told_pages h m c.set_cpu.new.mem c.args.area area _ c.set_cpu.result c.in-Some.is same c.set_cpu.ensures.answer c.set_cpu.ensures.alike
-    (λ a. c.set_cpu.ensures.bytes a ∙ ap (λ (w : Words). after_writes (words_entered c.set_cpu.result area w) (byte_in m) a) is))
+    (λ a. c.set_cpu.ensures.bytes a ∙ ap (λ (w : Words). after_writes (words_entered c.set_cpu.result area w) (byte_in m) a) (λ i. words_on (c.from-cpu.ensures i) (c.from-cid.ensures i))))
 
 pub returns-clause-harts : goal.returns-clause-harts
 returns-clause-harts c h k same =
@@ -48,5 +42,5 @@ returns-clause-harts c h k same =
     let xs = c.args.self.now.harts.items in
     c.lose.ensures.harts k
     ∙ ap (λ (ws : List Write). option_map (lost_unless (eqb k c.args.hart.0) ws) (slice_get xs k))
-    (c.words_written.ensures ∙ ap (words_written c.in-Some.area) (words_are c.from-cpu.ensures c.from-cid.ensures)
+    (c.words_written.ensures ∙ ap (words_written c.in-Some.area) (λ i. words_on (c.from-cpu.ensures i) (c.from-cid.ensures i))
     ∙ told_all h m c.args.area c.in-Some.area (words_on c.args.hart.0 c.args.id) c.in-Some.is same (sym c.set_cpu.ensures.answer ∙ c.if-not-set_cpu.false))
