@@ -42,8 +42,8 @@ pub struct Drawing {
 
 impl Drawing {
     /// The weights of the next event.
-    pub(crate) fn weights(&self) -> Weights
-        ensures { result ≡ drawings.current self.now }
+    pub(crate) fn weights(&self) -> &'static Weights
+        ensures { result.now ≡ drawings.current self.now }
     {
         if self.left == 0 {
             Policy::Fair.weights()
@@ -136,7 +136,7 @@ impl Drawing {
     {
         let place = hart as usize;
         turn_of(
-            &self.weights(),
+            self.weights(),
             sight,
             threads,
             self.ran[place],
