@@ -65,7 +65,7 @@ impl Drawing {
     }
 
     /// The last hart goes on by its credit.
-    pub(crate) fn go_on(&mut self) -> DrawnEvent
+    pub fn go_on(&mut self) -> DrawnEvent
         requires { 0 < self.old.credit }
         ensures event { result ≡ drawings.event_of (drawings.on_credit self.old) }
         ensures kept { self.new ≡ (drawings.on_credit self.old).after }

@@ -4,6 +4,7 @@ mod Boot
 mod ChoiceCredits
 mod Common
 mod CreditSteps
+mod FreeEvents
 mod FreeSteps
 pub mod Laws
 mod MachineCredits

@@ -8,6 +8,7 @@ mod drain;
 mod exec;
 mod exec_gate;
 mod foresight;
+mod free;
 mod handlers;
 mod hart_view;
 mod interrupt;

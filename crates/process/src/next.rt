@@ -102,7 +102,7 @@ pub fn effect_at(code: &Code, file: &Regs, pc: u64) -> Option<Effect>
 
 /// [`effect_at`] of any instruction, also where the code doesn't keep it.
 #[inline(never)]
-fn other_effect(code: &Code, file: &Regs, pc: u64) -> Option<Effect>
+pub(crate) fn other_effect(code: &Code, file: &Regs, pc: u64) -> Option<Effect>
     ensures effect { result ≡ next_effect code.now (record { file = file.now; pc = pc }) }
     ensures sizes { IfSome result HasAccessSizes }
 {
