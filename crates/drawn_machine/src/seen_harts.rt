@@ -77,7 +77,7 @@ impl SeenHarts<'_> {
         if state.is_idle() || state.waits.is_some() {
             return false;
         }
-        self.is_drained() || self.machine.sight(hart).exec_enabled
+        self.is_drained() || self.machine.may_execute(hart)
     }
 
     /// The same of a hart that can make an event, where the first so many harts are open: if no store of it waits, that is an

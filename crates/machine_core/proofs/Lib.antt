@@ -9,6 +9,7 @@ mod FreeSteps
 pub mod Laws
 mod MachineCredits
 mod MachineSteps
+mod OpenSteps
 mod Readings
 mod Sights
 mod StretchAppends
