@@ -99,6 +99,7 @@ impl Drawing {
     }
 
     /// What a hart that can make an event does in its turn.
+    #[inline(always)]
     pub(crate) fn turn_at<H: Harts>(&self, harts: &H, hart: u8, word: Word) -> Option<Turn>
         requires hart { hart < (H.scene harts.now).harts }
         requires opened { self.now.opened ≤ 8 }
@@ -129,6 +130,7 @@ impl Drawing {
     }
 
     /// What a hart of which this is seen does in its turn where these threads may begin to run there.
+    #[inline(always)]
     fn turn_with(&self, hart: u8, sight: &Sight, threads: &[u32], word: Word) -> Option<Turn>
         requires { hart < 8 }
         ensures { result ≡ turn (drawings.current self.now) sight.now threads.now

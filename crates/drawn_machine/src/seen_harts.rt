@@ -34,6 +34,7 @@ fn is_zero(set: Option<u8>) -> bool
 
 impl SeenHarts<'_> {
     /// Whether there is a ready thread that may begin to run on a hart, where the first so many harts are open.
+    #[inline(never)]
     fn has_startable(&self, hart: Hart, opened: u8) -> bool
         requires { opened ≤ 8 }
         ensures { result
@@ -113,6 +114,7 @@ impl Harts for SeenHarts<'_> {
         }
     }
 
+    #[inline(always)]
     fn look(&self, hart: Hart, opened: u8) -> Sight {
         let state = self.machine.hart(hart);
         Sight {
