@@ -2,13 +2,13 @@ use Rattle.std.proofs.Common.{◌∙◌, sym, subst}
 use Rattle.block_model.specs.Setting.{Seen}
 use Rattle.drawn_machine.specs.OnTheWay.{IsOnItsWay}
 use Rattle.drawn_machine.proofs.DrawnSteps.{IsDrawnNext, is_for, never_refused, of_its_machine, some_event, way_more}
-use Rattle.drawn_machine.proofs.SeenScenes.{none_begins}
+use Rattle.drawn_machine.proofs.SeenScenes.{are_listed}
 use Rattle.drawn_machine.proofs.drawn_run.draw_next.Goals as goal
 
 pub invariant_of-next_drawn : goal.invariant_of-next_drawn
 invariant_of-next_drawn c =
     let way = c.requires.drawn in
-    record { few = c.requires.limits.eight_harts; starts = none_begins c.args.machine.now way.1.block_run }
+    record { few = c.requires.limits.eight_harts; listed = are_listed c.args.machine.now way.1.block_run }
 
 pub next_drawn-requires-clause-harts : goal.next_drawn-requires-clause-harts
 next_drawn-requires-clause-harts c =

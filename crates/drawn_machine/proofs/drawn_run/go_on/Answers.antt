@@ -5,13 +5,13 @@ use Rattle.drawn_machine.specs.OnTheWay.{IsOnItsWay}
 use Rattle.drawn_machine.specs.Scenes.{scene_of}
 use Rattle.drawn_machine.proofs.DrawnSteps.{goes_by_credit, goes_on, is_for, kept_on_credit, next_on_credit, stops_inside, stops_unfree, stops_without, way_more}
 use Rattle.drawn_machine.proofs.Inside.{exec_is}
-use Rattle.drawn_machine.proofs.SeenScenes.{none_begins}
+use Rattle.drawn_machine.proofs.SeenScenes.{are_listed}
 use Rattle.drawn_machine.proofs.drawn_run.go_on.Goals as goal
 
 pub invariant_of-is_inside : goal.invariant_of-is_inside
 invariant_of-is_inside c =
     let way = c.requires.drawn in
-    record { few = c.requires.limits.eight_harts; starts = none_begins c.args.machine.now way.1.block_run }
+    record { few = c.requires.limits.eight_harts; listed = are_listed c.args.machine.now way.1.block_run }
 
 pub is_inside-requires : goal.is_inside-requires
 is_inside-requires c =
