@@ -1,7 +1,6 @@
 //! The policies, and how often each does what.
 
 ghost use Rattle.std.specs.Prelude.{◌≡◌};
-ghost use Rattle.draw_policies.specs.Policies as spec;
 ghost use Rattle.draw_policies.specs.Policies.{policies_of_word, policy_for, policy_of_seed, weights_of, word_of};
 
 /// How a run is drawn.
@@ -83,22 +82,80 @@ pub struct Weights {
     pub draws: bool,
 }
 
-/// Weights of which these three differ by the policy, and the others are those of most.
-fn drawn(stay: u16, preempt: u16, drain: u16) -> Weights
-    ensures { result ≡ spec.drawn stay preempt drain }
-{
-    Weights {
-        stay,
-        preempt,
-        drain,
-        take: 50,
-        signal: 50,
-        credit: 256,
-        alone: false,
-        by_priority: false,
-        draws: true,
-    }
-}
+/// The weights of most policies, but for the first three.
+const MOST: Weights = Weights {
+    stay: 0,
+    preempt: 0,
+    drain: 0,
+    take: 50,
+    signal: 50,
+    credit: 256,
+    alone: false,
+    by_priority: false,
+    draws: true,
+};
+
+/// The weights of [`Policy::One`].
+const ONE: Weights = Weights {
+    preempt: 15,
+    drain: 250,
+    take: 20,
+    signal: 20,
+    credit: 0,
+    alone: true,
+    ..MOST
+};
+
+/// The weights of [`Policy::Long`].
+const LONG: Weights = Weights {
+    stay: 970,
+    preempt: 30,
+    drain: 60,
+    ..MOST
+};
+
+/// The weights of [`Policy::Short`].
+const SHORT: Weights = Weights {
+    stay: 800,
+    preempt: 10,
+    drain: 30,
+    ..MOST
+};
+
+/// The weights of [`Policy::Pos`].
+const POS: Weights = Weights {
+    preempt: 30,
+    by_priority: true,
+    ..MOST
+};
+
+/// The weights of [`Policy::Spread`].
+const SPREAD: Weights = Weights {
+    preempt: 30,
+    drain: 30,
+    ..MOST
+};
+
+/// The weights of [`Policy::Rule`].
+const RULE: Weights = Weights {
+    stay: 1000,
+    take: 1000,
+    signal: 1000,
+    credit: 0,
+    draws: false,
+    ..MOST
+};
+
+/// The weights of [`Policy::Fair`].
+const FAIR: Weights = Weights {
+    stay: 969,
+    preempt: 8,
+    drain: 1000,
+    take: 1000,
+    signal: 125,
+    credit: 0,
+    ..MOST
+};
 
 impl Policy {
     /// The policy of a seed: the first five in turn, by the seed modulo 5.
@@ -135,37 +192,17 @@ impl Policy {
     }
 
     /// How often it does what.
-    pub fn weights(self) -> Weights
-        ensures { result ≡ weights_of self }
+    pub fn weights(self) -> &'static Weights
+        ensures { result.now ≡ weights_of self }
     {
         match self {
-            Policy::One => Weights {
-                take: 20,
-                signal: 20,
-                credit: 0,
-                alone: true,
-                ..drawn(0, 15, 250)
-            },
-            Policy::Long => drawn(970, 30, 60),
-            Policy::Short => drawn(800, 10, 30),
-            Policy::Pos => Weights {
-                by_priority: true,
-                ..drawn(0, 30, 0)
-            },
-            Policy::Spread => drawn(0, 30, 30),
-            Policy::Rule => Weights {
-                take: 1000,
-                signal: 1000,
-                credit: 0,
-                draws: false,
-                ..drawn(1000, 0, 0)
-            },
-            Policy::Fair => Weights {
-                take: 1000,
-                signal: 125,
-                credit: 0,
-                ..drawn(969, 8, 1000)
-            },
+            Policy::One => &ONE,
+            Policy::Long => &LONG,
+            Policy::Short => &SHORT,
+            Policy::Pos => &POS,
+            Policy::Spread => &SPREAD,
+            Policy::Rule => &RULE,
+            Policy::Fair => &FAIR,
         }
     }
 }

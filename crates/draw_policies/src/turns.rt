@@ -147,6 +147,7 @@ fn aimless(weights: &Weights, sight: &Sight, word: Word) -> Turn
 }
 
 /// What a hart does whose thread runs, and waits in no barrier.
+#[inline(always)]
 fn running_turn(weights: &Weights, sight: &Sight, held: Option<Aim>, word: Word) -> Turn
     ensures { result ≡ turns.running_turn weights.now sight.now held word.0 }
 {
@@ -159,6 +160,7 @@ fn running_turn(weights: &Weights, sight: &Sight, held: Option<Aim>, word: Word)
 /// What a hart does in its turn, of which this is seen, by one word: these threads may begin to run there,
 /// one ran there last, and it means to do this. None exactly where it is idle, and has no request and no such
 /// thread.
+#[inline(always)]
 pub fn turn_of(
     weights: &Weights,
     sight: &Sight,

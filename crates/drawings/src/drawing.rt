@@ -42,8 +42,8 @@ pub struct Drawing {
 
 impl Drawing {
     /// The weights of the next event.
-    pub(crate) fn weights(&self) -> Weights
-        ensures { result ≡ drawings.current self.now }
+    pub(crate) fn weights(&self) -> &'static Weights
+        ensures { result.now ≡ drawings.current self.now }
     {
         if self.left == 0 {
             Policy::Fair.weights()
@@ -65,7 +65,7 @@ impl Drawing {
     }
 
     /// The last hart goes on by its credit.
-    pub(crate) fn go_on(&mut self) -> DrawnEvent
+    pub fn go_on(&mut self) -> DrawnEvent
         requires { 0 < self.old.credit }
         ensures event { result ≡ drawings.event_of (drawings.on_credit self.old) }
         ensures kept { self.new ≡ (drawings.on_credit self.old).after }
@@ -99,6 +99,7 @@ impl Drawing {
     }
 
     /// What a hart that can make an event does in its turn.
+    #[inline(always)]
     pub(crate) fn turn_at<H: Harts>(&self, harts: &H, hart: u8, word: Word) -> Option<Turn>
         requires hart { hart < (H.scene harts.now).harts }
         requires opened { self.now.opened ≤ 8 }
@@ -129,6 +130,7 @@ impl Drawing {
     }
 
     /// What a hart of which this is seen does in its turn where these threads may begin to run there.
+    #[inline(always)]
     fn turn_with(&self, hart: u8, sight: &Sight, threads: &[u32], word: Word) -> Option<Turn>
         requires { hart < 8 }
         ensures { result ≡ turn (drawings.current self.now) sight.now threads.now
@@ -136,7 +138,7 @@ impl Drawing {
     {
         let place = hart as usize;
         turn_of(
-            &self.weights(),
+            self.weights(),
             sight,
             threads,
             self.ran[place],

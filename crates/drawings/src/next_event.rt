@@ -1,6 +1,6 @@
 //! The next event of a drawing.
 
-ghost use Rattle.std.specs.Prelude.{◌≡◌, ◌<◌, ◌/◌, true, option_map};
+ghost use Rattle.std.specs.Prelude.{◌≡◌, ◌<◌, ◌/◌, false, true, option_map};
 ghost use Rattle.drawings.specs.Drawings as drawings;
 ghost use Rattle.drawings.specs.Priorities as priorities;
 ghost use Rattle.drawings.specs.Scenes.{is_able};
@@ -23,7 +23,21 @@ impl Drawing {
     {
         if self.goes_on(harts) {
             Some(self.go_on())
-        } else if self.weights().by_priority {
+        } else {
+            self.next_drawn(harts)
+        }
+    }
+
+    /// The same where the last hart doesn't go on by its credit: the event is drawn by priorities or by a
+    /// word.
+    #[tactic(auto, unfolding(crate::specs::Drawings::draw))]
+    pub fn next_drawn<H: Harts>(&mut self, harts: &H) -> Option<DrawnEvent>
+        requires harts { drawings.IsFor (H.scene harts.now).harts self.old }
+        requires drawn { drawings.goes_on (H.scene harts.now) self.old ≡ false }
+        ensures event { result ≡ option_map drawings.event_of (drawings.draw (H.scene harts.now) self.old) }
+        ensures kept { self.new ≡ drawings.kept_after (drawings.draw (H.scene harts.now) self.old) self.old }
+    {
+        if self.weights().by_priority {
             self.next_by_priority(harts)
         } else {
             self.next_by_word(harts)

@@ -7,7 +7,7 @@ ghost use Rattle.chooser.specs.Generators.{first_generator};
 
 use crate::drawing::Drawing;
 use crate::priorities::{ACTORS, Lots};
-use draw_policies::{Policy, Weights};
+use draw_policies::Policy;
 use mach_types::Hart;
 use rand_core::SeedableRng;
 use rand_core::utils::NextWord;
@@ -17,8 +17,8 @@ use rand_xoshiro::Xoshiro256PlusPlus;
 fn opens_by_word(policy: Policy, harts: u8) -> bool
     ensures { result ≡ starts.opens_by_word policy harts }
 {
-    let Weights { draws, alone, .. } = policy.weights();
-    draws && !alone && harts > 1
+    let weights = policy.weights();
+    weights.draws && !weights.alone && harts > 1
 }
 
 /// How many harts are open where no word says it, of so many: hart 0 alone, or all.

@@ -1,5 +1,5 @@
 -- A drawn run goes on by each event that is drawn: one is where the run hasn't ended, and it is allowed.
-use Rattle.std.proofs.Common.{◌≡◌, ◌≢◌, ◌+◌, ◌-◌, ◌<◌, ◌≤◌, ◌||◌, Bool, true, false, cond, leb, List, [], ◌∷◌, ◌++◌, length, length-append, take, Option, Some, None, Result, Ok, Err, is_some, refl, sym, ap, ◌∙◌, subst, arith}
+use Rattle.std.proofs.Common.{◌≡◌, ◌≢◌, ◌+◌, ◌-◌, ◌<◌, ◌≤◌, ◌&&◌, ◌||◌, Bool, true, false, cond, leb, ltb, not, List, [], ◌∷◌, ◌++◌, length, length-append, take, Option, Some, None, Result, Ok, Err, is_some, refl, sym, ap, ◌∙◌, subst, arith}
 use Rattle.std.specs.Prelude.{IsSome}
 use Rattle.std.specs.Option.{option_map}
 use Rattle.std.proofs.lemmas.Bool.{false≢true, le-ltb, lt-leb, lt-ltb}
@@ -9,7 +9,9 @@ use Rattle.mach_types.specs.Limits.{InRange}
 use Rattle.mach_types.specs.declared.events.Entry.{Entry}
 use Rattle.mach_types.specs.declared.limits.End.{End}
 use Rattle.mach_types.specs.declared.limits.End.TheVariants.{Unended}
-use Rattle.drawings.specs.Drawings.{Drawn, IsFor, draw, event_of, kept_after}
+use Rattle.drawings.specs.Drawings.{Drawn, IsFor, current, draw, drawn_by_priority, drawn_by_word, event_of, kept_after, on_credit}
+use Rattle.drawings.specs.Drawings.{goes_on as on}
+use Rattle.drawings.specs.Scenes.{Scene}
 use Rattle.drawings.specs.declared.drawing.Drawing.{Drawing}
 use Rattle.drawings.specs.declared.drawing.DrawnEvent.{DrawnEvent}
 use Rattle.block_model.specs.Choosing.{has_ended}
@@ -50,7 +52,7 @@ way_first m now d run all is = record {
 }
 
 -- where the run goes on it hasn't ended, and its log has room
-goes_on : (s : Setting) (log : List Entry) → IsBlockRun s log → end_of s (history s log) ≡ Unended → has_ended s (history s log) ≡ false
+pub goes_on : (s : Setting) (log : List Entry) → IsBlockRun s log → end_of s (history s log) ≡ Unended → has_ended s (history s log) ≡ false
 unfolding has_ended
 goes_on s log run unended =
     let before = history s log in
@@ -237,3 +239,55 @@ less_left m now next d e way unended is =
     let room = has_room now.setting now.log way.block_run unended in
     let same : next.setting.limits.steps ≡ now.setting.limits.steps = ap (λ (v : Seen). v.setting.limits.steps) is in
     omega (arith, longer, room, same)
+
+-- by its credit the last hart goes on, and nothing else is drawn
+pub credit_draws : (scene : Scene) (d : Drawing) → on scene d ≡ true → draw scene d ≡ Some (on_credit d)
+unfolding draw
+credit_draws scene d is =
+    ap (λ (b : Bool). cond b (Some (on_credit d)) (cond (current d).by_priority (drawn_by_priority scene d) (drawn_by_word scene d))) is
+
+-- so where there is credit, the hart goes freely, and its thread is inside no sequence
+credit_parts : (credit may own inside : Bool) → (may && own) ≡ true → credit ≡ true → inside ≡ false → (credit && may && own && not inside) ≡ true
+credit_parts credit may own inside free some out = grind arith
+
+no_credit : (credit may own inside : Bool) → credit ≡ false → (credit && may && own && not inside) ≡ false
+no_credit credit may own inside none = grind arith
+
+not_freely : (credit may own inside : Bool) → (may && own) ≡ false → (credit && may && own && not inside) ≡ false
+not_freely credit may own inside free = grind arith
+
+within : (credit may own inside : Bool) → inside ≡ true → (credit && may && own && not inside) ≡ false
+within credit may own inside is = grind arith
+
+module _ (scene : Scene) (d : Drawing) where
+  abbrev may : Bool
+  may = (scene.sight d.last.0).exec_enabled
+
+  abbrev own : Bool
+  own = (scene.sight d.last.0).«local»
+
+  pub goes_by_credit : 0 < d.credit → (may && own) ≡ true → scene.is_inside d.last.0 ≡ false → on scene d ≡ true
+  goes_by_credit some free out = credit_parts (ltb 0 d.credit) may own (scene.is_inside d.last.0) free (lt-ltb 0 d.credit some) out
+
+  pub stops_without : d.credit ≡ 0 → on scene d ≡ false
+  stops_without none = no_credit (ltb 0 d.credit) may own (scene.is_inside d.last.0) (ap (ltb 0) none)
+
+  pub stops_inside : scene.is_inside d.last.0 ≡ true → on scene d ≡ false
+  stops_inside is = within (ltb 0 d.credit) may own (scene.is_inside d.last.0) is
+
+  pub stops_unfree : (may && own) ≡ false → on scene d ≡ false
+  stops_unfree is = not_freely (ltb 0 d.credit) may own (scene.is_inside d.last.0) is
+
+-- such an event is the next one
+pub next_on_credit : (m : Manner) (now : Seen) (d : Drawing) → InRange now.setting.limits → IsOnItsWay m now d
+    → end_of now.setting (history now.setting now.log) ≡ Unended → on (scene_of now) d ≡ true → IsDrawnNext m now d (event_of (on_credit d))
+next_on_credit m now d range way unended is = record {
+  range = range;
+  way = way;
+  unended = unended;
+  drawn = sym (ap (option_map event_of) (credit_draws (scene_of now) d is));
+}
+
+pub kept_on_credit : (now : Seen) (d after : Drawing) → on (scene_of now) d ≡ true → after ≡ (on_credit d).after
+    → after ≡ kept_after (draw (scene_of now) d) d
+kept_on_credit now d after is kept = kept ∙ sym (ap (λ (o : Option Drawn). kept_after o d) (credit_draws (scene_of now) d is))

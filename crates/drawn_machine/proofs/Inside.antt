@@ -5,6 +5,7 @@ use Rattle.std.proofs.lemmas.Bool.{leb-false}
 use Rattle.mach_types.proofs.Laws.{kind_back}
 use Rattle.mach_types.specs.Events.{choice_of, kind_of}
 use Rattle.mach_types.specs.declared.events.Choice.{Choice}
+use Rattle.mach_types.specs.declared.events.Choice.TheVariants as choice
 use Rattle.mach_types.specs.declared.events.Entry.{Entry}
 use Rattle.mach_types.specs.declared.events.Hart.{Hart}
 use Rattle.mach_types.specs.declared.events.Kind.{Kind}
@@ -76,6 +77,13 @@ pub leaves_as_entry : (s : Setting) (before : History) (x : Entry) (e : DrawnEve
 leaves_as_entry s before x e b hart choice is =
     let kind : x.kind ≡ kind_of e.choice = sym (kind_back x.kind x.tid) ∙ ap kind_of choice in
     is ∙ sym (ap₂ (λ (h : Hart) (k : Kind). leaves_inside s before h.0 k) hart kind)
+
+-- no thread leaves by an instruction
+pub none_leaves : (s : Setting) (before : History) (x : Entry) → x.kind ≡ kind.Exec → false ≡ leaves_inside s before x.hart.0 x.kind
+none_leaves s before x is = rw is refl
+
+pub exec_is : (x : Entry) → choice_of x ≡ choice.Exec → x.kind ≡ kind.Exec
+exec_is x is = sym (kind_again x x.kind refl) ∙ ap kind_of is
 
 -- so one more is a number of 32 bits
 pub small_count : (now : Seen) (inside : ℕ) (b : Bool) (n : ℕ) → length now.log ≤ 1000000 → IsCounted now inside → n ≡ bool_byte b

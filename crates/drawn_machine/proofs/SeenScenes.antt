@@ -1,12 +1,10 @@
 -- What is told of a scene by the tables of its machine alone.
-use Rattle.std.proofs.Common.{◌≡◌, ℕ, ◌<◌, Bool, true, false, not, ltb, List, [], length, Option, Some, None, is_some, refl, sym, ap, ◌∙◌, subst}
+use Rattle.std.proofs.Common.{◌≡◌, ℕ, ◌<◌, Bool, true, false, not, List, [], Option, Some, None, is_some, refl, sym, ap, ◌∙◌, subst}
 use Rattle.std.specs.Prelude.{is_none}
 use Rattle.std.specs.Option.{option_map}
 use Rattle.std.proofs.lemmas.Bool.{false≢true}
-use Rattle.mach_types.specs.declared.events.Tid.{Tid}
 use Rattle.mach_types.specs.declared.sequences.Area.{Area}
 use Rattle.mach_types.specs.Kernel.Areas.{area_of, is_inside_named, named}
-use Rattle.mach_types.specs.Kernel.Scheduling.{first_for}
 use Rattle.mach_types.specs.declared.sequences.Named.TheVariants as names
 use Rattle.hart_state.specs.declared.hart.HartState.{HartState}
 use Rattle.process.specs.Harts.{hart_in}
@@ -21,11 +19,10 @@ use Rattle.block_model.specs.Run.{IsBlockRun}
 use Rattle.block_model.specs.Setting.{Seen}
 use Rattle.block_model.specs.Tables.{IsTables}
 use Rattle.block_model.proofs.Laws.{IsGood, good_at, same_state}
-use Rattle.drawings.specs.Scenes.{startable}
 use Rattle.drawn_runs.specs.DrawnRuns.{is_inside_on}
 use Rattle.drawn_runs.proofs.Laws.{exec_free}
-use Rattle.drawn_machine.specs.Scenes.{NoneBegins, scene_of}
-use Rattle.drawn_machine.proofs.Starting.{none_ready}
+use Rattle.drawn_machine.specs.Scenes.{AreListed}
+use Rattle.drawn_machine.proofs.Starting.{listed_begin}
 
 -- the tables agree at each place of a block run
 tables_at : (m : Seen) → IsBlockRun m.setting m.log
@@ -35,22 +32,11 @@ tables_at m run =
     subst (λ (p : Plain). IsGood m.setting p) (same_state m run) (good_at m run) in
     good.kernel.tables
 
--- so no thread may begin on a hart on which no ready one may run
-
-no_first : (o : Option Tid) (b : Bool) → b ≡ is_some o → b ≡ false → option_map (λ (t : Tid). t.0) o ≡ None
-no_first None b some none = refl
-no_first (Some t) b some none = cc
-
-pub none_begins : (m : Seen) → IsBlockRun m.setting m.log → NoneBegins m
-none_begins m run opened h none =
-    none_ready m.setting.limits.harts (kernel m.setting (history m.setting m.log)).threads
-    (kernel m.setting (history m.setting m.log)).scheduling opened h (tables_at m run) none
-
-pub none_startable : (m : Seen) (opened h : ℕ) (o : Option Tid) (b : Bool) → NoneBegins m
-    → option_map (λ (t : Tid). t.0) o ≡ first_for h (kernel m.setting (history m.setting m.log)).scheduling → b ≡ is_some o → b ≡ false
-    → b ≡ ltb 0 (length (startable opened h (scene_of m).scheduling))
-none_startable m opened h o b starts first some none =
-    none ∙ sym (starts opened h (sym first ∙ no_first o b some none))
+-- so a ready thread may begin on a hart exactly where one of the ready list may
+pub are_listed : (m : Seen) → IsBlockRun m.setting m.log → AreListed m
+are_listed m run opened h =
+    listed_begin m.setting.limits.harts (kernel m.setting (history m.setting m.log)).threads
+    (kernel m.setting (history m.setting m.log)).scheduling opened h (tables_at m run)
 
 -- a thread is inside no sequence where none has an area
 pub inside_none : (here : Here) (o : Option ℕ) → here.kernel.areas ≡ [] → is_inside_on here o ≡ false

@@ -1,11 +1,11 @@
 -- The ready threads that may begin to run, found number by number: they are those among the ready ones, and not more than live.
-use Rattle.std.proofs.Common.{◌≡◌, ℕ, zero, suc, ◌+◌, ◌<◌, ◌≤◌, ◌%◌, ◌^◌, ◌&&◌, ◌||◌, Bool, true, false, not, cond, eqb, ltb, List, [], ◌∷◌, ◌++◌, filter, find, length, length-append, subst, Option, Some, None, inl, inr, is_some, refl, sym, ap, ◌∙◌, arith}
+use Rattle.std.proofs.Common.{◌≡◌, ℕ, zero, suc, ◌+◌, ◌<◌, ◌≤◌, ◌%◌, ◌^◌, ◌&&◌, ◌||◌, Bool, true, false, not, cond, eq-eqb, eqb, ltb, List, [], ◌∷◌, ◌++◌, filter, find, length, length-append, subst, Option, Some, None, inl, inr, is_some, refl, sym, ap, ◌∙◌, arith}
 use Rattle.std.specs.List.{All, list_any}
 use Rattle.std.specs.Option.{option_map, option_map_or}
-use Rattle.std.proofs.lemmas.Bool.{and_parts, cases_eq, eqb-true, false≢true, lt-ltb, ne_eqb}
+use Rattle.std.proofs.lemmas.Bool.{and_from, and_parts, cases_eq, eqb-true, false≢true, le-ltb, lt-ltb, ne_eqb, or_parts, or_right}
 use Rattle.std.proofs.lemmas.Bool.Decides.{nat_tests}
 use Rattle.std.proofs.lemmas.List.Elements.{All-head, All-tail, filter-append}
-use Rattle.mach_types.specs.Kernel.Scheduling.{Scheduling, affinity_of, first_for, has_hart}
+use Rattle.mach_types.specs.Kernel.Scheduling.{Scheduling, affinity_of, has_hart}
 use Rattle.mach_types.specs.Kernel.Threads.{IsThreads, Thread, Threads, is_ready, is_ready_state, is_thread, numbers}
 use Rattle.block_model.specs.Tables.{IsTables}
 use Rattle.block_model.proofs.Laws.{ready_listed}
@@ -184,33 +184,72 @@ pub none_starts : (ts : Threads) (s : Scheduling) (opened h : ℕ) → [] ≡ pa
     → ltb 0 (length (startable opened h (record s { order = ready_numbers ts }))) ≡ false
 none_starts ts s opened h none = sym (ap (λ (xs : List ℕ). ltb 0 (length xs)) (none ∙ all_startable ts s opened h))
 
--- and where no ready thread may run on a hart, none can
-found_not : (p : ℕ → Bool) (xs : List ℕ) (t : ℕ) → find p xs ≡ None → list_any (λ u. eqb u t) xs ≡ true → p t ≡ false
-found_not p [] t none has = absurd (false≢true has)
-found_not p (u ∷ xs) t none has = go (p u) refl none (eqb u t) refl has (λ gone there. found_not p xs t gone there)
-  where
-    go : (b : Bool) → p u ≡ b → cond b (Some u) (find p xs) ≡ None → (c : Bool) → eqb u t ≡ c
-        → (c || list_any (λ u. eqb u t) xs) ≡ true
-        → (find p xs ≡ None → list_any (λ u. eqb u t) xs ≡ true → p t ≡ false) → p t ≡ false
-    go true is none c at has later = absurd cc
-    go false is none true at has later = subst (λ (n : ℕ). p n ≡ false) (eqb-true u t at) is
-    go false is none false at has later = later none has
+-- one that passes is found among them where some do, and none is where none does
+abbrev IsFound : (ℕ → Bool) → List ℕ → Type 0
+IsFound p xs = (t : ℕ) × (p t ≡ true) × (list_any (λ u. eqb u t) xs ≡ true)
 
-starts_not : (harts : ℕ) (ts : Threads) (s : Scheduling) (opened h t : ℕ) → IsTables harts ts s → first_for h s ≡ None
-    → starts ts s opened h t ≡ false
-starts_not harts ts s opened h t holds none = go (is_ready t ts) refl
+one_found : (p : ℕ → Bool) (xs : List ℕ) → list_any p xs ≡ true → IsFound p xs
+one_found p [] has = absurd (false≢true has)
+one_found p (u ∷ xs) has = go (p u) refl has (λ some. one_found p xs some)
   where
-    go : (b : Bool) → is_ready t ts ≡ b → (b && may_begin opened h (affinity_of t s)) ≡ false
-    go false is = refl
-    go true is =
-        ap (λ (b : Bool). b && (ltb h opened || eqb (affinity_of t s % 2 ^ opened) 0))
-        (found_not (λ u. has_hart (affinity_of u s) h) s.order t none (ready_listed harts t ts s holds ∙ is))
+    go : (b : Bool) → p u ≡ b → (b || list_any p xs) ≡ true → (list_any p xs ≡ true → IsFound p xs) → IsFound p (u ∷ xs)
+    go true is some later = (u, (is, ap (λ c. c || list_any (λ v. eqb v u) xs) (eq-eqb u u refl)))
+    go false is some later =
+        let found : IsFound p xs = later some in
+        (found.0, (found.1.0, or_right (eqb u found.0) (list_any (λ v. eqb v found.0) xs) found.1.1))
+
+none_found : (p : ℕ → Bool) (xs : List ℕ) (t : ℕ) → list_any p xs ≡ false → list_any (λ u. eqb u t) xs ≡ true → p t ≡ false
+none_found p [] t none has = absurd (false≢true has)
+none_found p (u ∷ xs) t none has = go (eqb u t) refl (or_parts (p u) (list_any p xs) none) has (λ gone there. none_found p xs t gone there)
+  where
+    go : (c : Bool) → eqb u t ≡ c → (p u ≡ false) × (list_any p xs ≡ false) → (c || list_any (λ v. eqb v t) xs) ≡ true
+        → (list_any p xs ≡ false → list_any (λ v. eqb v t) xs ≡ true → p t ≡ false) → p t ≡ false
+    go true at parts there later = subst (λ (n : ℕ). p n ≡ false) (eqb-true u t at) parts.0
+    go false at parts there later = later parts.1 there
+
+-- the number of a thread that is live was given
+given_above : (given t : ℕ) (live : List Thread) → All (λ u. (0 < u) × (u ≤ given)) (numbers live) → is_some (find (is_thread t) live) ≡ true → t ≤ given
+given_above given t [] all found = absurd (false≢true found)
+given_above given t (th ∷ ths) all found =
+    go (eqb th.tid t) refl found (All-head (λ u. (0 < u) × (u ≤ given)) th.tid (numbers ths) all).1
+    (λ there. given_above given t ths (All-tail (λ u. (0 < u) × (u ≤ given)) th.tid (numbers ths) all) there)
+  where
+    go : (c : Bool) → eqb th.tid t ≡ c → is_some (cond c (Some th) (find (is_thread t) ths)) ≡ true → th.tid ≤ given
+        → (is_some (find (is_thread t) ths) ≡ true → t ≤ given) → t ≤ given
+    go true at some here later = subst (λ (n : ℕ). n ≤ given) (eqb-true th.tid t at) here
+    go false at some here later = later some
 
 none_passes : (test : ℕ → Bool) (n : ℕ) → ((t : ℕ) → test t ≡ false) → [] ≡ passing test n
 none_passes test zero none = refl
 none_passes test (suc n) none = rw (none n, ← none_passes test n none) refl
 
-pub none_ready : (harts : ℕ) (ts : Threads) (s : Scheduling) (opened h : ℕ) → IsTables harts ts s → first_for h s ≡ None
-    → ltb 0 (length (startable opened h (record s { order = ready_numbers ts }))) ≡ false
-none_ready harts ts s opened h holds none =
-    none_starts ts s opened h (none_passes (starts ts s opened h) (ts.given + 1) (λ t. starts_not harts ts s opened h t holds none))
+-- so one may begin exactly where one of the ready list may
+abbrev may : Scheduling → ℕ → ℕ → ℕ → Bool
+may s opened h t = may_begin opened h (affinity_of t s)
+
+starts_not : (harts : ℕ) (ts : Threads) (s : Scheduling) (opened h t : ℕ) → IsTables harts ts s → list_any (may s opened h) s.order ≡ false
+    → starts ts s opened h t ≡ false
+starts_not harts ts s opened h t holds none = go (is_ready t ts) refl
+  where
+    go : (b : Bool) → is_ready t ts ≡ b → (b && may_begin opened h (affinity_of t s)) ≡ false
+    go false is = refl
+    go true is = none_found (may s opened h) s.order t none (ready_listed harts t ts s holds ∙ is)
+
+pub listed_begin : (harts : ℕ) (ts : Threads) (s : Scheduling) (opened h : ℕ) → IsTables harts ts s
+    → ltb 0 (length (startable opened h (record s { order = ready_numbers ts }))) ≡ list_any (may s opened h) s.order
+listed_begin harts ts s opened h holds = go (list_any (may s opened h) s.order) refl
+  where
+    go : (b : Bool) → list_any (may s opened h) s.order ≡ b → ltb 0 (length (startable opened h (record s { order = ready_numbers ts }))) ≡ b
+    go false none = none_starts ts s opened h (none_passes (starts ts s opened h) (ts.given + 1) (λ t. starts_not harts ts s opened h t holds none))
+    go true some =
+        let found = one_found (may s opened h) s.order some in
+        let ready : is_ready found.0 ts ≡ true = sym (ready_listed harts found.0 ts s holds) ∙ found.1.1 in
+        let given = given_above ts.given found.0 ts.live holds.threads.given (ready_live (find (is_thread found.0) ts.live) ready) in
+        one_starts ts s opened h found.0 (omega arith) (and_from (is_ready found.0 ts) (may s opened h found.0) ready found.1.0)
+
+-- of a hart that is open no more is asked than that the thread may run there, of another that it may run on none that is open
+pub open_bar : (opened h set : ℕ) → h < opened → (has_hart set h && eqb (set % 2 ^ 0) 0) ≡ may_begin opened h set
+open_bar opened h set is = rw (lt-ltb h opened is) (ap (λ n. has_hart set h && eqb n 0) (omega arith))
+
+pub shut_bar : (opened h set : ℕ) → opened ≤ h → (has_hart set h && eqb (set % 2 ^ opened) 0) ≡ may_begin opened h set
+shut_bar opened h set is = rw (le-ltb h opened is) refl

@@ -1,15 +1,18 @@
 //! The loop of a drawn run.
 
-ghost use Rattle.std.specs.Prelude.{◌≡◌, ◌≤◌, ◌<◌, ◌++◌, ◌∷◌, [], ◌↔◌, IfOk, OnOk, IsTrue, length, take};
+ghost use Rattle.std.specs.Prelude.{◌≡◌, ◌≤◌, ◌<◌, ◌++◌, ◌∷◌, [], ◌↔◌, false, IfNone, IfOk, IfSome, OnOk, IsTrue, length, take};
 ghost use Rattle.mach_types.specs.{Events.kind_of, Limits.InRange};
+ghost use Rattle.mach_types.specs.declared.events.Kind.TheVariants as kinds;
 ghost use Rattle.mach_types.specs.declared.limits.End.TheVariants.{Unended};
 ghost use Rattle.elf_load.specs.{Images.IsBootable, Start.program_of};
 ghost use Rattle.block_model.specs.Deciding.{end_of, history};
 ghost use Rattle.block_model.specs.{History.waiting, Run.IsBlockRun, Setting.setting_of};
 ghost use Rattle.drawn_runs.specs.DrawnRuns.{first_drawing};
 ghost use Rattle.drawn_runs.specs.WholeRuns.{IsDrawnRun, IsWholeDrawn};
+ghost use Rattle.drawings.specs.Drawings as draws;
 ghost use Rattle.drawn_machine.specs.OnTheWay.{GoesOn, IsOnAWay};
 ghost use Rattle.drawn_machine.specs.Preemptions.{leaves_inside, left_inside_in};
+ghost use Rattle.drawn_machine.specs.Scenes.{scene_of};
 ghost use Rattle.drawn_machine.specs.Waits.{wait_counts_in};
 
 use crate::seen_harts::SeenHarts;
@@ -153,7 +156,7 @@ fn first_drawing(machine: &Machine, manner: &Manner) -> Drawing
 }
 
 /// Draws the next event of a machine whose run goes on, and makes it.
-#[inline]
+#[inline(always)]
 fn draw_event(machine: &mut Machine, drawing: &mut Drawing) -> MadeEvent
     requires limits { InRange machine.old.setting.limits }
     requires unended { end_of machine.old.setting (history machine.old.setting machine.old.log) ≡ Unended }
@@ -164,7 +167,58 @@ fn draw_event(machine: &mut Machine, drawing: &mut Drawing) -> MadeEvent
         result.left_inside
         ≡ leaves_inside machine.old.setting before result.entry.hart.0 result.entry.kind }
 {
-    let Some(event) = drawing.next(&SeenHarts { machine }) else {
+    match go_on(machine, drawing) {
+        Some(entry) => MadeEvent {
+            entry,
+            left_inside: false,
+        },
+        None => draw_next(machine, drawing),
+    }
+}
+
+/// Makes the event by which the last hart goes on by its credit, where it does, and answers its entry; else
+/// None, and nothing changes.
+#[inline(always)]
+fn go_on(machine: &mut Machine, drawing: &mut Drawing) -> Option<Entry>
+    requires limits { InRange machine.old.setting.limits }
+    requires unended { end_of machine.old.setting (history machine.old.setting machine.old.log) ≡ Unended }
+    requires drawn { IsOnAWay machine.old drawing.old }
+    ensures made { IfSome result (λ e. machine.new ≡ record machine.old { log = machine.old.log ++ e ∷ [] }) }
+    ensures drawn { IfSome result (λ e. GoesOn machine.old drawing.old machine.new drawing.new) }
+    ensures kind { IfSome result (λ e. e.kind ≡ kinds.Exec) }
+    ensures machine { IfNone result (machine.new ≡ machine.old) }
+    ensures drawing { IfNone result (drawing.new ≡ drawing.old) }
+    ensures none { IfNone result (draws.goes_on (scene_of machine.old) drawing.old ≡ false) }
+{
+    if drawing.credit == 0 {
+        return None;
+    }
+    if (SeenHarts { machine }).is_inside(drawing.last) {
+        return None;
+    }
+    match machine.step_freely(drawing.last) {
+        Some(entry) => {
+            drawing.go_on();
+            Some(entry)
+        }
+        None => None,
+    }
+}
+
+/// Draws the next event by priorities or by a word, and makes it.
+#[inline(never)]
+fn draw_next(machine: &mut Machine, drawing: &mut Drawing) -> MadeEvent
+    requires limits { InRange machine.old.setting.limits }
+    requires unended { end_of machine.old.setting (history machine.old.setting machine.old.log) ≡ Unended }
+    requires drawn { IsOnAWay machine.old drawing.old }
+    requires apart { draws.goes_on (scene_of machine.old) drawing.old ≡ false }
+    ensures made { machine.new ≡ record machine.old { log = machine.old.log ++ result.entry ∷ [] } }
+    ensures drawn { GoesOn machine.old drawing.old machine.new drawing.new }
+    ensures inside { let before = history machine.old.setting machine.old.log in
+        result.left_inside
+        ≡ leaves_inside machine.old.setting before result.entry.hart.0 result.entry.kind }
+{
+    let Some(event) = drawing.next_drawn(&SeenHarts { machine }) else {
         unreachable!()
     };
     let left_inside = leaves_inside(machine, event);

@@ -4,9 +4,9 @@ ghost use Rattle.std.specs.Prelude.{◌≡◌, ◌<◌, ◌≤◌, ℕ, [], true
 ghost use Rattle.std.specs.Bool.{OnTrue};
 ghost use Rattle.block_model.specs.{Deciding.history, History.waiting, Sights.is_all_taken};
 ghost use Rattle.drawings.specs.Scenes.{is_able, startable};
-ghost use Rattle.drawn_machine.specs.Scenes.{NoneBegins, scene_of};
+ghost use Rattle.drawn_machine.specs.Scenes.{AreListed, scene_of};
 
-use crate::starting_threads::{has_startable_thread, startable_threads};
+use crate::starting_threads::startable_threads;
 use arrayvec::ArrayVec;
 use draw_policies::{Access, access_of_effect, access_of_store};
 use drawings::Harts;
@@ -19,7 +19,7 @@ pub struct SeenHarts<'a> {
     /// The machine.
     pub machine: &'a Machine,
     ghost few: { machine.now.setting.limits.harts ≤ 8 },
-    ghost starts: { NoneBegins machine.now },
+    ghost listed: { AreListed machine.now },
 }
 
 /// Whether no hart is left in a set of harts.
@@ -34,14 +34,18 @@ fn is_zero(set: Option<u8>) -> bool
 
 impl SeenHarts<'_> {
     /// Whether there is a ready thread that may begin to run on a hart, where the first so many harts are open.
+    #[inline(never)]
     fn has_startable(&self, hart: Hart, opened: u8) -> bool
         requires { opened ≤ 8 }
         ensures { result
             ≡ nat_lt 0 (length (startable opened hart.0 (scene_of self.now.machine.now).scheduling)) }
     {
-        let kernel = self.machine.kernel();
-        kernel.ready.first_for(hart).is_some()
-            && has_startable_thread(&kernel.threads, &kernel.ready, hart, opened)
+        let ready = &self.machine.kernel().ready;
+        if hart.0 < opened {
+            ready.has_only_for(hart, 0)
+        } else {
+            ready.has_only_for(hart, opened)
+        }
     }
 
     /// Whether the thread on a hart is inside the sequence that its area names.
@@ -77,7 +81,7 @@ impl SeenHarts<'_> {
         if state.is_idle() || state.waits.is_some() {
             return false;
         }
-        self.is_drained() || self.machine.sight(hart).exec_enabled
+        self.is_drained() || self.machine.may_execute(hart)
     }
 
     /// The same of a hart that can make an event, where the first so many harts are open: if no store of it waits, that is an
@@ -113,6 +117,7 @@ impl Harts for SeenHarts<'_> {
         }
     }
 
+    #[inline(always)]
     fn look(&self, hart: Hart, opened: u8) -> Sight {
         let state = self.machine.hart(hart);
         Sight {

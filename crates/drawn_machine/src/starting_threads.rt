@@ -1,6 +1,6 @@
 //! The ready threads that may begin to run on a hart, by rising number.
 
-ghost use Rattle.std.specs.Prelude.{◌≡◌, ◌<◌, ◌≤◌, ◌%◌, ◌^◌, ◌==◌, ◌&&◌, ◌++◌, ◌∷◌, [], ℕ, true, if◌then◌else◌, length, nat_lt};
+ghost use Rattle.std.specs.Prelude.{◌≡◌, ◌<◌, ◌≤◌, ◌%◌, ◌^◌, ◌==◌, ◌&&◌, ◌++◌, ◌∷◌, [], ℕ, true, if◌then◌else◌, length};
 ghost use Rattle.mach_types.specs.Kernel.Scheduling.{affinity_of};
 ghost use Rattle.mach_types.specs.Kernel.Threads.{is_live, is_ready};
 ghost use Rattle.scheduler.specs.Holding.{is_held};
@@ -74,21 +74,4 @@ pub fn startable_threads(
         push_if(&mut startable, number, starts);
     }
     startable
-}
-
-/// Whether there is a ready thread that may begin to run on a hart, where the first so many harts are open.
-pub fn has_startable_thread(threads: &Threads, ready: &Ready, hart: Hart, opened: u8) -> bool
-    requires held { (t : ℕ) → is_held t ready.now ≡ is_live t threads.now.threads }
-    requires opened { opened ≤ 8 }
-    ensures { let order = ready_numbers threads.now.threads in
-        result ≡ nat_lt 0 (length (startable opened hart.0 (record ready.now { order = order }))) }
-{
-    let live = threads.live();
-    prove!(live <= 64);
-    for earlier in 0..threads.numbers_given() {
-        if may_start(threads, ready, Tid(earlier + 1), hart, opened) {
-            return true;
-        }
-    }
-    false
 }

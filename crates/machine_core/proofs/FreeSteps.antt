@@ -4,7 +4,7 @@ use Rattle.machine_core.specs.Free.{goes_freely}
 use Rattle.machine_core.proofs.Sights.{next_local}
 
 -- it makes no fault, and so no gate holds it up
-gate_is_open : (waiting : ℕ) (byte : ℕ → Option ℕ) (writable : ℕ → Bool) (pc : ℕ) (word : Option ℕ) (o : Option Effect)
+pub gate_is_open : (waiting : ℕ) (byte : ℕ → Option ℕ) (writable : ℕ → Bool) (pc : ℕ) (word : Option ℕ) (o : Option Effect)
     → option_map_or sets_register o false ≡ true → instruction_gate waiting o (is_some (fault_by byte writable pc word o)) ≡ None
 gate_is_open waiting byte writable pc word o sets =
     ap (λ f. instruction_gate waiting o (is_some f)) (sym (no_fault_of_free byte writable pc word o sets)) ∙ gate_of_free waiting o sets

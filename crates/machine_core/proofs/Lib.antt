@@ -4,10 +4,12 @@ mod Boot
 mod ChoiceCredits
 mod Common
 mod CreditSteps
+mod FreeEvents
 mod FreeSteps
 pub mod Laws
 mod MachineCredits
 mod MachineSteps
+mod OpenSteps
 mod Readings
 mod Sights
 mod StretchAppends

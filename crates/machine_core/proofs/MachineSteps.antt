@@ -16,7 +16,7 @@ pub record IsLogPlace (v : Seen) (m : Parts) (h : ℕ) : Type 0 where
   pub at : IsPlace (stand_of v) m h
 
 -- what is decided there
-decided_at : (v : Seen) (m : Parts) (h : ℕ) (c : Choice) → IsLogPlace v m h
+pub decided_at : (v : Seen) (m : Parts) (h : ℕ) (c : Choice) → IsLogPlace v m h
     → decide v.setting (history v.setting v.log) h c ≡ unless (entry_in c (here_of v h)) (refusal_of c (here_of v h))
 decided_at v m h c place =
     let made = plain_made v place.run in

@@ -16,6 +16,7 @@ ghost use Rattle.block_model.specs.Run.{IsBlockRun};
 ghost use Rattle.mach_types.specs.declared.events.Entry.{Entry};
 ghost use Rattle.rv_inst.specs.declared.effects.Effect.{Effect};
 
+mod free_events;
 mod local_stretches;
 mod on_credit;
 mod readers;

@@ -13,6 +13,7 @@ mod ExecGates
 mod Fetches
 mod Foreseen
 mod FreeInstructions
+mod FreeSteps
 mod HartEvents
 mod HartStates
 mod Interruptions

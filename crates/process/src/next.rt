@@ -1,6 +1,6 @@
 //! The next instruction of a thread: its word, its effect, and its fault.
 
-ghost use Rattle.std.specs.Prelude.{◌≡◌, ◌&&◌, Some, IfSome, false, is_some, not};
+ghost use Rattle.std.specs.Prelude.{◌≡◌, ◌&&◌, ◌||◌, ◌==◌, Some, IfSome, false, is_some, length, not};
 ghost use Rattle.std.specs.Option.{option_copied, option_map_or};
 ghost use Rattle.rv_inst.specs.Sizes.{HasAccessSizes};
 ghost use Rattle.block_model.specs.Instruction.{fetched as word_fetched, fetch_fault as fault_of_fetch, fault_by, instruction_of, next_effect, next_fault};
@@ -61,7 +61,7 @@ fn fetch_fault(pc: u64, word: Option<u32>) -> u8
 }
 
 /// The signal of the first fault of the next instruction of the thread on a hart in this state, which asks for this.
-pub(crate) fn fault_of_next<M: UserMem>(
+pub fn fault_of_next<M: UserMem>(
     code: &Code,
     memory: &M,
     state: &HartState,
@@ -87,6 +87,20 @@ pub fn is_free(state: &HartState, effect: Option<&Effect>) -> bool
     is_local(effect) && !state.is_idle() && state.waits.is_none()
 }
 
+/// Whether an instruction with this effect may be executed by the thread on a hart in this state whatever
+/// memory is and whatever waits on other harts, also where it makes a fault: no store of the hart waits and it
+/// is no call, or it sets a register and does nothing else; and a thread runs there that waits in no barrier.
+#[inline]
+pub fn is_open(state: &HartState, effect: Option<&Effect>) -> bool
+    ensures { result ≡ (is_some state.now.running && not (is_some state.now.waits)
+        && (length state.now.buffer == 0 && not (option_map_or is_call (option_copied effect.entry) false)
+        || option_map_or sets_register (option_copied effect.entry) false)) }
+{
+    !state.is_idle()
+        && state.waits.is_none()
+        && (state.buffer.len() == 0 && !is_call(effect) || is_local(effect))
+}
+
 /// What the instruction at a pc asks for, with these registers. None exactly where nothing can be executed
 /// there, or where the word there is no instruction.
 #[inline(always)]
@@ -102,7 +116,7 @@ pub fn effect_at(code: &Code, file: &Regs, pc: u64) -> Option<Effect>
 
 /// [`effect_at`] of any instruction, also where the code doesn't keep it.
 #[inline(never)]
-fn other_effect(code: &Code, file: &Regs, pc: u64) -> Option<Effect>
+pub(crate) fn other_effect(code: &Code, file: &Regs, pc: u64) -> Option<Effect>
     ensures effect { result ≡ next_effect code.now (record { file = file.now; pc = pc }) }
     ensures sizes { IfSome result HasAccessSizes }
 {
@@ -119,6 +133,7 @@ pub fn effect_of_next(code: &Code, state: &HartState) -> Option<Effect>
 }
 
 /// Whether an instruction with this effect sets a register and the pc, and does nothing else. Not so where there is no effect.
+#[inline]
 pub fn is_local(effect: Option<&Effect>) -> bool
     ensures { result ≡ option_map_or sets_register (option_copied effect.entry) false }
 {

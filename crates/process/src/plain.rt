@@ -70,7 +70,7 @@ fn plain_step(state: &HartState, pages: &PageMap, inst: &Inst) -> Option<PlainSt
 
 /// Does to a hart what a plain instruction does.
 #[inline(always)]
-fn take_step(state: &mut HartState, step: PlainStep)
+pub(crate) fn take_step(state: &mut HartState, step: PlainStep)
     requires { Fits step state.old }
     ensures { state.new ≡ stepped step state.old }
 {

@@ -1,5 +1,5 @@
 -- What holds of the entries of the ready threads, and of those that are held, is kept by each call.
-use Rattle.std.proofs.Common.{◌≡◌, ◌≢◌, ℕ, ◌<◌, Bool, true, false, not, ◌||◌, cond, List, [], ◌∷◌, ◌++◌, map, filter, find, length, Option, Some, None, is_some, eqb, refl, sym, ap, ◌∙◌, subst, inl, inr}
+use Rattle.std.proofs.Common.{◌≡◌, ◌≢◌, ℕ, ◌<◌, Bool, true, false, not, ◌||◌, ◌&&◌, ◌%◌, ◌^◌, cond, List, [], ◌∷◌, ◌++◌, map, filter, find, length, Option, Some, None, is_some, eqb, refl, sym, ap, ◌∙◌, subst, inl, inr}
 use Rattle.std.specs.List.{AllByRecursion, list_any, position}
 use Rattle.std.specs.Option.{option_map, option_map_or}
 use Rattle.std.proofs.lemmas.Bool.{false≢true}
@@ -14,7 +14,7 @@ use Rattle.mach_types.proofs.Laws.{AllByRecursion-filter, AllByRecursion-push, A
 use Rattle.scheduler.proofs.Lists.{neither}
 use Rattle.scheduler.proofs.OtherHarts.{affinity_of-changed, affinity_of-other, no_entry}
 use Rattle.mach_types.proofs.Places.{not_found}
-use Rattle.scheduler.specs.Entries.{IsKept, numbers, set_among, is_for, scheduling_in}
+use Rattle.scheduler.specs.Entries.{IsKept, numbers, set_among, is_for, is_only_for, scheduling_in}
 use Rattle.scheduler.specs.Holding.{IsScheduling}
 
 abbrev Pairs : Type 0
@@ -125,6 +125,14 @@ first_copy h held (entry ∷ order) copies =
     elim (is_for h entry) as (λ b. option_map (λ (e : ℕ × ℕ). e.0) (cond b (Some entry) (find (is_for h) order)) ≡ cond b (Some entry.0) (find (λ t. has_hart (set_among held t) h) (numbers order)))
     [ true ↦ refl | false ↦ first_copy h held order copies.1 ]
     ∙ ap (λ s. cond (has_hart s h) (Some entry.0) (find (λ t. has_hart (set_among held t) h) (numbers order))) copies.0
+
+-- whether one may run on a hart, and on none of the first so many, read in the copies
+pub any_copy : (h barred : ℕ) (held order : Pairs) → AreCopies held order
+    → list_any (is_only_for h barred) order ≡ list_any (λ t. has_hart (set_among held t) h && eqb (set_among held t % 2 ^ barred) 0) (numbers order)
+any_copy h barred held [] copies = refl
+any_copy h barred held (entry ∷ order) copies =
+    ap (λ b. is_only_for h barred entry || b) (any_copy h barred held order copies.1)
+    ∙ ap (λ s. (has_hart s h && eqb (s % 2 ^ barred) 0) || list_any (λ t. has_hart (set_among held t) h && eqb (set_among held t % 2 ^ barred) 0) (numbers order)) copies.0
 
 -- whether a thread is among the numbers of entries is whether it has an entry, and a place among them
 pub among_numbers : (t : ℕ) (order : Pairs) → list_any (is_of t) order ≡ list_any (λ u. eqb u t) (numbers order)

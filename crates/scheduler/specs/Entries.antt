@@ -1,5 +1,5 @@
 -- The harts of a thread, by the entries of the threads that are held, and the entries of those that are ready (own).
-use Rattle.std.specs.Prelude.{ℕ, ◌≡◌, ◌==◌, ◌-◌, Bool, true, IsTrue, List, map, find, length, nat_lt}
+use Rattle.std.specs.Prelude.{ℕ, ◌≡◌, ◌==◌, ◌-◌, ◌%◌, ◌^◌, ◌&&◌, Bool, true, IsTrue, List, map, find, length, nat_lt}
 use Rattle.std.specs.List.{AllByRecursion, IsDistinct, slice_get}
 use Rattle.std.specs.List.Sorted.{IsStrictlyIncreasing}
 use Rattle.std.specs.Option.{option_map_or}
@@ -20,6 +20,10 @@ set_among entries t = option_map_or (λ entry. entry.1) (find (is_of t) entries)
 -- whether an entry is that of a thread that may run on a hart
 abbrev pub is_for : ℕ → ℕ × ℕ → Bool
 is_for h entry = has_hart entry.1 h
+
+-- the same of one that may run on none of the first so many harts
+abbrev pub is_only_for : ℕ → ℕ → ℕ × ℕ → Bool
+is_only_for h barred entry = has_hart entry.1 h && (entry.1 % 2 ^ barred == 0)
 
 -- whether a number is above that of the last entry
 abbrev pub is_last : ℕ → List (ℕ × ℕ) → Bool

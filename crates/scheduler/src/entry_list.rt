@@ -1,12 +1,12 @@
 //! Lists of threads, each by its number with the set of its harts.
 
-ghost use Rattle.std.specs.Prelude.{◌≡◌, not, map, filter, find};
+ghost use Rattle.std.specs.Prelude.{◌≡◌, ◌≤◌, not, map, filter, find};
 ghost use Rattle.std.specs.List.{list_any, position};
 ghost use Rattle.std.specs.Option.{option_map};
 ghost use Rattle.mach_types.specs.Kernel.Scheduling.{is_of, set_if};
-ghost use Rattle.scheduler.specs.Entries.{stand_once, is_for};
+ghost use Rattle.scheduler.specs.Entries.{stand_once, is_for, is_only_for};
 
-use crate::hart_sets::has_hart;
+use crate::hart_sets::{has_hart, has_none_of};
 use arrayvec::ArrayVec;
 use mach_types::MOST_THREADS;
 
@@ -43,6 +43,16 @@ pub fn first_allowed(entries: &[Entry], hart: u8) -> Option<u32>
         }
     }
     None
+}
+
+/// Whether one of these threads may run on a hart, and on none of the first so many.
+pub fn is_any_only_for(entries: &[Entry], hart: u8, barred: u8) -> bool
+    requires { barred ≤ 8 }
+    ensures { result ≡ list_any (is_only_for hart barred) entries.now }
+{
+    entries
+        .iter()
+        .any(|entry| has_hart(entry.1, hart) && has_none_of(entry.1, barred))
 }
 
 /// Gives the thread whose entry stands there these harts.

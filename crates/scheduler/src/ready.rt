@@ -1,7 +1,8 @@
 //! The ready list and the affinities.
 
-ghost use Rattle.std.specs.Prelude.{◌≡◌, ◌≤◌, ◌<◌, ◌↔◌, false, length, option_map, IsTrue, IsErr, IfErr, OnOk, OnErr};
+ghost use Rattle.std.specs.Prelude.{◌≡◌, ◌≤◌, ◌<◌, ◌%◌, ◌^◌, ◌==◌, ◌&&◌, ◌↔◌, false, length, option_map, IsTrue, IsErr, IfErr, OnOk, OnErr};
 ghost use Rattle.std.specs.Bool.{OnTrue, OnFalse};
+ghost use Rattle.std.specs.List.{list_any};
 ghost use Rattle.mach_types.specs.Kernel.Scheduling as scheduling;
 ghost use Rattle.mach_types.specs.declared.errors.TheConstants.{EINVAL};
 ghost use Rattle.mach_types.specs.declared.kernel_words.TheConstants.{MOST_THREADS};
@@ -121,6 +122,17 @@ impl Ready {
     {
         let first = entry_list::first_allowed(&self.order, hart.0)?;
         Some(Tid(first))
+    }
+
+    /// Whether a ready thread may run on a hart, and on none of the first so many, 0 to 8.
+    pub fn has_only_for(&self, hart: Hart, barred: u8) -> bool
+        requires { barred ≤ 8 }
+        ensures { result ≡ list_any
+            (λ t. scheduling.has_hart (scheduling.affinity_of t self.now) hart.0
+            && (scheduling.affinity_of t self.now % 2 ^ barred == 0))
+            self.now.order }
+    {
+        entry_list::is_any_only_for(&self.order, hart.0, barred)
     }
 
     /// The harts of a thread, one bit each.

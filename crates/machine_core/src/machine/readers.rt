@@ -1,6 +1,6 @@
 //! What is read of a machine: each of its harts, the kernel's tables, and what it would answer to a choice.
 
-ghost use Rattle.std.specs.Prelude.{◌≡◌, ◌<◌, ℕ, [], None, Ok, Err};
+ghost use Rattle.std.specs.Prelude.{◌≡◌, ◌<◌, ℕ, [], None, Ok, Err, IfSome, is_none};
 ghost use Rattle.mach_types.specs.Bytes.{IsAccessSize, word_at};
 ghost use Rattle.mach_types.specs.Kernel.Signals as signals;
 ghost use Rattle.mach_types.specs.Kernel.Threads.{is_live};
@@ -12,12 +12,15 @@ ghost use Rattle.block_model.specs.Acts.{named_at};
 ghost use Rattle.block_model.specs.Choosing.{credit_at};
 ghost use Rattle.block_model.specs.Deciding.{decide, history};
 ghost use Rattle.block_model.specs.Events.{done_of};
+ghost use Rattle.block_model.specs.Events.Exec.{refusal_exec};
 ghost use Rattle.block_model.specs.Here.{memory, runs, view};
 ghost use Rattle.block_model.specs.History.{events, file, here_in_history, kernel, ran};
+ghost use Rattle.block_model.specs.Instruction.{next_effect};
 ghost use Rattle.block_model.specs.declared.refusals.Refused.{Refused};
 ghost use Rattle.block_model.specs.Sights.{effect_here, fault_here, is_deliverable_on, sight_in};
+ghost use Rattle.rv_inst.specs.Sizes.{HasAccessSizes};
 ghost use Rattle.process.specs.Foresight.{foreseen_writes};
-ghost use Rattle.process.specs.Harts.{hart_in};
+ghost use Rattle.process.specs.Harts.{file_on, hart_in};
 ghost use Rattle.process.specs.Sequences.{area_on, looked_at_on};
 ghost use Rattle.machine_core.specs.Free.{goes_freely};
 
@@ -25,7 +28,9 @@ use crate::machine::Machine;
 use block_model::Refused;
 use hart_state::HartState;
 use mach_types::{Area, Choice, Entry, Hart, Named, Outcome, Sight, UserMem};
-use process::{KernelWrites, Next, effect_of_next, is_all_taken, is_free, is_local, next_of};
+use process::{
+    KernelWrites, Next, effect_at, effect_of_next, fault_of_next, is_all_taken, is_free, is_local, is_open, next_of,
+};
 use rseq_area::Lookups;
 use rv_inst::Effect;
 use sys_calls::Kernel;
@@ -164,6 +169,37 @@ impl Machine {
         is_free(state, effect_of_next(&self.code, state).as_ref())
     }
 
+    /// Whether the thread on a hart may execute its next instruction: `exec_enabled` of what a scheduler sees
+    /// ([`Machine::sight`]), for whom sees nothing else.
+    #[inline(never)]
+    pub fn may_execute(&self, hart: Hart) -> bool
+        requires { hart.0 < self.now.setting.limits.harts }
+        ensures { result ≡ is_none
+            (refusal_exec (here_in_history self.now.setting (history self.now.setting self.now.log) hart.0)) }
+    {
+        let state = self.hart(hart);
+        self.is_enabled(hart, effect_at(&self.code, &state.file, state.pc))
+    }
+
+    /// The same, where this is what the instruction at the pc of the hart asks for.
+    #[inline]
+    fn is_enabled(&self, hart: Hart, effect: Option<Effect>) -> bool
+        requires hart { hart.0 < self.now.setting.limits.harts }
+        requires effect {
+            let here = here_in_history self.now.setting (history self.now.setting self.now.log) hart.0 in
+            effect ≡ next_effect self.now.setting.program.pages (file_on here (runs here)) }
+        requires sizes { IfSome effect HasAccessSizes }
+        ensures { result ≡ is_none
+            (refusal_exec (here_in_history self.now.setting (history self.now.setting self.now.log) hart.0)) }
+    {
+        let state = self.hart(hart);
+        if is_open(state, effect.as_ref()) {
+            return true;
+        }
+        let fault = fault_of_next(&self.code, &self.parts.pages, state, effect.as_ref());
+        self.parts.exec_gate(hart, &Next { effect, fault }).is_none()
+    }
+
     /// What a scheduler sees of a hart.
     pub fn sight(&self, hart: Hart) -> Sight
         requires { hart.0 < self.now.setting.limits.harts }
@@ -173,8 +209,7 @@ impl Machine {
             (credit_at self.now.setting self.now.seed hart.0 (history self.now.setting self.now.log)) }
     {
         let state = self.hart(hart);
-        let next = next_of(&self.code, &self.parts.pages, state);
-        let refusal = self.parts.exec_gate(hart, &next);
+        let effect = effect_at(&self.code, &state.file, state.pc);
         Sight {
             idle: state.is_idle(),
             first_ready: self.parts.kernel.ready.first_for(hart),
@@ -183,8 +218,8 @@ impl Machine {
             requested: state.requests != 0,
             stores: state.buffer.len(),
             deliverable: self.parts.deliverable(hart).is_some(),
-            exec_enabled: refusal.is_none(),
-            local: !state.is_idle() && is_local(next.effect.as_ref()),
+            exec_enabled: self.is_enabled(hart, effect),
+            local: !state.is_idle() && is_local(effect.as_ref()),
             ran: state.ran,
             credit: state.credit,
         }
