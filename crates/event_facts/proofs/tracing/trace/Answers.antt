@@ -2,6 +2,7 @@ use Rattle.std.proofs.Common.{◌∙◌, ◌++◌, List, ap, sym}
 use Rattle.event_facts.specs.Telling.{past_of}
 use Rattle.event_facts.specs.declared.facts.Fact.{Fact}
 use Rattle.event_facts.proofs.Due.{due}
+use Rattle.event_facts.proofs.LocalFacts.{local_facts, local_lines}
 use Rattle.event_facts.proofs.tracing.trace.Goals as goal
 
 pub plain_event-requires : goal.plain_event-requires
