@@ -45,7 +45,8 @@ pub fn trace(
         return Ok(());
     };
     if let PlainEvent::Instruction(Effect::Next { rd, .. }) = event {
-        return tell_register(facts, machine, entry, rd);
+        tell_register(facts, machine, entry, rd)?;
+        return Ok(());
     }
     tell(facts, machine, lines, entry, &event)?;
     Ok(())
