@@ -13,7 +13,7 @@ use Rattle.block_model.specs.History.{History}
 use Rattle.block_model.specs.Plain.{here_of}
 use Rattle.block_model.specs.Run.{IsBlockRun}
 use Rattle.block_model.specs.Setting.{Seen, Setting}
-use Rattle.block_model.proofs.Laws.{history-append, history-nil, length-history, next_event, run_before, start_run}
+use Rattle.block_model.proofs.Laws.{history-append, length-history, next_event, run_before, start_run}
 use Rattle.block_model.proofs.Swaps.Logs.{last_decided}
 use Rattle.block_view.specs.Passing.{IsMadeBy}
 use Rattle.block_view.specs.Turns.{turns}

@@ -157,6 +157,7 @@ impl Machine {
         ensures goes { IfNone result (has_ended self.now.setting (history self.now.setting self.now.log)
             ≡ false) }
         ensures hart { IfNone result (hart.0 < self.now.setting.limits.harts) }
+        ensures block_run { IsBlockRun self.now.setting self.now.log }
     {
         if let Some(end) = self.parts.ended {
             return Some(Refused::Ended(end));
@@ -184,8 +185,10 @@ impl Machine {
         if let Some(refused) = self.common_refusal(hart) {
             return Err(refused);
         }
-        let seen = self.seen_if_chosen(hart);
-        self.step_seen(hart, choice, seen)
+        if self.is_chosen() {
+            return self.step_chosen(hart, choice);
+        }
+        self.step_seen(hart, choice, None)
     }
 
     /// [`Machine::step`] of a hart whose `exec` is allowed ([`Machine::answer`]) and is a call that makes no fault

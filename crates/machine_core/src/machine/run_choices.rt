@@ -1,13 +1,10 @@
 //! A machine that makes the choices of `run`.
 
-ghost use Rattle.std.specs.Prelude.{◌≡◌, ◌<◌, ◌++◌, [], ◌∷◌, false, None, Some, Ok, IfOk, OnErr};
+ghost use Rattle.std.specs.Prelude.{◌≡◌, ◌<◌, ◌++◌, [], ◌∷◌, false, IfOk, OnErr};
 ghost use Rattle.mach_types.specs.Events.{choice_of};
-ghost use Rattle.block_model.specs.Choosing.{IsChosen, advance_at, all_chosen, credit_at, has_ended};
+ghost use Rattle.block_model.specs.Choosing.{IsChosen, advance_at, all_chosen, has_ended};
 ghost use Rattle.block_model.specs.Deciding.{decide, history};
-ghost use Rattle.block_model.specs.History.{here_in_history, ran};
 ghost use Rattle.block_model.specs.Run.{IsBlockRun};
-ghost use Rattle.block_model.specs.Sights.{sight_in};
-ghost use Rattle.mach_types.specs.declared.events.Entry.{Entry};
 ghost use Rattle.machine_core.specs.Advancing.{made_in};
 ghost use Rattle.machine_core.specs.Credits.{seen_if};
 
@@ -84,8 +81,25 @@ impl Machine {
         }
     }
 
-    /// [`Machine::step`] of a hart of the machine, where the run goes on, and this is seen of the hart, if every entry so far was the
-    /// choice of its hart.
+    /// [`Machine::step`] of a hart of the machine, where the run goes on and every entry so far was the choice of its hart.
+    #[inline(never)]
+    pub(crate) fn step_chosen(&mut self, hart: Hart, choice: Choice) -> Result<Entry, Refused>
+        requires chosen { IsChosen self.old.setting self.old.seed self.old.log }
+        requires goes { has_ended self.old.setting (history self.old.setting self.old.log) ≡ false }
+        requires hart { hart.0 < self.old.setting.limits.harts }
+        ensures answer { result
+            ≡ decide self.old.setting (history self.old.setting self.old.log) hart.0 choice }
+        ensures of { IfOk result (λ e. (e.hart ≡ hart) × (choice_of e ≡ choice)) }
+        ensures ok { IfOk result (λ e. self.new ≡ record self.old { log = self.old.log ++ e ∷ [] }) }
+        ensures err { OnErr result (self.new ≡ self.old) }
+        ensures block_run { IsBlockRun self.new.setting self.new.log }
+    {
+        let seen = self.sight(hart);
+        self.step_seen(hart, choice, Some(seen))
+    }
+
+    /// [`Machine::step`] of a hart of the machine, where the run goes on. Where every entry so far was the choice of its
+    /// hart, this is seen of the hart; else nothing.
     #[inline(always)]
     pub(crate) fn step_seen(
         &mut self,
