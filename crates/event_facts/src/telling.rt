@@ -12,8 +12,8 @@ ghost use Rattle.rv_inst.specs.Sizes.{HasAccessSizes};
 ghost use Rattle.block_model.specs.Events.{done_of};
 ghost use Rattle.block_model.specs.Here.{memory, view};
 ghost use Rattle.block_model.specs.Run.{IsBlockRun};
-ghost use Rattle.event_facts.specs.Deeds.{IsDeedOf, drained_in, entered_in, executed_in};
-ghost use Rattle.event_facts.specs.Facts.{entered_facts, executed_by, facts_of, loaded_by, memory_facts, reading_facts, register_fact};
+ghost use Rattle.event_facts.specs.Deeds.{IsDeedOf, combined_by, drained_in, entered_in, executed_in};
+ghost use Rattle.event_facts.specs.Facts.{entered_facts, executed_by, facts_of, memory_facts, reading_facts, register_fact};
 ghost use Rattle.event_facts.specs.Reservations.{own_facts};
 ghost use Rattle.event_facts.specs.Lines.{line_behind, next_line};
 ghost use Rattle.event_facts.specs.Telling.{HasSizes, IsDecided, effect_in, here_on, past_of, plain_event_of, register_by, registers_on};
@@ -75,16 +75,16 @@ pub fn plain_event(machine: &Machine, entry: Entry) -> Option<PlainEvent>
     }
 }
 
-/// The number that an instruction with this effect reads; 0 where it reads none.
-fn number_read(machine: &Machine, hart: Hart, effect: &Effect) -> u64
+/// The number that an AMO with this effect reads, of which it makes the one that it stores; 0 of any other instruction.
+fn number_combined(machine: &Machine, hart: Hart, effect: &Effect) -> u64
     requires hart { hart.0 < machine.now.setting.limits.harts }
     requires sizes { HasAccessSizes effect.now }
-    ensures { IfSome (loaded_by effect.now)
+    ensures { IfSome (combined_by effect.now)
         (λ x. result ≡ word_seen (view (here_on machine.now hart.0)) x.at x.count) }
 {
-    match read_by(effect) {
-        Some(range) => number_seen(machine, hart, range.at, range.size),
-        None => 0,
+    match *effect {
+        Effect::Amo { at, size, .. } => number_seen(machine, hart, at, size),
+        _ => 0,
     }
 }
 
@@ -98,7 +98,7 @@ fn deed_of(machine: &Machine, entry: Entry, event: &PlainEvent) -> Deed
 {
     match event {
         PlainEvent::Instruction(effect) => {
-            let seen = number_read(machine, entry.hart, effect);
+            let seen = number_combined(machine, entry.hart, effect);
             Deed::of_effect(effect, seen, machine.hart(entry.hart).reserved)
         }
         PlainEvent::Drain(store) => Deed::of_drain(*store),
