@@ -12,8 +12,7 @@ use Rattle.rv_inst.specs.declared.effects.Effect.{Effect}
 use Rattle.rv_inst.specs.declared.effects.Effect.TheVariants as effect
 use Rattle.block_model.specs.Events.{done_of}
 use Rattle.block_model.specs.Here.{Done, Here, view_of_all}
-use Rattle.event_facts.specs.Deeds.{IsDeedOf, drained_in, store_made, entered_in, store_executed, executed_in, store}
-use Rattle.event_facts.specs.Facts.{loaded_by}
+use Rattle.event_facts.specs.Deeds.{IsDeedOf, combined_by, drained_in, store_made, entered_in, store_executed, executed_in, store}
 use Rattle.event_facts.specs.Telling.{plain_event_of}
 use Rattle.event_facts.specs.declared.deeds.Deed.{Deed}
 use Rattle.event_facts.specs.declared.telling.PlainEvent.TheVariants.{Instruction, Drain}
@@ -41,7 +40,7 @@ made_if : (b : Bool) (x y : Outcome) (ws : List Store) → x.entered ≡ ws → 
 made_if true x y ws p q = sym p
 made_if false x y ws p q = sym q
 
-entered_as : (view : ℕ → Option ℕ) (regs : Regs) (pc seen : ℕ) (r : Option ℕ) (e : Effect) → IfSome (loaded_by e) (λ b. seen ≡ word_seen view b.at b.count)
+entered_as : (view : ℕ → Option ℕ) (regs : Regs) (pc seen : ℕ) (r : Option ℕ) (e : Effect) → IfSome (combined_by e) (λ b. seen ≡ word_seen view b.at b.count)
     → store_made seen r e ≡ (outcome view regs pc r e).entered
 entered_as view regs pc seen r (effect.Next rd value to) reads = refl
 entered_as view regs pc seen r (effect.Load at size is_signed rd) reads = refl
@@ -56,7 +55,7 @@ entered_as view regs pc seen r effect.Break reads = refl
 entered_as view regs pc seen r effect.Misaligned reads = refl
 
 pub instruction_deed : (c : Choice) (here : Here) (e : Effect) (seen : ℕ) (r : Option ℕ) (x : Deed) → plain_event_of c here ≡ Some (Instruction e) → r ≡ here.reserved
-    → IfSome (loaded_by e) (λ b. seen ≡ word_seen (view_of_all here) b.at b.count) → executed_in x ≡ store_executed e → drained_in x ≡ 0
+    → IfSome (combined_by e) (λ b. seen ≡ word_seen (view_of_all here) b.at b.count) → executed_in x ≡ store_executed e → drained_in x ≡ 0
     → entered_in x ≡ all_stored (store_made seen r e) → IsDeedOf (done_of c here) x
 instruction_deed c here e seen r x is same reads executed drained entered =
     let at = executes c here e is in

@@ -10,6 +10,7 @@ mod KeptLines
 mod KeptPieces
 mod LinesOfBytes
 mod Lists
+mod LocalFacts
 mod OtherThreads
 mod OwnRegisters
 mod PlainEffects

@@ -1,5 +1,5 @@
 -- What a plain event does to stores and to memory, as code keeps it.
-use Rattle.std.specs.Prelude.{ℕ, ◌≡◌, List, [], ◌∷◌, if◌then◌else◌, Option}
+use Rattle.std.specs.Prelude.{ℕ, ◌≡◌, List, [], ◌∷◌, if◌then◌else◌, Option, Some, None}
 use Rattle.std.specs.Option.{option_map, option_to_list}
 use Rattle.mach_types.specs.Bytes.{all_stored}
 use Rattle.mach_types.specs.declared.user_memory.Store.{Store}
@@ -53,6 +53,20 @@ store_executed effect.FenceI = []
 store_executed effect.Call = []
 store_executed effect.Break = []
 store_executed effect.Misaligned = []
+
+-- the bytes whose number it makes into the one that it stores: an AMO does (RISC-V Unprivileged ISA, chapter "A")
+abbrev pub combined_by : Effect → Option Bytes
+combined_by (effect.Next rd value to) = None
+combined_by (effect.Load at size is_signed rd) = None
+combined_by (effect.Store at size value) = None
+combined_by (effect.Amo op at size value rd) = Some (bytes at size)
+combined_by (effect.Lr at size rd) = None
+combined_by (effect.Sc at size value rd) = None
+combined_by (effect.Fence full) = None
+combined_by effect.FenceI = None
+combined_by effect.Call = None
+combined_by effect.Break = None
+combined_by effect.Misaligned = None
 
 -- and the store that enters memory with it at once, where this is the number that it reads and its hart has this reserved
 abbrev pub store_made : ℕ → Option ℕ → Effect → List Store

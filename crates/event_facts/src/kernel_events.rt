@@ -118,6 +118,7 @@ fn push_kernel(
 
 /// Makes an entry that is due and isn't plain, and appends what came of it; the lines are then those of the longer
 /// log.
+#[inline(never)]
 pub(crate) fn tell_kernel(
     alloc: Global,
     facts: &mut Vec<Fact>,

@@ -12,8 +12,8 @@ ghost use Rattle.rv_inst.specs.Sizes.{HasAccessSizes};
 ghost use Rattle.block_model.specs.Events.{done_of};
 ghost use Rattle.block_model.specs.Here.{memory, view};
 ghost use Rattle.block_model.specs.Run.{IsBlockRun};
-ghost use Rattle.event_facts.specs.Deeds.{IsDeedOf, drained_in, entered_in, executed_in};
-ghost use Rattle.event_facts.specs.Facts.{entered_facts, executed_by, facts_of, loaded_by, memory_facts, reading_facts};
+ghost use Rattle.event_facts.specs.Deeds.{IsDeedOf, combined_by, drained_in, entered_in, executed_in};
+ghost use Rattle.event_facts.specs.Facts.{entered_facts, executed_by, facts_of, memory_facts, reading_facts, register_fact};
 ghost use Rattle.event_facts.specs.Reservations.{own_facts};
 ghost use Rattle.event_facts.specs.Lines.{line_behind, next_line};
 ghost use Rattle.event_facts.specs.Telling.{HasSizes, IsDecided, effect_in, here_on, past_of, plain_event_of, register_by, registers_on};
@@ -75,16 +75,16 @@ pub fn plain_event(machine: &Machine, entry: Entry) -> Option<PlainEvent>
     }
 }
 
-/// The number that an instruction with this effect reads; 0 where it reads none.
-fn number_read(machine: &Machine, hart: Hart, effect: &Effect) -> u64
+/// The number that an AMO with this effect reads, of which it makes the one that it stores; 0 of any other instruction.
+fn number_combined(machine: &Machine, hart: Hart, effect: &Effect) -> u64
     requires hart { hart.0 < machine.now.setting.limits.harts }
     requires sizes { HasAccessSizes effect.now }
-    ensures { IfSome (loaded_by effect.now)
+    ensures { IfSome (combined_by effect.now)
         (λ x. result ≡ word_seen (view (here_on machine.now hart.0)) x.at x.count) }
 {
-    match read_by(effect) {
-        Some(range) => number_seen(machine, hart, range.at, range.size),
-        None => 0,
+    match *effect {
+        Effect::Amo { at, size, .. } => number_seen(machine, hart, at, size),
+        _ => 0,
     }
 }
 
@@ -98,7 +98,7 @@ fn deed_of(machine: &Machine, entry: Entry, event: &PlainEvent) -> Deed
 {
     match event {
         PlainEvent::Instruction(effect) => {
-            let seen = number_read(machine, entry.hart, effect);
+            let seen = number_combined(machine, entry.hart, effect);
             Deed::of_effect(effect, seen, machine.hart(entry.hart).reserved)
         }
         PlainEvent::Drain(store) => Deed::of_drain(*store),
@@ -232,9 +232,30 @@ fn register_on(machine: &Machine, hart: Hart, number: u8) -> u64
     machine.hart(hart).file.get(number)
 }
 
+/// Makes an entry that is due, and appends this register of its hart's thread, where its value is another one then.
+pub(crate) fn tell_register(
+    facts: &mut Vec<Fact>,
+    machine: &mut Machine,
+    entry: Entry,
+    number: u8,
+) -> Result<(), AllocError>
+    requires hart { entry.hart.0 < machine.old.setting.limits.harts }
+    requires decided { IsDecided machine.old entry }
+    ensures machine { machine.new ≡ record machine.old { log = machine.old.log ++ entry ∷ [] } }
+    ensures run { IsBlockRun machine.new.setting machine.new.log }
+    ensures facts { OnOk result (facts.new.items ≡ facts.old.items
+        ++ register_fact (registers_on machine.old entry.hart.0) (registers_on machine.new entry.hart.0) number) }
+{
+    let before = register_on(machine, entry.hart, number);
+    make(machine, entry);
+    let value = register_on(machine, entry.hart, number);
+    push_if_other(facts, number, before, value)
+}
+
 /// Makes a plain event that is due, and appends what came of it; the lines are then those of the longer log.
 ///
 /// It errs only for want of memory.
+#[inline(never)]
 pub fn tell(
     facts: &mut Vec<Fact>,
     machine: &mut Machine,
@@ -260,10 +281,7 @@ pub fn tell(
     let line = machine.log().len() as u32 + 1;
     let deed = deed_of(machine, entry, event);
     push_memory(facts, machine, lines, hart, event, &deed, line)?;
-    let number = register_of(event);
-    let before = register_on(machine, hart, number);
-    make(machine, entry);
-    push_if_other(facts, number, before, register_on(machine, hart, number))?;
+    tell_register(facts, machine, entry, register_of(event))?;
     lines.note(hart, &deed, line)?;
     Ok(())
 }

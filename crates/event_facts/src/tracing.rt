@@ -10,10 +10,11 @@ ghost use Rattle.event_facts.specs.Trace.{trace_of};
 use crate::facts::Fact;
 use crate::kernel_events::tell_kernel;
 use crate::lines::Lines;
-use crate::telling::{plain_event, tell};
+use crate::telling::{PlainEvent, plain_event, tell, tell_register};
 use crate::theorems::plain_events_are_told_by_their_facts;
 use mach_types::Entry;
 use machine_core::Machine;
+use rv_inst::Effect;
 use std::alloc::{AllocError, Global};
 
 /// Makes an entry that is due, and appends all that is told of it; the lines are then those of the longer log.
@@ -43,6 +44,10 @@ pub fn trace(
         tell_kernel(alloc, facts, machine, lines, entry)?;
         return Ok(());
     };
+    if let PlainEvent::Instruction(Effect::Next { rd, .. }) = event {
+        tell_register(facts, machine, entry, rd)?;
+        return Ok(());
+    }
     tell(facts, machine, lines, entry, &event)?;
     Ok(())
 }

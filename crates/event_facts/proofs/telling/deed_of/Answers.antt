@@ -6,8 +6,8 @@ use Rattle.event_facts.proofs.telling.deed_of.Goals as goal
 
 pub returns-in-Instruction-clause-deed : goal.returns-in-Instruction-clause-deed
 returns-in-Instruction-clause-deed c =
-    instruction_deed (choice_of c.args.entry) (here_on c.args.machine.now c.args.entry.hart.0) c.in-Instruction.effect c.number_read-seen.result c.hart.result.now.reserved
-    c.of_effect.result (c.requires.event ∙ ap Some c.in-Instruction.is) (λ i. (c.hart.ensures i).reserved) c.number_read-seen.ensures
+    instruction_deed (choice_of c.args.entry) (here_on c.args.machine.now c.args.entry.hart.0) c.in-Instruction.effect c.number_combined-seen.result c.hart.result.now.reserved
+    c.of_effect.result (c.requires.event ∙ ap Some c.in-Instruction.is) (λ i. (c.hart.ensures i).reserved) c.number_combined-seen.ensures
     c.of_effect.ensures.executed c.of_effect.ensures.drained c.of_effect.ensures.entered
 
 pub returns-in-Drain-clause-deed : goal.returns-in-Drain-clause-deed

@@ -2,6 +2,7 @@ use Rattle.std.proofs.Common.{ℕ, ◌+◌, ◌<◌, ◌∷◌, [], ◌++◌, �
 use Rattle.mach_types.specs.Registers.{register}
 use Rattle.mach_types.specs.declared.events.Entry.{Entry}
 use Rattle.block_model.specs.Setting.{Seen}
+use Rattle.event_facts.specs.Facts.{register_fact}
 use Rattle.event_facts.specs.Telling.{past_of, registers_on}
 use Rattle.event_facts.specs.declared.facts.Fact.{Fact}
 use Rattle.event_facts.specs.declared.facts.Fact.TheVariants.{Register}
@@ -30,13 +31,8 @@ push_memory-requires-clause-hart c = (due c.args.machine.now c.args.entry c.requ
 pub push_memory-requires-clause-line : goal.push_memory-requires-clause-line
 push_memory-requires-clause-line c = ap (λ (l : List Entry). length l + 1) c.log.ensures ∙ line_is c.args.machine.now
 
-pub register_on-before-requires : goal.register_on-before-requires
-register_on-before-requires c = (due c.args.machine.now c.args.entry c.requires.run c.requires.decided).lt
-
-pub register_on-requires : goal.register_on-requires
-register_on-requires c =
-    subst (λ (m : Seen). c.args.entry.hart.0 < m.setting.limits.harts) (sym c.make.ensures.machine)
-    (due c.args.machine.now c.args.entry c.requires.run c.requires.decided).lt
+pub tell_register-requires-clause-hart : goal.tell_register-requires-clause-hart
+tell_register-requires-clause-hart c = (due c.args.machine.now c.args.entry c.requires.run c.requires.decided).lt
 
 pub note-requires-clause-hart : goal.note-requires-clause-hart
 note-requires-clause-hart c =
@@ -51,22 +47,19 @@ note-requires-clause-lines c =
 pub returns-clause-facts : goal.returns-clause-facts
 returns-clause-facts c =
     let m = c.args.machine.now in
-    let m' = c.make.new.machine in
+    let m' = c.tell_register.new.machine in
     let h = c.args.entry.hart.0 in
-    let told = all_facts m m' c.args.entry c.requires.run c.requires.decided c.make.ensures.machine c.args.event.now c.deed_of-deed.result
+    let told = all_facts m m' c.args.entry c.requires.run c.requires.decided c.tell_register.ensures.machine c.args.event.now c.deed_of-deed.result
     (registers_on m h) c.requires.event c.deed_of-deed.ensures.deed refl in
-    let alone = set_alone m m' c.args.entry c.requires.run c.requires.decided c.make.ensures.machine c.args.event.now c.requires.event c.make.ensures.run in
-    let number = c.register_of-number.ensures in
-    let before = c.register_on-before.ensures ∙ ap (register (registers_on m h)) number in
-    let value = c.register_on.ensures ∙ ap (register (registers_on m' h)) number in
-    let fact = λ (n v w : ℕ). let l : List Fact = cond (eqb v w) [] (Register n w ∷ []) in l in
+    let alone = set_alone m m' c.args.entry c.requires.run c.requires.decided c.tell_register.ensures.machine c.args.event.now c.requires.event c.tell_register.ensures.run in
     two_pieces _ _ _ _ _ c.in_ok-push_memory.ensures
-    (c.in_ok-push_if_other.ensures ∙ ap (λ (l : List Fact). c.push_memory.new.facts.items ++ l) ((λ i. fact (number i) (before i) (value i)) ∙ sym alone))
+    (c.in_ok-tell_register.ensures.facts
+    ∙ ap (λ (l : List Fact). c.push_memory.new.facts.items ++ l) (ap (register_fact (registers_on m h) (registers_on m' h)) c.register_of.ensures ∙ sym alone))
     ∙ ap (λ (l : List Fact). c.args.facts.now.items ++ l) (sym told)
 
 pub returns-clause-lines : goal.returns-clause-lines
 returns-clause-lines c =
     let line = ap (λ (l : List Entry). length l + 1) c.log.ensures ∙ line_is c.args.machine.now in
-    lines_after c.args.machine.now c.make.new.machine c.args.entry c.requires.run c.requires.decided c.make.ensures.machine c.deed_of-deed.result _ c.args.lines.now
+    lines_after c.args.machine.now c.tell_register.new.machine c.args.entry c.requires.run c.requires.decided c.tell_register.ensures.machine c.deed_of-deed.result _ c.args.lines.now
     c.note.new.self c.deed_of-deed.ensures.deed line c.requires.lines c.in_ok-note.ensures.harts c.in_ok-note.ensures.own c.in_ok-note.ensures.others
     c.in_ok-note.ensures.written
