@@ -27,7 +27,7 @@ use Rattle.fact_text.specs.Lines.{facts_text}
 use Rattle.place_text.specs.Ends.{number_line}
 use Rattle.step_log.specs.Text.{entry_text}
 use Rattle.outcomes.specs.Traces.{event_text, events_text, is_within, turn_line}
-use Rattle.command_runs.specs.Tracing.{HasTold, IsFollowed, IsTold, turn_text}
+use Rattle.command_runs.specs.Tracing.{HasTold, IsFollowed, IsTraced, turn_text}
 use Rattle.command_runs.specs.declared.tracing.Followed.{Followed}
 
 -- ONE ENTRY
@@ -140,7 +140,7 @@ text_end span s all i start text past so_far =
 -- A LOG AS IT IS MADE
 
 -- before its first entry
-pub told_at_start : (span : LineSpan) (m : Seen) (x : Followed) (text : List ℕ) → m.log ≡ [] → text ≡ [] → IsFollowed m x → IsTold span m x text
+pub told_at_start : (span : LineSpan) (m : Seen) (x : Followed) (text : List ℕ) → m.log ≡ [] → text ≡ [] → IsFollowed m x → IsTraced span m x text
 told_at_start span m x text none empty followed = record {
   run = subst (λ (log : List Entry). IsBlockRun m.setting log) (sym none) (start_run m.setting);
   followed = followed;
@@ -165,9 +165,9 @@ unfolding history
 one_more span s log e = one_more_from span s e [] log
 
 -- with one entry more
-pub told_longer : (span : LineSpan) (m m' : Seen) (e : Entry) (x x' : Followed) (text text' : List ℕ) → IsTold span m x text
+pub told_longer : (span : LineSpan) (m m' : Seen) (e : Entry) (x x' : Followed) (text text' : List ℕ) → IsTraced span m x text
     → m' ≡ record m { log = m.log ++ e ∷ [] } → IsBlockRun m'.setting m'.log → IsFollowed m' x'
-    → text' ≡ text ++ cond (is_within span (next_line (past_of m))) (event_text m.setting (past_of m) e) [] → IsTold span m' x' text'
+    → text' ≡ text ++ cond (is_within span (next_line (past_of m))) (event_text m.setting (past_of m) e) [] → IsTraced span m' x' text'
 told_longer span m m' e x x' text text' was made run followed pushed = record {
   run = run;
   followed = followed;

@@ -14,7 +14,7 @@ ghost use Rattle.block_view.specs.Ledgers.{kept_in};
 ghost use Rattle.block_view.specs.Tied.{IsOfLog};
 ghost use Rattle.block_view.specs.Turns.{acts_left_open};
 ghost use Rattle.command_runs.specs.Playing.{IsPlaying};
-ghost use Rattle.command_runs.specs.Tracing.{HasTold, IsFollowed, IsTold, turn_text};
+ghost use Rattle.command_runs.specs.Tracing.{HasTold, IsFollowed, IsTraced, turn_text};
 ghost use Rattle.event_facts.specs.Lines.{next_line};
 ghost use Rattle.event_facts.specs.Telling.{IsDecided, past_of};
 ghost use Rattle.fact_text.specs.Lines.{facts_text};
@@ -365,10 +365,10 @@ fn tell_next(
 ) -> Result<bool, Reason>
     requires limits { InRange machine.old.setting.limits }
     requires playing { IsPlaying script.now machine.old reader.old }
-    requires told { IsTold span.now machine.old followed.old text.old.items }
+    requires told { IsTraced span.now machine.old followed.old text.old.items }
     ensures setting { OnOk result (machine.new.setting ≡ machine.old.setting) }
     ensures playing { IfOk result (λ more. IsPlaying script.now machine.new reader.new) }
-    ensures told { OnOk result (IsTold span.now machine.new followed.new text.new.items) }
+    ensures told { OnOk result (IsTraced span.now machine.new followed.new text.new.items) }
     ensures shorter { IfOk result (λ more. IsTrue more → length reader.new.left < length reader.old.left) }
     ensures whole { IfOk result
         (λ more. more ≡ false → IsWholePlay machine.old.setting script.now machine.new) }
