@@ -6,6 +6,7 @@ use Rattle.std.specs.Option.{option_to_list}
 use Rattle.std.proofs.lemmas.List.{drop_all, drop_more, take-append-drop, take_more}
 use Rattle.mach_types.specs.Events.{choice_of}
 use Rattle.mach_types.specs.Limits.{InRange}
+use Rattle.mach_types.specs.declared.events.Choice.{Choice}
 use Rattle.mach_types.specs.declared.events.Entry.{Entry}
 use Rattle.block_model.specs.Deciding.{decide, event, history}
 use Rattle.block_model.specs.Events.{done_of}
@@ -13,7 +14,7 @@ use Rattle.block_model.specs.History.{History}
 use Rattle.block_model.specs.Plain.{here_of}
 use Rattle.block_model.specs.Run.{IsBlockRun}
 use Rattle.block_model.specs.Setting.{Seen, Setting}
-use Rattle.block_model.proofs.Laws.{history-append, length-history, next_event, run_before, start_run}
+use Rattle.block_model.proofs.Laws.{decided_is, history-append, length-history, next_event, run_before, start_run}
 use Rattle.block_model.proofs.Swaps.Logs.{last_decided}
 use Rattle.block_view.specs.Passing.{IsMadeBy}
 use Rattle.block_view.specs.Turns.{turns}
@@ -62,6 +63,12 @@ its_hart m e run decided limits =
     let lt = its_place m e run decided in
     let most = limits.eight_harts in
     omega arith
+
+-- an answer to a choice is what is decided
+pub is_decided : (m : Seen) (h : ℕ) (c : Choice) (e : Entry) → decide m.setting (past_of m) h c ≡ Ok e → IsDecided m e
+is_decided m h c e d =
+    let of = decided_is m.setting (past_of m) h c e d in
+    ap (λ k. decide m.setting (past_of m) k (choice_of e)) of.0 ∙ ap (decide m.setting (past_of m) h) of.1 ∙ d
 
 -- the machine has made it
 pub is_made : (m m' : Seen) (e : Entry) → IsDecided m e → m' ≡ record m { log = m.log ++ e ∷ [] } → IsBlockRun m'.setting m'.log → IsMadeBy m m' e

@@ -30,7 +30,7 @@ turn_text None = []
 turn_text (Some turn) = turn_line turn
 
 -- a machine's log is told so far: this is followed of it, and this is the text of its entries
-pub record IsTraced (span : LineSpan) (m : Seen) (x : Followed) (text : List ℕ) : Type 0 where
+pub record IsTraced (span : LineSpan) (m : Seen) (x : Followed) (lines : List ℕ) : Type 0 where
   pub run : IsBlockRun m.setting m.log
   pub followed : IsFollowed m x
-  pub text : text ≡ events_text span m.setting [] m.log
+  pub text : lines ≡ events_text span m.setting [] m.log
