@@ -251,7 +251,10 @@ fn traced_text<S: Shelf>(
     let image = taken(alloc, program, &limits, shelf)?;
     let lines = read_file(alloc, traced.script, FileRole::Script, shelf)?;
     let run = play_traced(alloc, &image, limits, &traced.span, &lines)?;
-    let TracedRun { machine: _, text } = run;
+    let TracedRun {
+        machine: _machine,
+        text,
+    } = run;
     Ok(Output::whole(text))
 }
 
