@@ -1,11 +1,12 @@
--- A log is made again, entry by entry, and told.
+-- A log is told, entry by entry, as it is made, or made again.
 use Rattle.std.proofs.Common.{◌≡◌, ℕ, ◌+◌, ◌<◌, List, [], ◌∷◌, ◌++◌, length, take, drop, get_or, ◌≤◌, refl, sym, ap, ◌∙◌, subst, arith, cond, Ok, append_assoc, append-nil, length-append, Option, Some, None, take_all}
 use Rattle.std.specs.Prelude.{codes}
-use Rattle.std.specs.List.{flat_map}
+use Rattle.std.specs.List.{flat_map, fold}
 use Rattle.std.specs.Option.{option_to_list}
 use Rattle.std.proofs.lemmas.List.{drop_all, drop_more, take-append-drop, take_more}
 use Rattle.mach_types.specs.Events.{choice_of}
 use Rattle.mach_types.specs.Limits.{InRange}
+use Rattle.mach_types.specs.declared.events.Choice.{Choice}
 use Rattle.mach_types.specs.declared.events.Entry.{Entry}
 use Rattle.block_model.specs.Deciding.{decide, event, history}
 use Rattle.block_model.specs.Events.{done_of}
@@ -13,7 +14,7 @@ use Rattle.block_model.specs.History.{History}
 use Rattle.block_model.specs.Plain.{here_of}
 use Rattle.block_model.specs.Run.{IsBlockRun}
 use Rattle.block_model.specs.Setting.{Seen, Setting}
-use Rattle.block_model.proofs.Laws.{history-append, length-history, next_event, run_before, start_run}
+use Rattle.block_model.proofs.Laws.{decided_is, history-append, length-history, next_event, run_before, start_run}
 use Rattle.block_model.proofs.Swaps.Logs.{last_decided}
 use Rattle.block_view.specs.Passing.{IsMadeBy}
 use Rattle.block_view.specs.Turns.{turns}
@@ -27,7 +28,7 @@ use Rattle.fact_text.specs.Lines.{facts_text}
 use Rattle.place_text.specs.Ends.{number_line}
 use Rattle.step_log.specs.Text.{entry_text}
 use Rattle.outcomes.specs.Traces.{event_text, events_text, is_within, turn_line}
-use Rattle.command_runs.specs.Tracing.{HasTold, IsFollowed, turn_text}
+use Rattle.command_runs.specs.Tracing.{HasTold, IsFollowed, IsTraced, turn_text}
 use Rattle.command_runs.specs.declared.tracing.Followed.{Followed}
 
 -- ONE ENTRY
@@ -62,6 +63,12 @@ its_hart m e run decided limits =
     let lt = its_place m e run decided in
     let most = limits.eight_harts in
     omega arith
+
+-- an answer to a choice is what is decided
+pub is_decided : (m : Seen) (h : ℕ) (c : Choice) (e : Entry) → decide m.setting (past_of m) h c ≡ Ok e → IsDecided m e
+is_decided m h c e d =
+    let of = decided_is m.setting (past_of m) h c e d in
+    ap (λ k. decide m.setting (past_of m) k (choice_of e)) of.0 ∙ ap (decide m.setting (past_of m) h) of.1 ∙ d
 
 -- the machine has made it
 pub is_made : (m m' : Seen) (e : Entry) → IsDecided m e → m' ≡ record m { log = m.log ++ e ∷ [] } → IsBlockRun m'.setting m'.log → IsMadeBy m m' e
@@ -136,3 +143,41 @@ text_end span s all i start text past so_far =
     sym (append-nil text)
     ∙ sym (ap (λ (l : List Entry). text ++ events_text span s (history s (take i all)) l) (drop_all i all past))
     ∙ so_far
+
+-- A LOG AS IT IS MADE
+
+-- before its first entry
+pub told_at_start : (span : LineSpan) (m : Seen) (x : Followed) (text : List ℕ) → m.log ≡ [] → text ≡ [] → IsFollowed m x → IsTraced span m x text
+told_at_start span m x text none empty followed = record {
+  run = subst (λ (log : List Entry). IsBlockRun m.setting log) (sym none) (start_run m.setting);
+  followed = followed;
+  text = empty ∙ sym (ap (events_text span m.setting []) none);
+}
+
+-- what is told of an entry after a history, where its line is told
+abbrev told_of : LineSpan → Setting → Entry → History → List ℕ
+told_of span s e before = cond (is_within span (next_line before)) (event_text s before e) []
+
+-- it stands behind what is told of the entries before it
+one_more_from : (span : LineSpan) (s : Setting) (e : Entry) (before : History) (log : List Entry)
+    → events_text span s before (log ++ e ∷ []) ≡ events_text span s before log ++ told_of span s e (fold (λ past x. event s past x ∷ past) before log)
+one_more_from span s e before [] = append-nil (told_of span s e before)
+one_more_from span s e before (x ∷ rest) =
+    ap (λ (l : List ℕ). told_of span s x before ++ l) (one_more_from span s e (event s before x ∷ before) rest)
+    ∙ sym (append_assoc (told_of span s x before) (events_text span s (event s before x ∷ before) rest) _)
+
+one_more : (span : LineSpan) (s : Setting) (log : List Entry) (e : Entry)
+    → events_text span s [] (log ++ e ∷ []) ≡ events_text span s [] log ++ told_of span s e (history s log)
+unfolding history
+one_more span s log e = one_more_from span s e [] log
+
+-- with one entry more
+pub told_longer : (span : LineSpan) (m m' : Seen) (e : Entry) (x x' : Followed) (text text' : List ℕ) → IsTraced span m x text
+    → m' ≡ record m { log = m.log ++ e ∷ [] } → IsBlockRun m'.setting m'.log → IsFollowed m' x'
+    → text' ≡ text ++ cond (is_within span (next_line (past_of m))) (event_text m.setting (past_of m) e) [] → IsTraced span m' x' text'
+told_longer span m m' e x x' text text' was made run followed pushed = record {
+  run = run;
+  followed = followed;
+  text = pushed ∙ ap (λ (l : List ℕ). l ++ told_of span m.setting e (past_of m)) was.text ∙ sym (one_more span m.setting m.log e)
+      ∙ sym (ap (λ (z : Seen). events_text span z.setting [] z.log) made);
+}

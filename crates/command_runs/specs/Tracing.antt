@@ -1,4 +1,4 @@
--- A log that is made again, entry by entry, and told.
+-- A log that is told, entry by entry, as it is made, or made again.
 use Rattle.std.specs.Prelude.{◌≡◌, ℕ, List, [], Option, Some, None}
 use Rattle.mach_types.specs.declared.events.Entry.{Entry}
 use Rattle.block_model.specs.Run.{IsBlockRun}
@@ -8,7 +8,8 @@ use Rattle.block_view.specs.Tied.{IsOfLog}
 use Rattle.block_view.specs.declared.turns.Turn.{Turn}
 use Rattle.event_facts.specs.Telling.{past_of}
 use Rattle.event_facts.specs.Tied.{AreLinesOf}
-use Rattle.outcomes.specs.Traces.{turn_line}
+use Rattle.command_words.specs.declared.commands.LineSpan.{LineSpan}
+use Rattle.outcomes.specs.Traces.{events_text, turn_line}
 use Rattle.command_runs.specs.declared.tracing.Followed.{Followed}
 
 -- what is followed of a machine's log: its lines, and its restartable sequences
@@ -27,3 +28,9 @@ pub record HasTold (s : Setting) (log : List Entry) (m : Seen) (x : Followed) : 
 abbrev pub turn_text : Option Turn → List ℕ
 turn_text None = []
 turn_text (Some turn) = turn_line turn
+
+-- a machine's log is told so far: this is followed of it, and this is the text of its entries
+pub record IsTraced (span : LineSpan) (m : Seen) (x : Followed) (lines : List ℕ) : Type 0 where
+  pub run : IsBlockRun m.setting m.log
+  pub followed : IsFollowed m x
+  pub text : lines ≡ events_text span m.setting [] m.log

@@ -23,3 +23,4 @@ pub use run::run_workers;
 pub use scripts::{CountedRun, play, play_counted};
 pub use solo::run_solo;
 pub use texts::{counted_summary, shown_text, trial_text};
+pub use tracing::{TracedRun, play_traced};

@@ -1,25 +1,33 @@
-//! A trace: the lines of a run's log, below each what came of its event, and the run's end.
+//! A trace: the lines of a run's log, below each what came of its event, and the run's end. That of a run by a
+//! script is told while the run is made.
 
-ghost use Rattle.std.specs.Prelude.{◌≡◌, ◌<◌, ◌++◌, ◌∷◌, [], IfOk, OnOk, codes, if◌then◌else◌};
+ghost use Rattle.std.specs.Prelude.{◌≡◌, ◌<◌, ◌++◌, ◌∷◌, [], Some, false, IfOk, IfErr, IsTrue, OnOk, codes, if◌then◌else◌, length};
 ghost use Rattle.std.specs.List.{flat_map};
 ghost use Rattle.mach_types.specs.Limits.{InRange};
 ghost use Rattle.elf_load.specs.Images.{IsBootable};
 ghost use Rattle.block_model.specs.Deciding.{end_of, history};
 ghost use Rattle.block_model.specs.History.{kernel};
+ghost use Rattle.block_model.specs.Replay.{made_by};
 ghost use Rattle.block_model.specs.Run.{IsBlockRun};
 ghost use Rattle.block_model.specs.Setting.{Seen, setting_of};
 ghost use Rattle.block_view.specs.Ledgers.{kept_in};
 ghost use Rattle.block_view.specs.Tied.{IsOfLog};
 ghost use Rattle.block_view.specs.Turns.{acts_left_open};
-ghost use Rattle.command_runs.specs.Tracing.{HasTold, IsFollowed, turn_text};
+ghost use Rattle.command_runs.specs.Playing.{IsPlaying};
+ghost use Rattle.command_runs.specs.Tracing.{HasTold, IsFollowed, IsTraced, turn_text};
 ghost use Rattle.event_facts.specs.Lines.{next_line};
 ghost use Rattle.event_facts.specs.Telling.{IsDecided, past_of};
 ghost use Rattle.fact_text.specs.Lines.{facts_text};
 ghost use Rattle.place_text.specs.Ends.{number_line};
 ghost use Rattle.step_log.specs.Text.{entry_text};
+ghost use Rattle.outcomes.specs.Delivery.{IsPlayReason};
+ghost use Rattle.outcomes.specs.Programs.{ask_of};
+ghost use Rattle.outcomes.specs.Reasons.{line_fault};
+ghost use Rattle.outcomes.specs.Runs.{IsWholePlay};
 ghost use Rattle.outcomes.specs.Traces as spec;
 ghost use Rattle.outcomes.specs.Traces.{ends_line, event_text, events_text, open_text, stuck_text, trace_tail, waiting_line, waiting_text};
 
+use crate::scripts::is_as_said;
 use crate::sequences::{push_ends, push_turn};
 use block_view::{Ledger, Turn, seen_after, seen_ahead};
 use command_words::LineSpan;
@@ -29,10 +37,11 @@ use fact_text::push_facts;
 use log_lines::push_lines;
 use mach_types::{End, Entry, Kind, Limits, ThreadState, Tid};
 use machine_core::Machine;
+use outcomes::{LineFault, Reason};
 use place_text::fields::{begin_line, push_named_value};
 use place_text::{LineEnd, push_end, push_number_line};
 use std::alloc::{AllocError, Global};
-use step_log::exec_line;
+use step_log::{Line, LineReader, exec_line};
 
 /// The seed of a machine that draws no choice.
 const NO_SEED: u64 = 0;
@@ -294,4 +303,115 @@ pub(crate) fn trace_text(
     push_open(alloc, &mut text, span, followed.ledger, &again)?;
     push_tail(&mut text, machine)?;
     Ok(text)
+}
+
+/// A run by a script that was told while it was made.
+#[derive(Drop)]
+pub struct TracedRun {
+    /// The machine at the end of the run.
+    pub machine: Machine,
+    /// Its trace.
+    pub text: Vec<u8>,
+}
+
+/// Plays a script as [`play`](crate::play) does, and tells the lines of a span, event by event.
+///
+/// Refused as that is.
+#[tactic(auto, unfolding(outcomes::specs::Traces::trace_text))]
+pub fn play_traced(
+    alloc: Global,
+    image: &Image,
+    limits: Limits,
+    span: &LineSpan,
+    script: &[u8],
+) -> Result<TracedRun, Reason>
+    requires image { IsBootable limits.frames image.now }
+    requires limits { InRange limits }
+    ensures whole { IfOk result (λ run. IsWholePlay (setting_of image.now limits) script.now run.machine) }
+    ensures text { IfOk result
+        (λ run. run.text.items ≡ spec.trace_text span.now run.machine.setting run.machine.log) }
+    ensures cause { IfErr result (IsPlayReason (setting_of image.now limits) script.now) }
+{
+    let mut machine = Machine::boot(alloc, image, limits, NO_SEED)?;
+    let mut followed = Followed::new(alloc, limits.harts)?;
+    let mut text = Vec::new(alloc);
+    let mut facts = Vec::new(alloc);
+    let mut reader = LineReader::new(script);
+    'lines: while tell_next(
+        alloc,
+        &mut text,
+        span,
+        &mut machine,
+        &mut followed,
+        &mut facts,
+        &mut reader,
+        script,
+    )? {}
+    push_open(alloc, &mut text, span, followed.ledger, &machine)?;
+    push_tail(&mut text, &machine)?;
+    Ok(TracedRun { machine, text })
+}
+
+/// Plays the next line of a script, and appends what is told of its event, where its line is told; false where
+/// none is left.
+fn tell_next(
+    alloc: Global,
+    text: &mut Vec<u8>,
+    span: &LineSpan,
+    machine: &mut Machine,
+    followed: &mut Followed,
+    facts: &mut Vec<Fact>,
+    reader: &mut LineReader<'_>,
+    script: &[u8],
+) -> Result<bool, Reason>
+    requires limits { InRange machine.old.setting.limits }
+    requires playing { IsPlaying script.now machine.old reader.old }
+    requires told { IsTraced span.now machine.old followed.old text.old.items }
+    ensures setting { OnOk result (machine.new.setting ≡ machine.old.setting) }
+    ensures playing { IfOk result (λ more. IsPlaying script.now machine.new reader.new) }
+    ensures told { OnOk result (IsTraced span.now machine.new followed.new text.new.items) }
+    ensures shorter { IfOk result (λ more. IsTrue more → length reader.new.left < length reader.old.left) }
+    ensures whole { IfOk result
+        (λ more. more ≡ false → IsWholePlay machine.old.setting script.now machine.new) }
+    ensures refused { IfErr result (IsPlayReason machine.old.setting script.now) }
+{
+    let number = machine.log().len() as u64 + 1;
+    match reader.next_line() {
+        Ok(None) => Ok(false),
+        Ok(Some(line)) => match due_entry(machine, &line) {
+            Ok(entry) => {
+                push_next(alloc, text, span, machine, followed, facts, entry)?;
+                Ok(true)
+            }
+            Err(fault) => Err(Reason::Script {
+                line: number,
+                fault,
+            }),
+        },
+        Err(_) => Err(Reason::Script {
+            line: number,
+            fault: LineFault::Malformed,
+        }),
+    }
+}
+
+/// The entry of the event of a line, which is yet to be made; unless it isn't allowed, or its thread or pc isn't
+/// as the line says.
+fn due_entry(machine: &Machine, line: &Line) -> Result<Entry, LineFault>
+    ensures decided { IfOk result (IsDecided machine.now) }
+    ensures made { IfOk result
+        (λ entry. made_by machine.now.setting machine.now.log (ask_of line.now) ≡ Some entry) }
+    ensures refused { IfErr result
+        (λ fault. line_fault machine.now.setting machine.now.log (Some (ask_of line.now)) ≡ Some fault) }
+{
+    match machine.answer(line.hart, line.choice) {
+        Ok(entry) => {
+            if is_as_said(line.check, entry) {
+                Ok(entry)
+            } else {
+                Err(LineFault::Differs(entry))
+            }
+        }
+        Err(refused) => Err(LineFault::Refused(refused)),
+    }
 }

@@ -9,7 +9,7 @@ ghost use Rattle.outside.specs.Counts.{NoneFalls};
 ghost use Rattle.command_words.specs.Commands.{Drawn, DrawnAfter, HasHartsOf, HasItsHarts, HasLimits, Rule, Script};
 ghost use Rattle.command_words.specs.Commands.{Workers, is_by_workers, needs_workers, trial_limits};
 ghost use Rattle.command_words.specs.Kept.{run_said, said, shown_said, source_said};
-ghost use Rattle.command_words.specs.Shown.{Summary};
+ghost use Rattle.command_words.specs.Shown.{Summary, Trace};
 ghost use Rattle.outcomes.specs.declared.reasons.Reason.TheVariants.{NoMemory};
 ghost use Rattle.outcomes.specs.Delivery.{IsGuestReason};
 ghost use Rattle.outcomes.specs.Needs.{needs_by, needs_of};
@@ -21,10 +21,10 @@ use crate::exploring::{explored_alone, explored_together};
 use crate::fetching::{read_file, taken};
 use crate::pairing::pair_text;
 use command_runs::{
-    Output, counted_summary, play, play_counted, run_rounds, run_solo, run_workers, shown_text,
-    trial_text,
+    Output, TracedRun, counted_summary, play, play_counted, play_traced, run_rounds, run_solo,
+    run_workers, shown_text, trial_text,
 };
-use command_words::{Command, Draws, Guest, Run, Shown, Source, Trial};
+use command_words::{Command, Draws, Guest, LineSpan, Run, Shown, Source, Trial};
 use drawn_machine::{draw_on, run_drawn};
 use drawn_runs::Manner;
 use elf_load::{ElfFault, Image, load};
@@ -166,6 +166,9 @@ fn quiet_run_text<S: Shelf>(alloc: Global, run: &Run, shelf: &mut S) -> Result<O
     if let Some(script) = counted_script(run) {
         return summed_text(alloc, run.program, script, run.limits, shelf);
     }
+    if let Some(traced) = traced_script(run) {
+        return traced_text(alloc, run.program, traced, run.limits, shelf);
+    }
     let made = quiet_run(alloc, run, shelf)?;
     let ProgramRun { image, machine } = made;
     Ok(shown_text(alloc, run, &image, machine)?)
@@ -207,6 +210,57 @@ fn summed_text<S: Shelf>(
     let lines = read_file(alloc, script, FileRole::Script, shelf)?;
     let run = play_counted(alloc, &image, limits, &lines)?;
     Ok(counted_summary(alloc, &run)?)
+}
+
+/// A script whose run is told, and the lines of its log that are.
+#[derive(Clone, Copy, Drop)]
+struct Traced<'a> {
+    /// The script's name.
+    script: &'a str,
+    /// The lines.
+    span: LineSpan,
+}
+
+/// The script of a run by one whose trace is shown; the run is told while it is made.
+fn traced_script<'a>(run: &Run<'a>) -> Option<Traced<'a>>
+    ensures source { IfSome result (λ traced. source_said run.now.source ≡ Script traced.script.now) }
+    ensures shown { IfSome result (λ traced. shown_said run.now.shown ≡ Trace traced.span) }
+{
+    match (run.source, run.shown) {
+        (Source::Script(script), Shown::Trace(span)) => Some(Traced { script, span }),
+        _ => None,
+    }
+}
+
+/// The trace of a run of the program of the name on the events of the script.
+fn traced_text<S: Shelf>(
+    alloc: Global,
+    program: &str,
+    traced: Traced,
+    limits: Limits,
+    shelf: &mut S,
+) -> Result<Output, Reason>
+    requires { InRange limits }
+    ensures output { IfOk result (λ text. IsRunOutput (S.file shelf.old) (record {
+      program = program.now;
+      source = Script traced.script.now;
+      shown = Trace traced.span;
+      limits = limits;
+    }) text) }
+    ensures cause { let needs = needs_by program.now (Script traced.script.now) limits in
+        IfErr result (IsReasonFor (S.file shelf.old) needs (S.faults shelf.old) (S.faults shelf.new)
+        (S.last_trouble shelf.new)) }
+    ensures files { S.file shelf.new ≡ S.file shelf.old }
+    ensures counts { NoneFalls (S.faults shelf.old) (S.faults shelf.new) }
+{
+    let image = taken(alloc, program, &limits, shelf)?;
+    let lines = read_file(alloc, traced.script, FileRole::Script, shelf)?;
+    let told = play_traced(alloc, &image, limits, &traced.span, &lines)?;
+    let TracedRun {
+        machine: _machine,
+        text,
+    } = told;
+    Ok(Output::whole(text))
 }
 
 /// The text of a run by workers.
