@@ -1,4 +1,5 @@
 mod AreasKept
+mod EachElement
 pub mod Examples
 mod FlatBytes
 mod HartSets

@@ -1,16 +1,8 @@
 -- Tests of pages one behind the other: all of them, how many of them, and the first of them.
 use Rattle.std.proofs.Common.{ℕ, zero, suc, ◌≡◌, ◌+◌, ◌*◌, ◌/◌, ◌<◌, ◌≤◌, ◌&&◌, ◌⊎◌, inl, inr, Bool, true, false, cond, Option, Some, None, refl, sym, ap, ◌∙◌, arith}
-use Rattle.std.proofs.lemmas.Bool.{cases_eq, cases_lt, le-leb, le-ltb, lt-leb, lt-ltb}
+use Rattle.std.proofs.lemmas.Bool.{and_parts, cases_eq, cases_lt, le-leb, le-ltb, lt-leb, lt-ltb}
 use Rattle.mach_types.specs.Bytes.{byte_after}
 use Rattle.mach_types.specs.Kernel.Pages.{PageRun, count_pages, each_page, first_page, is_in, zeros_of}
-
-and-first : (b c : Bool) → (b && c) ≡ true → b ≡ true
-and-first true c e = refl
-and-first false c e = e
-
-and-second : (b c : Bool) → (b && c) ≡ true → c ≡ true
-and-second true c e = e
-and-second false c e = cc
 
 and-both : (b c : Bool) → b ≡ true → c ≡ true → (b && c) ≡ true
 and-both true c e f = f
@@ -41,8 +33,8 @@ module _ (test : ℕ → Bool) where
   unfolding each_page
   each_page-at first zero e n low high = absurd (omega arith)
   each_page-at first (suc more) e n low high = elim (cases_eq n first) [
-    | inl same ↦ ap test same ∙ and-first (test first) (each_page test (first + 1) more) e
-    | inr two ↦ each_page-at (first + 1) more (and-second (test first) (each_page test (first + 1) more) e) n (omega arith) (omega arith)
+    | inl same ↦ ap test same ∙ (and_parts (test first) (each_page test (first + 1) more) e).0
+    | inr two ↦ each_page-at (first + 1) more (and_parts (test first) (each_page test (first + 1) more) e).1 n (omega arith) (omega arith)
   ]
 
   pub each_page-of : (first count : ℕ) → ((n : ℕ) → first ≤ n → n < first + count → test n ≡ true) → each_page test first count ≡ true

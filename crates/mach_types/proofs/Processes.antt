@@ -224,8 +224,8 @@ room_for_waiter t ts hart h run =
 above_test : (k n given : ℕ) → k ≤ given → given < n → eqb k n ≡ false
 above_test k n given low above = grind (arith, nat_tests)
 
--- the next number is new, a child with it is ready, and the others are as they were
-not_among : (n given : ℕ) → given < n → (live : List Thread) → All (λ t. (0 < t) × (t ≤ given)) (numbers live) → find (is_thread n) live ≡ None
+-- no thread has a number that wasn't given yet
+pub not_among : (n given : ℕ) → given < n → (live : List Thread) → All (λ t. (0 < t) × (t ≤ given)) (numbers live) → find (is_thread n) live ≡ None
 not_among n given above [] all = refl
 not_among n given above (th ∷ live) all =
     let first = All-head (λ t. (0 < t) × (t ≤ given)) th.tid (numbers live) all in
@@ -233,6 +233,7 @@ not_among n given above (th ∷ live) all =
     ap (λ b. cond b (Some th) (find (is_thread n) live)) (above_test th.tid n given low above)
     ∙ not_among n given above live (All-tail (λ t. (0 < t) × (t ≤ given)) th.tid (numbers live) all)
 
+-- the next number is new, a child with it is ready, and the others are as they were
 pub next_is_new : (ts : Threads) → IsThreads ts → thread_of (ts.given + 1) ts ≡ None
 next_is_new ts h = not_among (ts.given + 1) ts.given (omega arith) ts.live h.given
 

@@ -1,5 +1,5 @@
 -- How often a number is in a list, and the order of numbers that rise.
-use Rattle.std.proofs.Common.{ℕ, suc, ◌+◌, ◌-◌, ◌<◌, ◌≤◌, ◌≡◌, ◌≢◌, Bool, true, false, not, cond, eqb, List, [], ◌∷◌, ◌++◌, length, map, filter, find, Some, is_some, All, refl, sym, ap, ◌∙◌, subst, inl, inr, arith}
+use Rattle.std.proofs.Common.{ℕ, suc, ◌+◌, ◌-◌, ◌<◌, ◌≤◌, ◌≡◌, ◌≢◌, Bool, true, false, not, cond, eqb, List, [], ◌∷◌, ◌++◌, length, get_or, map, filter, find, Some, is_some, All, refl, sym, ap, ◌∙◌, subst, inl, inr, arith}
 use Rattle.std.specs.List.Sorted.{IsStrictlyIncreasing}
 use Rattle.std.proofs.lemmas.Bool.{cases_lt}
 use Rattle.std.proofs.lemmas.Bool.Decides.{nat_tests, eqb_tells}
@@ -114,17 +114,21 @@ length_le_from_times (y ∷ ys) xs h =
     let rest = length_le_from_times ys (less_one y xs) (λ u. times_less y u xs ys (h u)) in
     omega (arith, rest, length-less_one y xs)
 
--- a number above all comes at the end
-pub IsStrictlyIncreasing-push : (xs : List ℕ) (y : ℕ) → IsStrictlyIncreasing xs → All (λ x. x < y) xs → IsStrictlyIncreasing (xs ++ y ∷ [])
-IsStrictlyIncreasing-push xs y up below k within =
+-- a number above the last one comes at the end, and so does one above all
+pub IsStrictlyIncreasing-above : (xs : List ℕ) (y : ℕ) → IsStrictlyIncreasing xs → (0 < length xs → get_or xs (length xs - 1) 0 < y) → IsStrictlyIncreasing (xs ++ y ∷ [])
+IsStrictlyIncreasing-above xs y up above k within =
     let long = length_push xs y in
-    let inside : k < length xs = omega (arith, long) in
-    let left = get_or_append_left xs (y ∷ []) 0 k inside in
+    let left = get_or_append_left xs (y ∷ []) 0 k (omega arith) in
     elim (cases_lt (k + 1) (length xs)) [
       | inl lt ↦
           let right = get_or_append_left xs (y ∷ []) 0 (k + 1) lt in
           omega (arith, left, right, up k lt)
       | inr ge ↦
           let right = get_or_push xs y 0 (k + 1) (omega arith) in
-          omega (arith, left, right, All-get_or (λ x. x < y) xs k 0 inside below)
+          let last : k ≡ length xs - 1 = omega arith in
+          omega (arith, left, right, above (omega arith), ap (λ i. get_or xs i 0) last)
     ]
+
+pub IsStrictlyIncreasing-push : (xs : List ℕ) (y : ℕ) → IsStrictlyIncreasing xs → All (λ x. x < y) xs → IsStrictlyIncreasing (xs ++ y ∷ [])
+IsStrictlyIncreasing-push xs y up below =
+    IsStrictlyIncreasing-above xs y up (λ some. All-get_or (λ x. x < y) xs (length xs - 1) 0 (omega arith) below)

@@ -10,7 +10,8 @@ use Rattle.std.proofs.lemmas.List.Quantifiers.{position-Some}
 use Rattle.mach_types.proofs.Laws.{not_at_end, filtered_other, map_filters}
 use Rattle.mach_types.specs.Kernel.Scheduling.{is_of, set_if, has_hart}
 use Rattle.scheduler.proofs.Kept.{kept_at_start, kept_by_thread, kept_by_forget, kept_by_ready, kept_by_take, kept_by_affinity, same_numbers}
-use Rattle.scheduler.proofs.Lists.{AllByRecursion-push, AllByRecursion-filter, AllByRecursion-weaker, neither}
+use Rattle.mach_types.proofs.Laws.{AllByRecursion-filter, AllByRecursion-push, AllByRecursion-weaker}
+use Rattle.scheduler.proofs.Lists.{neither}
 use Rattle.scheduler.proofs.OtherHarts.{affinity_of-changed, affinity_of-other, no_entry}
 use Rattle.mach_types.proofs.Places.{not_found}
 use Rattle.scheduler.specs.Entries.{IsKept, numbers, set_among, is_for, scheduling_in}

@@ -13,7 +13,8 @@ use Rattle.std.proofs.lemmas.Map.Keys.{IsDistinct-push}
 use Rattle.std.proofs.lemmas.Map.Made.{IsDistinct-keys_filter}
 use Rattle.std.proofs.lemmas.Map.Steps.{length-le_from_keys}
 use Rattle.mach_types.specs.Kernel.Scheduling.{Scheduling, is_of, set_if}
-use Rattle.scheduler.proofs.Lists.{AllByRecursion-push, AllByRecursion-filter, AllByRecursion-weaker, IsDistinct-filter, IsDistinct-one, neither, at_member}
+use Rattle.mach_types.proofs.Laws.{AllByRecursion-filter, AllByRecursion-push, AllByRecursion-weaker, IsDistinct-filter, IsDistinct-one}
+use Rattle.scheduler.proofs.Lists.{at_member, neither}
 use Rattle.scheduler.specs.Holding.{IsScheduling}
 
 -- the two lists of a scheduling

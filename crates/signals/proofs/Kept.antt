@@ -1,6 +1,8 @@
 -- What holds of a table's lists is kept where they become those of a step.
 use Rattle.std.proofs.Common.{◌≡◌, ℕ, Bool, true, false, cond, if◌then◌else◌, List, map, length, Some, None, sym, ap, ◌∙◌, subst}
 use Rattle.std.proofs.lemmas.List.{length-map}
+use Rattle.arrayvec.proofs.ArrayVecLemmas.{items-with_items}
+use Rattle.arrayvec.specs.ArrayVec.{ArrayVec, with_items}
 use Rattle.mach_types.specs.Kernel.SignalFrames.{handler_mask, has_flag}
 use Rattle.mach_types.specs.Kernel.Signals.{Signalling, joined, maskable, only}
 use Rattle.mach_types.specs.declared.signals.TheConstants.{SA_NODEFER}
@@ -21,9 +23,10 @@ pub same_lists : (b : Bool) (actions acts : List Action) (later threads : List T
 same_lists b actions acts later threads d e kept =
     same_threads b actions later threads e (subst (λ (acts : List Action). IsKept b (lists acts threads)) (sym d) kept)
 
--- a list that is mapped keeps its length
-pub mapped_length : (f : ThreadSignals → ThreadSignals) (threads later : List ThreadSignals) → later ≡ map f threads → length later ≡ length threads
-mapped_length f threads later e = ap length e ∙ length-map threads f
+-- a write through the slice that maps each entry leaves the mapped list
+pub mapped : (own : ArrayVec ThreadSignals) (f : ThreadSignals → ThreadSignals) (later : List ThreadSignals) → later ≡ map f own.items
+    → (with_items own later).items ≡ map f own.items
+mapped own f later e = items-with_items own later (ap length e ∙ length-map own.items f) ∙ e
 
 -- a mask that is maskable
 pub is_mask_of : (mask signals : ℕ) → mask ≡ maskable signals → IsMask mask

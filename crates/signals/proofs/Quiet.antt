@@ -8,7 +8,7 @@ use Rattle.std.specs.Option.{option_map_or}
 use Rattle.mach_types.specs.Kernel.Signals.{Signalling, all_signals, has_signal, is_deliverable, is_of, mask_if, mask_of, new_thread, next_for, only, pending_of, with_mask}
 use Rattle.mach_types.specs.declared.signal_words.Action.{Action}
 use Rattle.mach_types.specs.declared.signal_words.ThreadSignals.{ThreadSignals}
-use Rattle.signals.proofs.Lists.{AllByRecursion-map, AllByRecursion-push}
+use Rattle.mach_types.proofs.Laws.{AllByRecursion-map, AllByRecursion-push}
 use Rattle.signals.specs.Holding.{AreQuiet, IsKept, IsSignalling}
 
 abbrev is_quiet : ThreadSignals → Type 0

@@ -25,3 +25,6 @@ only-has_it s = ap (λ n. eqb n 1) (bit_at-pow_same (s - 1))
 
 pub only-has_no_other : (s u : ℕ) → 1 ≤ s → 1 ≤ u → (u ≡ s → ⊥) → has_signal (only s) u ≡ false
 only-has_no_other s u from at_least other = ap (λ n. eqb n 1) (bit_at-pow_other (s - 1) (u - 1) (λ e. other (omega arith)))
+
+-- what sets have
+pub ruleset sets = (joined-has, less-has, only-has_it, only-has_no_other)

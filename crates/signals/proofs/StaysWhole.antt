@@ -12,7 +12,8 @@ use Rattle.mach_types.specs.Kernel.SignalFrames.{entered, entered_action, handle
 use Rattle.mach_types.specs.Kernel.Signals.{Signalling, acted, action_of, changed_mask, dropped, forget, is_held, is_ignored, is_of, joined, mask_of, new_thread, only, posted, set_action, start_signalling, with_action, with_mask, with_pending, with_thread, without_pending, without_signal}
 use Rattle.mach_types.specs.declared.signal_words.Action.{Action}
 use Rattle.mach_types.specs.declared.signal_words.ThreadSignals.{ThreadSignals}
-use Rattle.signals.proofs.Lists.{AllByRecursion-filter, AllByRecursion-map, AllByRecursion-push, IsDistinct-filter, IsDistinct-one, numbers_turned}
+use Rattle.mach_types.proofs.Laws.{AllByRecursion-filter, AllByRecursion-map, AllByRecursion-push, IsDistinct-filter, IsDistinct-one}
+use Rattle.signals.proofs.Lists.{numbers_turned}
 use Rattle.signals.proofs.Masks.{maskable-is_mask}
 use Rattle.signals.specs.Holding.{IsMask, IsSignalling, held}
 

@@ -94,6 +94,7 @@ pub fn handler_returns_to_where_it_was()
 {}
 
 /// Sets have the signals that their words say: bit s - 1 is signal s.
+#[tactic(auto, using(crate::proofs::SignalSets::sets))]
 pub fn sets_have_their_signals()
     ensures joined { (a b s : ℕ) → has_signal (joined a b) s ≡ (has_signal a s || has_signal b s) }
     ensures less { (a b s : ℕ) → IsWord b → 1 ≤ s → s ≤ 64

@@ -1,7 +1,5 @@
-use Rattle.std.proofs.Common.{◌≡◌, ◌∙◌, map}
-use Rattle.arrayvec.proofs.ArrayVecLemmas.{items-with_items}
 use Rattle.mach_types.specs.Kernel.Signals.{mask_if}
-use Rattle.signals.proofs.Kept.{is_mask_of, lists, mapped_length, same_threads}
+use Rattle.signals.proofs.Kept.{is_mask_of, lists, mapped, same_threads}
 use Rattle.signals.proofs.Quiet.{kept_mask}
 use Rattle.signals.proofs.StaysWhole.{with_mask-holds}
 use Rattle.signals.proofs.table.Signals.pop_frame.Goals as goal
@@ -10,9 +8,7 @@ pub invariant_of-self : goal.invariant_of-self
 invariant_of-self g c =
     let own = c.self.inside in
     let mask = c.restored_mask.result in
-    let later = c.set_mask.new.threads in
-    let changed : later ≡ map (mask_if c.args.tid.0 mask) own.threads.items = cc in
-    let whole = items-with_items own.threads later (mapped_length _ own.threads.items later changed) in
+    let later = mapped own.threads (mask_if c.args.tid.0 mask) c.set_mask.new.threads cc in
     let g = lists own.actions own.threads.items in
     let masked = with_mask-holds c.args.tid.0 mask g c.self.invariant.signalling (is_mask_of mask _ c.restored_mask.ensures) in
-    same_threads _ own.actions _ _ (whole ∙ changed) (kept_mask _ c.args.tid.0 mask own.actions g c.self.invariant masked)
+    same_threads _ own.actions _ _ later (kept_mask _ c.args.tid.0 mask own.actions g c.self.invariant masked)
