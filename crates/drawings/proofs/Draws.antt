@@ -1,5 +1,5 @@
 -- What is drawn is allowed, and where a hart can make an event one is drawn.
-use Rattle.std.proofs.Common.{◌≡◌, ◌⊎◌, inl, inr, ℕ, ◌+◌, ◌/◌, ◌%◌, ◌<◌, Bool, true, false, not, ◌&&◌, ◌||◌, cond, eqb, ltb, length, Option, Some, None, refl, ap, ◌∙◌, subst, arith}
+use Rattle.std.proofs.Common.{◌≡◌, ◌⊎◌, inl, inr, ℕ, ◌+◌, ◌/◌, ◌%◌, ◌<◌, Bool, true, false, not, ◌&&◌, ◌||◌, cond, eqb, ltb, length, Option, Some, None, refl, sym, ap, ◌∙◌, subst, arith}
 use Rattle.std.specs.Prelude.{IsSome, is_some, slice_get, slice_index_or}
 use Rattle.std.specs.Option.{option_and_then, option_map}
 use Rattle.std.proofs.lemmas.Bool.{and_parts, eq-eqb, false≢true}
@@ -55,6 +55,11 @@ hart_passes scene d w ready = go (stays scene d w) refl
         got_passes (is_able scene d.opened) scene.harts (hart_place w (length (able scene d.opened)))
         (slice_get (able scene d.opened) (hart_place w (length (able scene d.opened)))) refl
 
+pub hart_drawn : (scene : Scene) (d : Drawing) (w h : ℕ) → IsFor scene.harts d → Some h ≡ hart_by_word scene d w
+    → (h < scene.harts) × (is_able scene d.opened h ≡ true)
+hart_drawn scene d w h ready is =
+    subst (λ (o : Option ℕ). PassesIfSome (is_able scene d.opened) scene.harts o) (sym is) (hart_passes scene d w ready)
+
 -- by priorities
 abbrev may_act : Scene → Drawing → ℕ → Bool
 may_act scene d h =
@@ -70,6 +75,21 @@ one_fits scene d actor true settled below can =
     turn_fits scene d h w (λ (t : Turn). lots_after scene actor h t.choice (after_word d)) (turn_at scene d h w) settled below
     (and_parts (is_able scene d.opened h) (may_act scene d h) can).0 refl
 one_fits scene d actor false settled below can = record { within = below; allowed = can }
+
+itself : (b acts stores : Bool) → b ≡ true → cond b acts stores ≡ true → acts ≡ true
+itself true acts stores is can = can
+itself false acts stores is can = absurd (false≢true is)
+
+pub leader_can_act : (scene : Scene) (d : Drawing) (actor : ℕ)
+    → Some actor ≡ leader (is_enabled scene d.opened d.aims) d.lots.priorities (actors scene.harts) → actor % 2 ≡ 0
+    → is_able scene d.opened (hart_of actor) ≡ true
+leader_can_act scene d actor is even =
+    let h = hart_of actor in
+    let passes : PassesIfSome (is_enabled scene d.opened d.aims) (actors scene.harts) (Some actor) =
+    subst (λ (o : Option ℕ). PassesIfSome (is_enabled scene d.opened d.aims) (actors scene.harts) o) (sym is)
+    (leader_passes (is_enabled scene d.opened d.aims) d.lots.priorities (actors scene.harts)) in
+    (and_parts (is_able scene d.opened h) (may_act scene d h)
+    (itself (is_hart actor) (acts scene d.opened d.aims h) (has_stores (scene.sight h)) (eq-eqb (actor % 2) 0 even) passes.1)).0
 
 actor_fits : (scene : Scene) (d : Drawing) (o : Option ℕ) → AreSettled scene
     → PassesIfSome (is_enabled scene d.opened d.aims) (actors scene.harts) o

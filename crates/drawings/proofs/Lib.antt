@@ -3,4 +3,4 @@ mod Draws
 mod Examples
 pub mod Laws
 mod Passing
-mod SeenAble
+mod TurnSights

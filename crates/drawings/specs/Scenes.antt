@@ -1,10 +1,9 @@
 -- What a policy sees of the harts of a machine at a place (own), and which of them can make an event.
-use Rattle.std.specs.Prelude.{◌≡◌, ◌<◌, ℕ, zero, suc, ◌%◌, ◌^◌, ◌==◌, ◌&&◌, ◌||◌, Bool, List, [], ◌∷◌, ◌++◌, filter, length, Option, if◌then◌else◌, nat_lt}
+use Rattle.std.specs.Prelude.{ℕ, zero, suc, ◌%◌, ◌^◌, ◌==◌, ◌&&◌, ◌||◌, Bool, false, List, [], ◌∷◌, ◌++◌, filter, length, Option, None, if◌then◌else◌, nat_lt}
 use Rattle.mach_types.specs.Kernel.Scheduling.{Scheduling, affinity_of, has_hart}
 use Rattle.mach_types.specs.declared.events.Sight.{Sight}
 use Rattle.draw_policies.specs.Acting.{can_act}
 use Rattle.draw_policies.specs.declared.accesses.Access.{Access}
-use Rattle.drawings.specs.declared.harts.SeenHart.{SeenHart}
 
 -- how many harts there are; of each hart what a scheduler sees of it, whether its thread is inside a good restartable sequence as
 -- the hart sees memory, what its next instruction accesses, and what its oldest waiting store does; and the ready threads with the
@@ -21,14 +20,9 @@ pub record Scene : Type 0 where
 abbrev pub goes_freely : Scene → ℕ → Bool
 goes_freely scene h = (scene.sight h).exec_enabled && (scene.sight h).«local»
 
--- a hart with what a scheduler sees of it
-abbrev pub seen_hart : Scene → ℕ → SeenHart
-seen_hart scene h = record { hart = h; sight = scene.sight h }
-
--- a hart of the scene, with what is seen of it
-pub record IsSeen (scene : Scene) (seen : SeenHart) : Type 0 where
-  pub within : seen.hart < scene.harts
-  pub sight : seen.sight ≡ scene.sight seen.hart
+-- what the turn of a hart goes by, of all that a scheduler sees of it: nothing else is told
+abbrev pub of_turn : Sight → Sight
+of_turn seen = record seen { first_ready = None; all_taken = false; local = false; ran = 0; credit = 0 }
 
 -- whether a thread with these harts may begin to run on hart h, where the first so many harts are open: the hart is one of them, and
 -- is open, or none of them is

@@ -1,14 +1,14 @@
 //! What is kept between drawn events, and the next one.
 
-ghost use Rattle.std.specs.Prelude.{◌≡◌, ◌<◌, ◌≤◌, Some, None, IfSome, if◌then◌else◌, option_map, slice_index_or};
+ghost use Rattle.std.specs.Prelude.{◌≡◌, ◌<◌, ◌≤◌, None, true, slice_index_or};
 ghost use Rattle.draw_policies.specs.Turns.{turn};
 ghost use Rattle.drawings.specs.Drawings as drawings;
-ghost use Rattle.drawings.specs.Scenes.{IsSeen, seen_hart};
+ghost use Rattle.drawings.specs.Scenes.{is_able, startable};
 
-use crate::harts::{Harts, SeenHart, able_by_word, is_able, look_at};
+use crate::harts::{Harts, able_by_word};
 use crate::priorities::Lots;
 use draw_policies::{Aim, Policy, Turn, Weights, Word, turn_of};
-use mach_types::{Choice, Hart, Tid};
+use mach_types::{Choice, Hart, Sight, Tid};
 
 /// A drawn event.
 #[derive(Clone, Copy, Drop)]
@@ -78,62 +78,66 @@ impl Drawing {
         }
     }
 
-    /// The last hart, where it goes on by a word.
-    fn last_by_word<H: Harts>(&self, harts: &H, word: Word) -> Option<SeenHart>
+    /// Whether the last hart goes on by a word.
+    fn stays<H: Harts>(&self, harts: &H, word: Word) -> bool
         requires { drawings.IsFor (H.scene harts.now).harts self.now }
-        ensures { result ≡ (if drawings.stays (H.scene harts.now) self.now word.0
-            then Some (seen_hart (H.scene harts.now) self.now.last.0) else None) }
+        ensures { result ≡ drawings.stays (H.scene harts.now) self.now word.0 }
     {
-        if word.stay() >= self.weights().stay {
-            return None;
-        }
-        let last = look_at(harts, self.last.0);
-        if is_able(harts, &last, self.opened) {
-            Some(last)
+        word.stay() < self.weights().stay && harts.is_able(self.last, self.opened)
+    }
+
+    /// The hart that acts by a word; None exactly where none can.
+    pub(crate) fn hart_by_word<H: Harts>(&self, harts: &H, word: Word) -> Option<u8>
+        requires { drawings.IsFor (H.scene harts.now).harts self.now }
+        ensures { result ≡ drawings.hart_by_word (H.scene harts.now) self.now word.0 }
+    {
+        if self.stays(harts, word) {
+            Some(self.last.0)
         } else {
-            None
+            able_by_word(harts, self.opened, word)
         }
     }
 
-    /// The hart that acts by a word, with what is seen of it; None exactly where none can.
-    pub(crate) fn hart_by_word<H: Harts>(&self, harts: &H, word: Word) -> Option<SeenHart>
-        requires { drawings.IsFor (H.scene harts.now).harts self.now }
-        ensures named { option_map (λ seen. seen.hart) result
-            ≡ drawings.hart_by_word (H.scene harts.now) self.now word.0 }
-        ensures seen { IfSome result (IsSeen (H.scene harts.now)) }
-    {
-        match self.last_by_word(harts, word) {
-            Some(last) => Some(last),
-            None => able_by_word(harts, self.opened, word),
-        }
-    }
-
-    /// What a hart does in its turn.
-    pub(crate) fn turn_at<H: Harts>(&self, harts: &H, seen: &SeenHart, word: Word) -> Option<Turn>
-        requires seen { IsSeen (H.scene harts.now) seen.now }
+    /// What a hart that can make an event does in its turn.
+    pub(crate) fn turn_at<H: Harts>(&self, harts: &H, hart: u8, word: Word) -> Option<Turn>
+        requires hart { hart < (H.scene harts.now).harts }
         requires opened { self.now.opened ≤ 8 }
-        ensures { result ≡ drawings.turn_at (H.scene harts.now) self.now seen.now.hart word.0 }
+        requires able { is_able (H.scene harts.now) self.now.opened hart ≡ true }
+        ensures { result ≡ drawings.turn_at (H.scene harts.now) self.now hart word.0 }
     {
         let count = harts.count();
         prove!(count <= 8);
-        if seen.sight.idle {
-            let threads = harts.startable(Hart(seen.hart), self.opened);
-            self.turn_with(seen, &threads, word)
+        let sight = harts.look(Hart(hart), self.opened);
+        if sight.idle {
+            self.idle_turn_at(harts, hart, &sight, word)
         } else {
-            self.turn_with(seen, &[], word)
+            self.turn_with(hart, &sight, &[], word)
         }
     }
 
-    /// What a hart does in its turn where these threads may begin to run there.
-    fn turn_with(&self, seen: &SeenHart, threads: &[u32], word: Word) -> Option<Turn>
-        requires { seen.now.hart < 8 }
-        ensures { result ≡ turn (drawings.current self.now) seen.now.sight threads.now
-            (slice_index_or self.now.ran seen.now.hart None) (slice_index_or self.now.aims seen.now.hart None) word.0 }
+    /// What an idle hart of which this is seen does in its turn. In a function of its own, so that no other turn has a list of threads.
+    #[inline(never)]
+    fn idle_turn_at<H: Harts>(&self, harts: &H, hart: u8, sight: &Sight, word: Word) -> Option<Turn>
+        requires hart { hart < 8 }
+        requires opened { self.now.opened ≤ 8 }
+        ensures { result ≡ turn (drawings.current self.now) sight.now
+            (startable self.now.opened hart (H.scene harts.now).scheduling)
+            (slice_index_or self.now.ran hart None) (slice_index_or self.now.aims hart None) word.0 }
     {
-        let place = seen.hart as usize;
+        let threads = harts.startable(Hart(hart), self.opened);
+        self.turn_with(hart, sight, &threads, word)
+    }
+
+    /// What a hart of which this is seen does in its turn where these threads may begin to run there.
+    fn turn_with(&self, hart: u8, sight: &Sight, threads: &[u32], word: Word) -> Option<Turn>
+        requires { hart < 8 }
+        ensures { result ≡ turn (drawings.current self.now) sight.now threads.now
+            (slice_index_or self.now.ran hart None) (slice_index_or self.now.aims hart None) word.0 }
+    {
+        let place = hart as usize;
         turn_of(
             &self.weights(),
-            &seen.sight,
+            sight,
             threads,
             self.ran[place],
             self.aims[place],

@@ -1,11 +1,12 @@
 //! The next event of a drawing.
 
-ghost use Rattle.std.specs.Prelude.{◌≡◌, ◌<◌, ◌%◌, Some, true, option_map};
+ghost use Rattle.std.specs.Prelude.{◌≡◌, ◌<◌, ◌/◌, true, option_map};
 ghost use Rattle.drawings.specs.Drawings as drawings;
 ghost use Rattle.drawings.specs.Priorities as priorities;
+ghost use Rattle.drawings.specs.Scenes.{is_able};
 
 use crate::drawing::{Drawing, DrawnEvent};
-use crate::harts::{Harts, look_at};
+use crate::harts::Harts;
 use crate::priorities::{access_by, leader};
 use draw_policies::{Turn, Word};
 use mach_types::{Choice, Hart};
@@ -47,6 +48,7 @@ impl Drawing {
     }
 
     /// The next event by a word.
+    #[inline(never)]
     fn next_by_word<H: Harts>(&mut self, harts: &H) -> Option<DrawnEvent>
         requires { drawings.IsFor (H.scene harts.now).harts self.old }
         ensures event { result
@@ -55,13 +57,14 @@ impl Drawing {
             ≡ drawings.kept_after (drawings.drawn_by_word (H.scene harts.now) self.old) self.old }
     {
         let (word, generator) = self.next_word();
-        let seen = self.hart_by_word(harts, word)?;
-        let turn = self.turn_at(harts, &seen, word)?;
+        let hart = self.hart_by_word(harts, word)?;
+        let turn = self.turn_at(harts, hart, word)?;
         self.lots.generator = generator;
-        Some(self.take_turn(seen.hart, &turn))
+        Some(self.take_turn(hart, &turn))
     }
 
     /// The next event by priorities.
+    #[inline(never)]
     fn next_by_priority<H: Harts>(&mut self, harts: &H) -> Option<DrawnEvent>
         requires { drawings.IsFor (H.scene harts.now).harts self.old }
         ensures event { result
@@ -77,10 +80,11 @@ impl Drawing {
         }
     }
 
-    /// The next event, of the hart that is this actor.
+    /// The next event, of the hart that is this actor, which can make one.
     fn next_by_hart<H: Harts>(&mut self, harts: &H, actor: u8) -> Option<DrawnEvent>
         requires ready { drawings.IsFor (H.scene harts.now).harts self.old }
         requires actor { actor < priorities.actors (H.scene harts.now).harts }
+        requires able { is_able (H.scene harts.now) self.old.opened (actor / 2) ≡ true }
         ensures event { result
             ≡ option_map drawings.event_of (drawings.drawn_by_hart (H.scene harts.now) self.old actor) }
         ensures kept { self.new
@@ -88,7 +92,7 @@ impl Drawing {
     {
         let (word, generator) = self.next_word();
         let hart = actor / 2;
-        let turn = self.turn_at(harts, &look_at(harts, hart), word)?;
+        let turn = self.turn_at(harts, hart, word)?;
         let made = access_by(harts, Hart(hart), turn.choice);
         self.lots.generator = generator;
         self.lots.draw_anew(harts, actor, made);

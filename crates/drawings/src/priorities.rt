@@ -4,10 +4,9 @@ ghost use Rattle.std.specs.Prelude.{◌≡◌, ◌<◌, ◌≤◌, ◌+◌, ℕ,
 ghost use Rattle.chooser.specs.Cases.{has_stores};
 ghost use Rattle.draw_policies.specs.Accesses.{race};
 ghost use Rattle.drawings.specs.Priorities as priorities;
-ghost use Rattle.drawings.specs.Scenes.{IsSeen};
 
-use crate::harts::{Harts, SeenHart, is_able, look_at};
-use draw_policies::{Access, Aim, has_stores, race, still_due};
+use crate::harts::Harts;
+use draw_policies::{Access, Aim, race, still_due};
 use mach_types::{Choice, Hart};
 use rand_core::utils::NextWord;
 use rand_xoshiro::Xoshiro256PlusPlus;
@@ -16,20 +15,22 @@ use rand_xoshiro::Xoshiro256PlusPlus;
 pub const ACTORS: usize = 16;
 
 /// Whether a hart acts by itself, where the first so many harts are open.
-fn acts<H: Harts>(harts: &H, opened: u8, aims: &[Option<Aim>], seen: &SeenHart) -> bool
-    requires seen { IsSeen (H.scene harts.now) seen.now }
+fn acts<H: Harts>(harts: &H, opened: u8, aims: &[Option<Aim>], hart: u8) -> bool
+    requires hart { hart < (H.scene harts.now).harts }
     requires opened { opened ≤ 8 }
     requires aims { length aims.now ≡ 8 }
-    ensures { result ≡ priorities.acts (H.scene harts.now) opened aims.now seen.now.hart }
+    ensures { result ≡ priorities.acts (H.scene harts.now) opened aims.now hart }
 {
     let count = harts.count();
     prove!(count <= 8);
-    let sight = &seen.sight;
-    is_able(harts, seen, opened)
-        && (sight.idle
-            || sight.in_barrier
-            || sight.exec_enabled
-            || still_due(sight, aims[seen.hart as usize]).is_some())
+    if !harts.is_able(Hart(hart), opened) {
+        return false;
+    }
+    let sight = harts.look(Hart(hart), opened);
+    sight.idle
+        || sight.in_barrier
+        || sight.exec_enabled
+        || still_due(&sight, aims[hart as usize]).is_some()
 }
 
 /// The one of two actors with the higher priority, the first where they have the same.
@@ -87,9 +88,8 @@ fn with_hart<H: Harts>(
 {
     let count = harts.count();
     prove!(count <= 8);
-    let seen = look_at(harts, hart);
-    let best = better(lots, best, 2 * hart, acts(harts, opened, aims, &seen));
-    better(lots, best, 2 * hart + 1, has_stores(&seen.sight))
+    let best = better(lots, best, 2 * hart, acts(harts, opened, aims, hart));
+    better(lots, best, 2 * hart + 1, harts.has_stores(Hart(hart)))
 }
 
 /// The actor that can act and has the highest priority; the first of them.

@@ -1,5 +1,6 @@
 mod DrawnSteps
 mod Inside
+mod SeenScenes
 mod Starting
 mod WaitExamples
 pub mod Waiting

@@ -1,12 +1,14 @@
 -- The ready threads that may begin to run, found number by number: they are those among the ready ones, and not more than live.
-use Rattle.std.proofs.Common.{◌≡◌, ℕ, zero, suc, ◌+◌, ◌<◌, ◌≤◌, ◌&&◌, Bool, true, false, not, cond, eqb, ltb, List, [], ◌∷◌, ◌++◌, filter, find, length, length-append, subst, Option, Some, None, inl, inr, is_some, refl, sym, ap, ◌∙◌, arith}
-use Rattle.std.specs.List.{All}
+use Rattle.std.proofs.Common.{◌≡◌, ℕ, zero, suc, ◌+◌, ◌<◌, ◌≤◌, ◌%◌, ◌^◌, ◌&&◌, ◌||◌, Bool, true, false, not, cond, eqb, ltb, List, [], ◌∷◌, ◌++◌, filter, find, length, length-append, subst, Option, Some, None, inl, inr, is_some, refl, sym, ap, ◌∙◌, arith}
+use Rattle.std.specs.List.{All, list_any}
 use Rattle.std.specs.Option.{option_map, option_map_or}
-use Rattle.std.proofs.lemmas.Bool.{and_parts, cases_eq, false≢true, lt-ltb, ne_eqb}
+use Rattle.std.proofs.lemmas.Bool.{and_parts, cases_eq, eqb-true, false≢true, lt-ltb, ne_eqb}
 use Rattle.std.proofs.lemmas.Bool.Decides.{nat_tests}
 use Rattle.std.proofs.lemmas.List.Elements.{All-head, All-tail, filter-append}
-use Rattle.mach_types.specs.Kernel.Scheduling.{Scheduling, affinity_of}
+use Rattle.mach_types.specs.Kernel.Scheduling.{Scheduling, affinity_of, first_for, has_hart}
 use Rattle.mach_types.specs.Kernel.Threads.{IsThreads, Thread, Threads, is_ready, is_ready_state, is_thread, numbers}
+use Rattle.block_model.specs.Tables.{IsTables}
+use Rattle.block_model.proofs.Laws.{ready_listed}
 use Rattle.drawn_runs.specs.DrawnRuns.{ready_numbers}
 use Rattle.drawings.specs.Scenes.{may_begin, passing, startable}
 
@@ -181,3 +183,34 @@ one_starts ts s opened h k below passes =
 pub none_starts : (ts : Threads) (s : Scheduling) (opened h : ℕ) → [] ≡ passing (starts ts s opened h) (ts.given + 1)
     → ltb 0 (length (startable opened h (record s { order = ready_numbers ts }))) ≡ false
 none_starts ts s opened h none = sym (ap (λ (xs : List ℕ). ltb 0 (length xs)) (none ∙ all_startable ts s opened h))
+
+-- and where no ready thread may run on a hart, none can
+found_not : (p : ℕ → Bool) (xs : List ℕ) (t : ℕ) → find p xs ≡ None → list_any (λ u. eqb u t) xs ≡ true → p t ≡ false
+found_not p [] t none has = absurd (false≢true has)
+found_not p (u ∷ xs) t none has = go (p u) refl none (eqb u t) refl has (λ gone there. found_not p xs t gone there)
+  where
+    go : (b : Bool) → p u ≡ b → cond b (Some u) (find p xs) ≡ None → (c : Bool) → eqb u t ≡ c
+        → (c || list_any (λ u. eqb u t) xs) ≡ true
+        → (find p xs ≡ None → list_any (λ u. eqb u t) xs ≡ true → p t ≡ false) → p t ≡ false
+    go true is none c at has later = absurd cc
+    go false is none true at has later = subst (λ (n : ℕ). p n ≡ false) (eqb-true u t at) is
+    go false is none false at has later = later none has
+
+starts_not : (harts : ℕ) (ts : Threads) (s : Scheduling) (opened h t : ℕ) → IsTables harts ts s → first_for h s ≡ None
+    → starts ts s opened h t ≡ false
+starts_not harts ts s opened h t holds none = go (is_ready t ts) refl
+  where
+    go : (b : Bool) → is_ready t ts ≡ b → (b && may_begin opened h (affinity_of t s)) ≡ false
+    go false is = refl
+    go true is =
+        ap (λ (b : Bool). b && (ltb h opened || eqb (affinity_of t s % 2 ^ opened) 0))
+        (found_not (λ u. has_hart (affinity_of u s) h) s.order t none (ready_listed harts t ts s holds ∙ is))
+
+none_passes : (test : ℕ → Bool) (n : ℕ) → ((t : ℕ) → test t ≡ false) → [] ≡ passing test n
+none_passes test zero none = refl
+none_passes test (suc n) none = rw (none n, ← none_passes test n none) refl
+
+pub none_ready : (harts : ℕ) (ts : Threads) (s : Scheduling) (opened h : ℕ) → IsTables harts ts s → first_for h s ≡ None
+    → ltb 0 (length (startable opened h (record s { order = ready_numbers ts }))) ≡ false
+none_ready harts ts s opened h holds none =
+    none_starts ts s opened h (none_passes (starts ts s opened h) (ts.given + 1) (λ t. starts_not harts ts s opened h t holds none))

@@ -186,6 +186,7 @@ fn waiting_on(machine: &Machine, hart: Hart) -> u8
 /// Whether a thread leaves its hart by an event, inside a good sequence as the hart sees memory.
 fn leaves_inside(machine: &Machine, event: DrawnEvent) -> bool
     requires few { machine.now.setting.limits.harts ≤ 8 }
+    requires run { IsBlockRun machine.now.setting machine.now.log }
     requires hart { event.hart.0 < machine.now.setting.limits.harts }
     ensures { let m = machine.now in
         result ≡ leaves_inside m.setting (history m.setting m.log) event.hart.0 (kind_of event.choice) }

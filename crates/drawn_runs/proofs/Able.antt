@@ -58,7 +58,7 @@ call_goes : (call held : Bool) → held ≡ false → cond (call && held) (Some 
 call_goes true held is = rw is refl
 call_goes false held is = refl
 
-exec_free : (here : Here) (t : ℕ) → runs here ≡ Some t → here.awaits ≡ None → waiting_here here ≡ [] → NoneWaits here
+pub exec_free : (here : Here) (t : ℕ) → runs here ≡ Some t → here.awaits ≡ None → waiting_here here ≡ [] → NoneWaits here
     → refusal_exec here ≡ None
 exec_free here t busy apart own none =
     let held : is_held here t ≡ false =

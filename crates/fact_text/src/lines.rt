@@ -1,9 +1,10 @@
 //! The line of a fact.
 
-ghost use Rattle.std.specs.Prelude.{◌≡◌, ◌∷◌, ◌++◌, OnOk};
+ghost use Rattle.std.specs.Prelude.{◌≡◌, ◌+◌, ◌≤◌, [], ◌∷◌, ◌++◌, OnOk, length};
+ghost use Rattle.std.specs.Fmt.{decimal};
 ghost use Rattle.step_log.specs.Text.{space};
 ghost use Rattle.fact_text.specs.Lines as spec;
-ghost use Rattle.place_text.specs.Fields.{behind};
+ghost use Rattle.place_text.specs.Fields.{behind, value_text};
 
 use crate::call_names::{argument_count, call_name, errno_name};
 use event_facts::{
@@ -11,21 +12,40 @@ use event_facts::{
 };
 use mach_types::{BadWhy, Hart, Store, Tid};
 use place_text::fields::{
-    push_decimal, push_harts, push_named_number, push_named_value, push_number, push_value,
-    push_value_or_none, push_word, push_yes_or_no,
+    push_harts, push_named_number, push_named_value, push_number, push_value, push_value_or_none,
+    push_word, push_yes_or_no,
 };
-use place_text::{bad_word, register_name};
+use place_text::{LineEnd, bad_word, put_register};
 use std::alloc::AllocError;
 
-/// Appends where bytes come from.
-fn push_source(text: &mut Vec<u8>, source: Source) -> Result<(), AllocError>
-    ensures { OnOk result (text.new.items ≡ text.old.items ++ behind (spec.source_fields source)) }
+/// Puts where bytes come from before the end of a line.
+fn put_source(line: &mut LineEnd, source: Source)
+    requires { length line.old ≤ 8 }
+    ensures text { line.new ≡ behind (spec.source_fields source) ++ line.old }
+    ensures length { length line.new ≤ length line.old + 30 }
 {
     match source {
-        Source::Start => push_word(text, b"start"),
-        Source::Memory(line) => push_named_number(text, b"memory", u64::from(line)),
-        Source::Waiting(line) => push_named_number(text, b"store", u64::from(line)),
+        Source::Start => line.put(b" start"),
+        Source::Memory(number) => {
+            line.put_number(u64::from(number));
+            line.put(b" memory");
+        }
+        Source::Waiting(number) => {
+            line.put_number(u64::from(number));
+            line.put(b" store");
+        }
     }
+}
+
+/// Puts an address, a size and a value before the end of a line.
+fn put_bytes(line: &mut LineEnd, at: u64, size: u8, value: u64)
+    requires { length line.old ≤ 50 }
+    ensures text { line.new ≡ behind (value_text at ∷ decimal size ∷ value_text value ∷ []) ++ line.old }
+    ensures length { length line.new ≤ length line.old + 60 }
+{
+    line.put_value(value);
+    line.put_number(u64::from(size));
+    line.put_value(at);
 }
 
 /// Appends the line of bytes that were read.
@@ -38,55 +58,47 @@ fn push_read(
 ) -> Result<(), AllocError>
     ensures { OnOk result (text.new.items ≡ text.old.items ++ spec.read_line at size value source) }
 {
-    text.extend_from_slice(b"  read")?;
-    push_value(text, at)?;
-    push_number(text, u64::from(size))?;
-    push_value(text, value)?;
-    push_source(text, source)?;
-    text.push(b'\n')?;
-    Ok(())
-}
-
-/// Appends the fields of a store.
-fn push_store(text: &mut Vec<u8>, store: Store) -> Result<(), AllocError>
-    ensures { OnOk result (text.new.items ≡ text.old.items ++ behind (spec.store_fields store)) }
-{
-    push_value(text, store.at)?;
-    push_number(text, u64::from(store.size))?;
-    push_value(text, store.value)
+    let mut line = LineEnd::newline();
+    put_source(&mut line, source);
+    put_bytes(&mut line, at, size, value);
+    line.put(b"  read");
+    line.append_to(text)
 }
 
 /// Appends the line of a store that waits.
 fn push_waits(text: &mut Vec<u8>, store: Store) -> Result<(), AllocError>
     ensures { OnOk result (text.new.items ≡ text.old.items ++ spec.waits_line store) }
 {
-    text.extend_from_slice(b"  waits")?;
-    push_store(text, store)?;
-    text.push(b'\n')?;
-    Ok(())
+    let mut line = LineEnd::newline();
+    put_bytes(&mut line, store.at, store.size, store.value);
+    line.put(b"  waits");
+    line.append_to(text)
 }
 
 /// Appends the line of a store that entered memory.
-fn push_wrote(text: &mut Vec<u8>, store: Store, old: u64, line: u32) -> Result<(), AllocError>
-    ensures { OnOk result (text.new.items ≡ text.old.items ++ spec.wrote_line store old line) }
+fn push_wrote(text: &mut Vec<u8>, store: Store, old: u64, number: u32) -> Result<(), AllocError>
+    ensures { OnOk result (text.new.items ≡ text.old.items ++ spec.wrote_line store old number) }
 {
-    text.extend_from_slice(b"  wrote")?;
-    push_store(text, store)?;
-    push_named_value(text, b"old", old)?;
-    push_named_number(text, b"line", u64::from(line))?;
-    text.push(b'\n')?;
-    Ok(())
+    let mut line = LineEnd::newline();
+    line.put_number(u64::from(number));
+    line.put(b" line");
+    line.put_value(old);
+    line.put(b" old");
+    put_bytes(&mut line, store.at, store.size, store.value);
+    line.put(b"  wrote");
+    line.append_to(text)
 }
 
 /// Appends the line of a write of the kernel.
-fn push_kernel_wrote(text: &mut Vec<u8>, store: Store, line: u32) -> Result<(), AllocError>
-    ensures { OnOk result (text.new.items ≡ text.old.items ++ spec.kernel_wrote_line store line) }
+fn push_kernel_wrote(text: &mut Vec<u8>, store: Store, number: u32) -> Result<(), AllocError>
+    ensures { OnOk result (text.new.items ≡ text.old.items ++ spec.kernel_wrote_line store number) }
 {
-    text.extend_from_slice(b"  wrote")?;
-    push_store(text, store)?;
-    push_named_number(text, b"line", u64::from(line))?;
-    text.push(b'\n')?;
-    Ok(())
+    let mut line = LineEnd::newline();
+    line.put_number(u64::from(number));
+    line.put(b" line");
+    put_bytes(&mut line, store.at, store.size, store.value);
+    line.put(b"  wrote");
+    line.append_to(text)
 }
 
 /// Appends the line of bytes that became 0.
@@ -126,12 +138,11 @@ fn push_lost(text: &mut Vec<u8>, hart: Hart, at: u64, by: u64) -> Result<(), All
 fn push_changed(text: &mut Vec<u8>, number: u8, value: u64) -> Result<(), AllocError>
     ensures { OnOk result (text.new.items ≡ text.old.items ++ spec.changed_line number value) }
 {
-    text.extend_from_slice(b"  x")?;
-    push_decimal(text, u64::from(number))?;
-    push_word(text, register_name(number))?;
-    push_value(text, value)?;
-    text.push(b'\n')?;
-    Ok(())
+    let mut line = LineEnd::newline();
+    line.put_value(value);
+    put_register(&mut line, number);
+    line.put(b" ");
+    line.append_to(text)
 }
 
 /// The word of why an instruction faults.
@@ -344,14 +355,12 @@ fn push_thread_register(
     ensures { OnOk result (text.new.items
         ≡ text.old.items ++ spec.thread_register_line tid.0 number value) }
 {
-    text.extend_from_slice(b"  thread")?;
-    push_number(text, u64::from(tid.0))?;
-    text.extend_from_slice(b" x")?;
-    push_decimal(text, u64::from(number))?;
-    push_word(text, register_name(number))?;
-    push_value(text, value)?;
-    text.push(b'\n')?;
-    Ok(())
+    let mut line = LineEnd::newline();
+    line.put_value(value);
+    put_register(&mut line, number);
+    line.put_number(u64::from(tid.0));
+    line.put(b"  thread");
+    line.append_to(text)
 }
 
 /// The name of a field of an area (uapi linux/rseq.h).

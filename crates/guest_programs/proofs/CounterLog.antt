@@ -1,23 +1,22 @@
 -- A log of the counter guest for the size 1, by computation: its second thread is preempted inside its add
 -- block, begins anew at the abort handler, and adds 1 to the cell of its processor. It uses the block as
 -- HoldsAdd asks.
-use Rattle.std.proofs.Common.{◌≡◌, ℕ, List, [], ◌∷◌, ◌++◌, refl, Bool, true, Ok}
+use Rattle.std.proofs.Common.{List, [], ◌∷◌, ◌++◌, refl, Bool}
 use Rattle.mach_types.specs.declared.events.Choice.TheVariants as asked
 use Rattle.mach_types.specs.declared.events.Entry.{Entry}
 use Rattle.mach_types.specs.declared.events.Kind.TheVariants as kind
 use Rattle.mach_types.specs.declared.sequences.Area.{Area}
 use Rattle.block_model.specs.Acts.{Sequence}
-use Rattle.block_model.specs.Deciding.{history}
 use Rattle.block_model.specs.Replay.{Ask, played}
 use Rattle.block_model.specs.Run.{IsBlockRun}
 use Rattle.block_model.specs.Setting.{Setting}
 use Rattle.block_model.proofs.Laws.{played_is_run}
 use Rattle.alone_laws.specs.Spans.{code_of}
-use Rattle.percpu_lib.specs.Adds.{add_block, cell_seen}
+use Rattle.percpu_lib.specs.Adds.{cell_seen}
 use Rattle.percpu_lib.specs.Uses.{add_form, cells_of}
 use Rattle.percpu_lib.specs.declared.slots.Slots.{Slots}
 use Rattle.percpu_lib.proofs.Computing.{by_rules, by_table}
-use Rattle.percpu_lib.proofs.ExampleParts.{AreThere, IsGood, entry, execs, found_good, is_good, line, walk, walk_of}
+use Rattle.percpu_lib.proofs.ExampleParts.{AreThere, IsGood, Use, entry, execs, found_good, line, use_of, walk, walk_of}
 use Rattle.percpu_lib.proofs.FormTests.{add_tested}
 use Rattle.percpu_lib.proofs.UseTests.{is_just}
 use Rattle.guest_names.specs.declared.names.Name.TheVariants.{Counter}
@@ -33,9 +32,6 @@ counting = record {
 
 abbrev pub slots : Slots
 slots = slots_of 0x20020
-
-abbrev pub at : ℕ
-at = 0x1016C
 
 abbrev pub area : Area
 area = record { at = 0x30400; sig = 0xF1401073 }
@@ -55,27 +51,23 @@ log =
     ∷ walk_of 2 0x1016C 5 ++ entry kind.Drain 2 0x10180 ∷ entry kind.Preempt 2 0x10180
     ∷ entry kind.Run 2 0x10180 ∷ entry kind.Exec 2 0x101A0 ∷ walk_of 2 0x1016C 11
 
-is_played : played counting lines ≡ Ok log
-unfolding played by_rules
-is_played = refl
-
 is_run : IsBlockRun counting log
-is_run = (played_is_run counting lines log is_played).0
+unfolding played by_rules
+is_run = (played_is_run counting lines log refl).0
 
--- what is found of its history at once: the cell is 1 at the end
-abbrev pub fits : Sequence → Bool
-fits q = is_just (cell_seen counting 0 (cells_of counting slots q.thread q.begun) q.reached) 1
-
-good : is_good counting (add_form slots) (add_tested slots) at area 2 [] fits (history counting log) ≡ true
-unfolding by_rules
-good = refl
+abbrev pub add : Use
+add = record (use_of add_form add_tested slots 0x1016C) { area = area; thread = 2 }
 
 -- the words of the block stand there
-there : AreThere (code_of counting.program.pages) at (add_block slots)
+there : AreThere (code_of counting.program.pages) add.at add.form.words
 unfolding by_table
 there =
     (refl, (refl, (refl, (refl, (refl, (refl, (refl, (refl, (refl, (refl, (refl, (refl, (refl, (refl, tt))))))))))))))
 
-pub adds_well : IsGood counting log (add_form slots) at area [] fits
-adds_well = found_good counting log (add_form slots)
-    (add_tested slots) at area 2 [] fits is_run good refl there refl
+-- the cell is 1 at the end
+abbrev pub has_added : Sequence → Bool
+has_added q = is_just (cell_seen counting 0 (cells_of counting slots q.thread q.begun) q.reached) 1
+
+pub adds_well : IsGood counting log 66 add [] has_added
+unfolding by_rules
+adds_well = found_good counting log is_run 66 add [] has_added refl refl there refl

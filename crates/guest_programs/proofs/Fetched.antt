@@ -8,7 +8,8 @@ use Rattle.mach_types.specs.Bytes.{joined}
 use Rattle.elf_load.specs.declared.image.ImagePage.{ImagePage}
 use Rattle.elf_load.specs.Start.{code_byte, code_word}
 use Rattle.block_model.specs.Instruction.{fetched}
-use Rattle.guest_programs.proofs.Held.{byte_at_word, bytes_join, joined_bytes}
+use Rattle.guest_programs.proofs.Held.{bytes_join, joined_bytes}
+use Rattle.guest_programs.proofs.Words.{byte_at_word}
 
 abbrev encoded : List ℕ → List ℕ
 encoded words = flat_map (λ w. to_le_bytes w32 w) words
@@ -36,7 +37,7 @@ module _ (pages : List ImagePage) (bytes words : List ℕ) (are : AreCode pages 
       let short : k < length words = slice_get_within words k w at in
       let long : length bytes ≡ 4 * length words = ap length bytes_are ∙ length_encoded words in
       ap (code_byte pages) is ∙ are (4 * k + j) (omega arith)
-      ∙ ap Some (ap (λ xs. get_or xs (4 * k + j) 0) bytes_are ∙ byte_at_word words k j w at lt)
+      ∙ ap Some (ap (λ xs. get_or xs (4 * k + j) 0) bytes_are ∙ byte_at_word (to_le_bytes w32) 4 (λ w. refl) words k j w at lt)
 
   word_is : (k w : ℕ) → slice_get words k ≡ Some w → code_word pages (0x10000 + 4 * k) ≡ Some w
   word_is k w at =

@@ -79,21 +79,6 @@ word_at_line xs a b bytes k i new is code at =
 abbrev encode : ℕ → List ℕ
 encode w = to_le_bytes w32 w
 
-pub byte_at_word : (words : List ℕ) (k j w : ℕ) → slice_get words k ≡ Some w → j < 4
-    → get_or (flat_map encode words) (4 * k + j) 0 ≡ get_or (encode w) j 0
-byte_at_word [] k j w at lt = absurd cc
-byte_at_word (x ∷ words) zero j w at lt =
-    let same : x ≡ w = cc in
-    let place : 4 * 0 + j ≡ j = omega arith in
-    ap (λ n. get_or (flat_map encode (x ∷ words)) n 0) place
-    ∙ get_or_append_left (encode x) (flat_map encode words) 0 j lt
-    ∙ ap (λ y. get_or (encode y) j 0) same
-byte_at_word (x ∷ words) (suc k) j w at lt =
-    let place : 4 * suc k + j ≡ length (encode x) + (4 * k + j) = omega arith in
-    ap (λ n. get_or (flat_map encode (x ∷ words)) n 0) place
-    ∙ get_or-append-add (encode x) (flat_map encode words) (4 * k + j) 0
-    ∙ byte_at_word words k j w at lt
-
 -- the four bytes of a word make it
 abbrev pub joined_bytes : ℕ → ℕ → ℕ → ℕ → ℕ
 joined_bytes b0 b1 b2 b3 = b0 + 256 * (b1 + 256 * (b2 + 256 * (b3 + 256 * 0)))

@@ -1,7 +1,7 @@
 -- A log of the list guest for the size 1, by computation: its first thread starts the second, which pushes a
 -- node, pushes one itself, and pops it. They use the push and the pop block as the laws of runs ask, each
 -- with the other block of its area.
-use Rattle.std.proofs.Common.{◌≡◌, ℕ, List, [], ◌∷◌, ◌++◌, take, drop, refl, Bool, true, ◌&&◌, eqb}
+use Rattle.std.proofs.Common.{◌≡◌, List, [], ◌∷◌, ◌++◌, refl, Bool, true, ◌&&◌, eqb}
 use Rattle.mach_types.specs.declared.events.Entry.{Entry}
 use Rattle.mach_types.specs.declared.events.Kind.TheVariants as kind
 use Rattle.mach_types.specs.declared.sequences.Area.{Area}
@@ -9,17 +9,16 @@ use Rattle.block_model.specs.Acts.{Sequence}
 use Rattle.block_model.specs.Deciding.{history}
 use Rattle.block_model.specs.Run.{IsBlockRun}
 use Rattle.block_model.specs.Setting.{Setting}
-use Rattle.block_model.proofs.Laws.{run_before}
 use Rattle.alone_laws.specs.Spans.{code_of}
 use Rattle.alone_laws.specs.Uses.{Placed}
 use Rattle.percpu_lib.specs.Adds.{cell_seen}
 use Rattle.percpu_lib.specs.Forms.{placed_of}
-use Rattle.percpu_lib.specs.Pops.{pop_block, pop_form}
-use Rattle.percpu_lib.specs.Pushes.{node_of, push_block, push_form}
+use Rattle.percpu_lib.specs.Pops.{pop_form}
+use Rattle.percpu_lib.specs.Pushes.{node_of, push_form}
 use Rattle.percpu_lib.specs.Uses.{cells_of}
 use Rattle.percpu_lib.specs.declared.slots.Slots.{Slots}
 use Rattle.percpu_lib.proofs.Computing.{by_rules, by_table}
-use Rattle.percpu_lib.proofs.ExampleParts.{AreThere, IsGood, entry, found_good, is_good, walk, walk_of}
+use Rattle.percpu_lib.proofs.ExampleParts.{AreThere, IsGood, Use, entry, found_good, use_of, walk, walk_of}
 use Rattle.percpu_lib.proofs.FormTests.{pop_tested, push_tested}
 use Rattle.percpu_lib.proofs.UseTests.{is_just}
 use Rattle.guest_names.specs.declared.names.Name.TheVariants.{List as Lists}
@@ -47,17 +46,18 @@ push_slots = slots_of 0x20020
 abbrev pub pop_slots : Slots
 pop_slots = slots_of 0x20040
 
-abbrev pub push_at : ℕ
-push_at = 0x101E4
+abbrev pub push : Use
+push = record (use_of push_form push_tested push_slots 0x101E4) { area = push_area; thread = 2 }
 
-abbrev pub pop_at : ℕ
-pop_at = 0x10170
+abbrev pub pop : Use
+pop = record (use_of pop_form pop_tested pop_slots 0x10170) { area = pop_area }
 
+-- the blocks as the other thread has them, with its area
 abbrev pub the_push : Placed
-the_push = placed_of (push_form push_slots) push_at pop_area
+the_push = placed_of push.form push.at pop_area
 
 abbrev pub the_pop : Placed
-the_pop = placed_of (pop_form pop_slots) pop_at push_area
+the_pop = placed_of pop.form pop.at push_area
 
 -- the first thread is preempted once it has started the second, and that pushes a node and exits; the first
 -- goes on, pushes a node as well, waits for nobody, keeps to processor 0, and goes on up to the post-commit
@@ -81,50 +81,32 @@ is_allowed = refl
 is_run : IsBlockRun listing log
 is_run = run_found listing log is_allowed
 
-push_there : AreThere (code_of listing.program.pages) push_at (push_block push_slots)
+push_there : AreThere (code_of listing.program.pages) push.at push.form.words
 unfolding by_table
 push_there = (refl, (refl, (refl, (refl, (refl, (refl, (refl, (refl, (refl, (refl, (refl, (refl, (refl, (refl, tt))))))))))))))
 
-pop_there : AreThere (code_of listing.program.pages) pop_at (pop_block pop_slots)
+pop_there : AreThere (code_of listing.program.pages) pop.at pop.form.words
 unfolding by_table
 pop_there = (refl, (refl, (refl, (refl, (refl, (refl, (refl, (refl, (refl, (refl, (refl, (refl, (refl, (refl, (refl, tt)))))))))))))))
 
 -- the push of the second thread: the cell is the node
-abbrev pub push_log : List Entry
-push_log = take 62 log
-
-abbrev pub push_fits : Sequence → Bool
-push_fits q = is_just (cell_seen listing 0 (cells_of listing push_slots q.thread q.begun) q.reached)
+abbrev pub is_pushed : Sequence → Bool
+is_pushed q =
+    is_just (cell_seen listing 0 (cells_of listing push_slots q.thread q.begun) q.reached)
     (node_of listing push_slots q.thread q.begun)
 
-push_good : is_good listing (push_form push_slots) (push_tested push_slots) push_at push_area 2
-    (the_pop ∷ []) push_fits
-    (history listing push_log) ≡ true
+pub pushes_well : IsGood listing log 62 push (the_pop ∷ []) is_pushed
 unfolding by_rules
-push_good = refl
-
-pub pushes_well : IsGood listing push_log (push_form push_slots) push_at push_area (the_pop ∷ []) push_fits
-pushes_well =
-    found_good listing push_log (push_form push_slots) (push_tested push_slots) push_at push_area 2
-    (the_pop ∷ []) push_fits
-    (run_before listing (take 62 log) (drop 62 log) is_run) push_good refl push_there refl
+pushes_well = found_good listing log is_run 62 push (the_pop ∷ []) is_pushed refl refl push_there refl
 
 -- the pop of the first thread: the value is the cell, its own node, and the cell becomes the node of the
 -- second
-abbrev pub pop_fits : Sequence → Bool
-pop_fits q =
+abbrev pub is_popped : Sequence → Bool
+is_popped q =
     is_just (cell_seen listing 0 (cells_of listing pop_slots q.thread q.begun) q.begun) 0x40000
     && (eqb (node_of listing pop_slots q.thread q.reached) 0x40000
     && is_just (cell_seen listing 0 (cells_of listing pop_slots q.thread q.begun) q.reached) 0x44000)
 
-pop_good : is_good listing (pop_form pop_slots) (pop_tested pop_slots) pop_at pop_area 1
-    (the_push ∷ []) pop_fits
-    (history listing log) ≡ true
+pub pops_well : IsGood listing log 137 pop (the_push ∷ []) is_popped
 unfolding by_rules
-pop_good = refl
-
-pub pops_well : IsGood listing log (pop_form pop_slots) pop_at pop_area (the_push ∷ []) pop_fits
-pops_well =
-    found_good listing log (pop_form pop_slots) (pop_tested pop_slots) pop_at pop_area 1
-    (the_push ∷ []) pop_fits is_run
-    pop_good refl pop_there refl
+pops_well = found_good listing log is_run 137 pop (the_push ∷ []) is_popped refl refl pop_there refl

@@ -3,6 +3,7 @@ use Rattle.std.proofs.Common.{◌≡◌, ℕ, zero, suc, ◌+◌, ◌*◌, ◌/�
 use Rattle.std.proofs.Common.{arith, get_or, slice_get, length-append}
 use Rattle.std.specs.Int.{to_le_bytes, w64}
 use Rattle.std.specs.List.{flat_map}
+use Rattle.std.proofs.Math.Nat.{mul-suc}
 use Rattle.std.proofs.lemmas.List.{get_or_append_left, get_or-append-add}
 use Rattle.std.proofs.lemmas.Option.{slice_get_within}
 use Rattle.elf_load.specs.declared.image.ImagePage.{ImagePage}
@@ -19,20 +20,22 @@ length_words (w ∷ words) =
     let front = length-append (encode w) (flat_map encode words) in
     omega arith
 
-byte_at_word : (words : List ℕ) (k j w : ℕ) → slice_get words k ≡ Some w → j < 8
-    → get_or (flat_map encode words) (8 * k + j) 0 ≡ get_or (encode w) j 0
-byte_at_word [] k j w at lt = absurd cc
-byte_at_word (x ∷ words) zero j w at lt =
+-- byte j of word k, where each word has n bytes
+pub byte_at_word : (code : ℕ → List ℕ) (n : ℕ) → ((w : ℕ) → length (code w) ≡ n) → (words : List ℕ) (k j w : ℕ)
+    → slice_get words k ≡ Some w → j < n → get_or (flat_map code words) (n * k + j) 0 ≡ get_or (code w) j 0
+byte_at_word code n long [] k j w at lt = absurd cc
+byte_at_word code n long (x ∷ words) zero j w at lt =
     let same : x ≡ w = cc in
-    let place : 8 * 0 + j ≡ j = omega arith in
-    ap (λ n. get_or (flat_map encode (x ∷ words)) n 0) place
-    ∙ get_or_append_left (encode x) (flat_map encode words) 0 j lt
-    ∙ ap (λ y. get_or (encode y) j 0) same
-byte_at_word (x ∷ words) (suc k) j w at lt =
-    let place : 8 * suc k + j ≡ length (encode x) + (8 * k + j) = omega arith in
-    ap (λ n. get_or (flat_map encode (x ∷ words)) n 0) place
-    ∙ get_or-append-add (encode x) (flat_map encode words) (8 * k + j) 0
-    ∙ byte_at_word words k j w at lt
+    let place : n * 0 + j ≡ j = omega arith in
+    let within : j < length (code x) = omega (arith, long x) in
+    ap (λ m. get_or (flat_map code (x ∷ words)) m 0) place
+    ∙ get_or_append_left (code x) (flat_map code words) 0 j within
+    ∙ ap (λ y. get_or (code y) j 0) same
+byte_at_word code n long (x ∷ words) (suc k) j w at lt =
+    let place : n * suc k + j ≡ length (code x) + (n * k + j) = omega (arith, long x, mul-suc n k) in
+    ap (λ m. get_or (flat_map code (x ∷ words)) m 0) place
+    ∙ get_or-append-add (code x) (flat_map code words) (n * k + j) 0
+    ∙ byte_at_word code n long words k j w at lt
 
 eight_bytes : (n x0 x1 x2 x3 x4 x5 x6 x7 : ℕ) → n < 2 ^ 64 → x0 ≡ n % 256 → x1 ≡ n / 256 % 256
     → x2 ≡ n / 65536 % 256 → x3 ≡ n / 16777216 % 256 → x4 ≡ n / 4294967296 % 256 → x5 ≡ n / 1099511627776 % 256
@@ -54,7 +57,7 @@ module _ (pages : List ImagePage) (bytes words : List ℕ) (are : AreData pages 
       let number : a / 4096 ≡ 32 = omega arith in
       let offset : a % 4096 ≡ 8 * m + j = omega arith in
       ap (λ n. page_byte pages n (a % 4096)) number ∙ ap (page_byte pages 32) offset ∙ are (8 * m + j) (omega arith)
-      ∙ ap (λ xs. get_or xs (8 * m + j) 0) bytes_are ∙ byte_at_word words m j w at lt
+      ∙ ap (λ xs. get_or xs (8 * m + j) 0) bytes_are ∙ byte_at_word encode 8 (λ w. refl) words m j w at lt
 
   pub word_is : (m w : ℕ) → slice_get words m ≡ Some w → w < 2 ^ 64 → start_word pages (0x20000 + 8 * m) ≡ Some w
   word_is m w at fits =

@@ -20,10 +20,7 @@ use crate::signals::SIGNALS;
 use crate::steps::{BlockKind, Step};
 use crate::urcu::URCU;
 use guest_names::Name;
-use percpu_lib::{
-    EmitFault, Slots, emit_add, emit_alloc, emit_free, emit_lines, emit_pop, emit_push,
-    emit_ring_get, emit_ring_put,
-};
+use percpu_lib::{BlockKind as Kind, EmitFault, RingWay, Slots, emit_lines, emit_ring};
 use rv_asm::Asm;
 use std::alloc::{AllocError, Global};
 
@@ -64,13 +61,13 @@ fn emit_block(
         table,
     };
     match kind {
-        BlockKind::Add => emit_add(alloc, asm, base, &slots),
-        BlockKind::Push => emit_push(alloc, asm, base, &slots),
-        BlockKind::Pop => emit_pop(alloc, asm, base, &slots),
-        BlockKind::Alloc => emit_alloc(alloc, asm, base, &slots),
-        BlockKind::Free => emit_free(alloc, asm, base, &slots),
-        BlockKind::RingPut => emit_ring_put(alloc, asm, base, &slots, 4),
-        BlockKind::RingGet => emit_ring_get(alloc, asm, base, &slots, 4),
+        BlockKind::Add => percpu_lib::emit_block(alloc, asm, base, &slots, Kind::Adds),
+        BlockKind::Push => percpu_lib::emit_block(alloc, asm, base, &slots, Kind::Pushes),
+        BlockKind::Pop => percpu_lib::emit_block(alloc, asm, base, &slots, Kind::Pops),
+        BlockKind::Alloc => percpu_lib::emit_block(alloc, asm, base, &slots, Kind::Allocs),
+        BlockKind::Free => percpu_lib::emit_block(alloc, asm, base, &slots, Kind::Frees),
+        BlockKind::RingPut => emit_ring(alloc, asm, base, &slots, RingWay::In, 4),
+        BlockKind::RingGet => emit_ring(alloc, asm, base, &slots, RingWay::Out, 4),
     }
 }
 

@@ -51,8 +51,11 @@ fn append_worked<M: Chronicle>(machine: &mut M, hart: Hart, worked: Option<M::St
     }
 }
 
-/// How many events a hart tries to make in a turn beyond one, by a word of a generator: none by every other
-/// word, and else 1 to 15. (own)
+/// How many events a hart tries to make beyond one in a turn of the only worker, which keeps none waiting. (own)
+const EVENTS_ALONE: u32 = 255;
+
+/// How many events a hart tries to make beyond one in a turn of one of several workers, by a word of a generator:
+/// none by every other word, and else 1 to 15. (own)
 fn more_events(word: u64) -> u32
     ensures { result < 16 }
 {
@@ -85,13 +88,14 @@ fn go_on<M: Chronicle>(
 }
 
 /// One turn of a hart, in which it makes so many events more than one, and the stretch that it is lent at the
-/// end of it.
+/// end of it. The only worker takes none along, since it is as soon done in its turns.
 fn turn<R: Wait, M: Chronicle>(
     rt: &R,
     lock: &Turnstile<M>,
     pass: &mut Pass<M>,
     hart: Hart,
     more: u32,
+    is_alone: bool,
     stretch: &mut Option<M::Stretch>,
 ) -> Advance
     requires own { IsOf lock.now pass.old }
@@ -106,7 +110,11 @@ fn turn<R: Wait, M: Chronicle>(
 {
     let mut turn = lock.take_turn(rt, pass);
     let advance = go_on(&mut turn.machine, hart, stretch.take(), more);
-    *stretch = turn.machine.lend(hart);
+    *stretch = if is_alone {
+        None
+    } else {
+        turn.machine.lend(hart)
+    };
     lock.give_turn(pass, turn);
     advance
 }
@@ -154,17 +162,18 @@ pub(crate) fn drive_one<R: Wait, M: Chronicle, G: Gate>(
     ensures ended { M.ended (M.setting (start_of lock.now)) pass.new.seen ≡ true }
 {
     start.meet();
+    let is_alone = start.is_of_one();
     let mut draws = Xoshiro256PlusPlus::seed_from_u64(u64::from(hart.0));
     let mut stretch = None;
     let mut idle_turns = 0;
     for _ in rt.forever() {
         gate.pass(hart);
-        let more = if start.is_of_one() {
-            0
+        let more = if is_alone {
+            EVENTS_ALONE
         } else {
             more_events(draws.next_word())
         };
-        let advance = turn(rt, lock, pass, hart, more, &mut stretch);
+        let advance = turn(rt, lock, pass, hart, more, is_alone, &mut stretch);
         if advance == Advance::Ended {
             return;
         }

@@ -46,6 +46,10 @@ pub answers_made : (s : Setting) (seed h : ℕ) (before : History) (p : Pick) (e
 unfolding advance_at next_entry
 answers_made s seed h before p e goes lt picked is = rw (goes, choice_where s seed h before goes lt, ← picked, is) refl
 
+pub answers_next : (s : Setting) (seed h : ℕ) (before : History) (e : Entry) → has_ended s before ≡ false → next_entry s seed h before ≡ Some e → Made e ≡ advance_at s seed h before
+unfolding advance_at
+answers_next s seed h before e goes next = rw (goes, next) refl
+
 -- where nothing is picked no word is drawn
 pub no_draw : (x : Sight) (w : ℕ) → None ≡ pick x w → draws x ≡ false
 unfolding pick

@@ -34,7 +34,7 @@ pub use Rattle.mach_types.specs.declared.events.Why.{Why}
 pub use Rattle.mach_types.specs.declared.threads.Saved.{Saved}
 pub use Rattle.machine_core.specs.Credits.{credited, followed, generators_after, is_followed, is_picked, seen_if, uncredited, with_credit}
 pub use Rattle.machine_core.specs.Machines.{IsMachine, generator_at, past_of, seen, setting_of}
-pub use Rattle.machine_core.specs.Stretches.{executed, stretch_of, stretch_on, taken_in}
+pub use Rattle.machine_core.specs.Stretches.{executed, gone_on_credit, stretch_from, stretch_of, stretch_on, taken_in}
 pub use Rattle.machine_core.specs.declared.machine.Machine.TheInside.{Inside}
 pub use Rattle.page_map.specs.Map.{byte_in, can_write_in}
 pub use Rattle.process.proofs.Laws.{bytes_held, changed_as, code_enough, entry_exec, gate_of_free, get_set_other, get_set_same, has_signals, held_as_live, idle_credit, in_list, mapped_is, next_at, no_fault_of_free, none_beside, others_of_free, performing, plain_next, plain_own, runs_there, same_length, saved_plain, thread_is, writable_held}

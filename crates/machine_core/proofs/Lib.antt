@@ -3,6 +3,7 @@ mod AllowedPlaces
 mod Boot
 mod ChoiceCredits
 mod Common
+mod CreditSteps
 mod FreeSteps
 pub mod Laws
 mod MachineCredits

@@ -2,7 +2,7 @@
 use Rattle.machine_core.proofs.Common.{List, [], ◌∷◌, ◌-◌, take, zero, suc, eqb, eq-eqb, ◌+◌, map, Bool, leb, is_some, not, ◌&&◌, ◌≡◌, ℕ, ◌<◌, ◌≤◌, ◌++◌, length, refl, sym, ap, ◌∙◌, subst, true, false, get_or, None, Some, arith, option_map, IsSome, with_item, same_Some, slice_get-get_or, Hart, HartState, ImagePage, Inside, IsBlockRun, IsMachine, Parts, Saved, Setting, past_of, plain_seen, seen, setting_of, thread, Tid, IsChosen, Luck, all_chosen, has_ended, history, over_at, History, events, stand_of, Stretch, advanced, stepped, Steps, is_lent, length-history, credit_of, file_of, file_on, hart_at, executed, or_parts, min, ◌^◌, leb-false, get_or_from_slice_get, awaits, IsStretchOf, appended, HasStayed, events_few, ran_few, stays, steps_of, worked_keeps, HasCode, IsAlone, taken_in}
 use Rattle.std.proofs.lemmas.List.{length-take-le}
 use Rattle.machine_core.proofs.AdvanceAnswers.{all_of, none_of}
-use Rattle.machine_core.proofs.StretchSteps.{AreAllOn, IsOnWay, all_on, own_is, settled_alike}
+use Rattle.machine_core.proofs.StretchSteps.{AreAllOn, IsOnWay, all_on, settled_alike}
 use Rattle.machine_core.proofs.ChoiceCredits.{credit_read}
 use Rattle.machine_core.proofs.Readings.{hart_read, here_read, over_read}
 use Rattle.machine_core.proofs.MachineCredits.{IsSettled, machine_settled}
@@ -32,6 +32,26 @@ goes_on m machine goes =
 out_of_barrier : (idle in_barrier credit : Bool) → not idle && not in_barrier && credit ≡ true → in_barrier ≡ false
 out_of_barrier idle in_barrier credit is = grind arith
 
+-- a hart with a thread that waits in no barrier is on its way
+pub on_way : (m : Inside) (h : Hart) (x : HartState) (t : Tid) → IsMachine m → IsChosen (setting_of m) m.seed m.log.items → has_ended (setting_of m) (past_of m) ≡ false
+    → h.0 < m.limits.harts → x ≡ get_or m.parts.harts.items h.0 x → x.running ≡ Some t → x.waits ≡ None
+    → IsOnWay (setting_of m) m.seed m.log.items m.parts m.chooser h t x
+on_way m h x t machine chosen goes lt value busy free =
+    let s = setting_of m in
+    let all = machine.tied.all_harts in
+    let in_list : h.0 < length m.parts.harts.items = omega (arith, all, lt) in
+    let chosen_so : m.chosen ≡ true = machine.chosen ∙ sym (all_of s m.seed m.log.items chosen) in
+    record {
+      run = machine.run;
+      settled = subst (λ b. IsSettled s m.seed m.log.items m.parts m.chooser b) chosen_so (machine_settled m machine);
+      limits = machine.limits;
+      goes = goes_on m machine goes;
+      lt = lt;
+      there = slice_get-get_or m.parts.harts.items h.0 x in_list ∙ ap Some (sym value);
+      busy = busy;
+      no_barrier = free;
+    }
+
 pub ready : (m : Inside) (h : Hart) (l : Stretch) (x : HartState) → IsMachine m → IsChosen (setting_of m) m.seed m.log.items
     → IsStretchOf (setting_of m) m.seed h.0 m.log.items l → has_ended (setting_of m) (past_of m) ≡ false → events h.0 (past_of m) ≡ l.events
     → x ≡ get_or m.parts.harts.items h.0 x → IsReady m h l x
@@ -45,25 +65,14 @@ ready m h l x machine chosen fits goes same value =
     ap (λ g. events h.0 (history s g)) fits.whole ∙ (same ∙ (kept.1 ∙ ap (λ (a : Stretch). a.events) began.is)) in
     let stayed : HasStayed s m.seed h.0 began.thread (history s fits.lent_at) (past_of m) =
     subst (λ g. HasStayed s m.seed h.0 began.thread (history s fits.lent_at) (history s g)) fits.whole (stays s m.seed h.0 began.thread fits.lent_at fits.since run.allowed began.runs events_at) in
-    let all = machine.tied.all_harts in
-    let in_list : h.0 < length m.parts.harts.items = omega (arith, all, began.lt) in
     let is = hart_read m h.0 x machine began.lt value in
     let there = here_read m h.0 in
     let all_so : true ≡ all_chosen s m.seed (past_of m) = all_of s m.seed m.log.items chosen in
-    let chosen_so : m.chosen ≡ true = machine.chosen ∙ sym all_so in
     let pcs : l.pcs ≡ has.pcs = has.added ∙ ap (λ (a : Stretch). a.pcs ++ has.pcs) began.is in
     record {
       thread = thread began.thread;
-      way = record {
-        run = machine.run;
-        settled = subst (λ b. IsSettled s m.seed m.log.items m.parts m.chooser b) chosen_so (machine_settled m machine);
-        limits = machine.limits;
-        goes = goes_on m machine goes;
-        lt = began.lt;
-        there = slice_get-get_or m.parts.harts.items h.0 x in_list ∙ ap Some (sym value);
-        busy = ap (λ (y : HartState). y.running) is ∙ ap (option_map thread) stayed.runs;
-        no_barrier = ap (λ (y : HartState). y.waits) is ∙ none_of (awaits h.0 (past_of m)) (sym (stayed.same_waits ∙ out_of_barrier _ _ _ began.on_credit));
-      };
+      way = on_way m h x (thread began.thread) machine chosen goes began.lt value (ap (λ (y : HartState). y.running) is ∙ ap (option_map thread) stayed.runs)
+          (ap (λ (y : HartState). y.waits) is ∙ none_of (awaits h.0 (past_of m)) (sym (stayed.same_waits ∙ out_of_barrier _ _ _ began.on_credit)));
       first = fits.first;
       file = ap (λ (a : Stretch). a.file) began.is ∙ (sym stayed.same_file
           ∙ (ap (λ o. let f : Saved = record { file = (file_on there o).file; pc = (file_on there o).pc } in f) (sym stayed.runs) ∙ ap file_of (sym is)));
@@ -72,17 +81,17 @@ ready m h l x machine chosen fits goes same value =
       steps = subst (λ ps. Steps m.code fits.first ps l) (sym pcs) has.steps;
     }
 
--- its counts fit their words once all instructions are counted
-pub counts_fit : (m : Inside) (h : Hart) (l : Stretch) (x : HartState) → IsReady m h l x → length m.log.items + length l.pcs ≤ m.limits.steps
-    → (x.ran + length l.pcs < 2 ^ 32) × (x.events + length l.pcs < 2 ^ 32)
-counts_fit m h l x is room =
-    let way = is.way in
-    let own = own_is (setting_of m) m.seed m.log.items m.parts m.chooser h is.thread x way in
+-- a hart's counts fit their words once so many instructions more are counted as the log has room for
+pub counts_fit : (m : Inside) (h : Hart) (x : HartState) (n : ℕ) → IsMachine m → h.0 < m.limits.harts → x ≡ get_or m.parts.harts.items h.0 x → length m.log.items + n ≤ m.limits.steps
+    → (x.ran + n < 2 ^ 32) × (x.events + n < 2 ^ 32)
+counts_fit m h x n machine lt value room =
+    let there : HartState = hart_at (setting_of m) (plain_seen (seen m)) h.0 (credit_of m.parts.harts.items h.0) in
+    let own : x ≡ there = value ∙ get_or_from_slice_get m.parts.harts.items h.0 there x (machine.tied.harts h.0 lt) in
     let ran : x.ran ≡ (plain_seen (seen m)).ran h.0 = ap (λ (y : HartState). y.ran) own in
     let made : x.events ≡ (plain_seen (seen m)).events h.0 = ap (λ (y : HartState). y.events) own in
-    let few_ran = ran_few (seen m) h.0 way.run in
-    let few_made = events_few (seen m) h.0 way.run in
-    let steps = way.limits.most_steps in
+    let few_ran = ran_few (seen m) h.0 machine.run in
+    let few_made = events_few (seen m) h.0 machine.run in
+    let steps = machine.limits.most_steps in
     (omega (arith, ran, few_ran, room, steps), omega (arith, made, few_made, room, steps))
 
 -- a machine's parts with this state of a hart

@@ -27,12 +27,16 @@ stretch_of l = record {
 abbrev pub executed : Hart → Tid → ℕ → Entry
 executed h t pc = record { hart = h; kind = kind.Exec; tid = t; pc = pc }
 
+-- the stretch of hart h in this state, of which nothing is worked yet
+abbrev pub stretch_from : ℕ → HartState → plain.Stretch
+stretch_from h x = record { hart = h; events = x.events; file = file_of x; credit = x.credit; pcs = [] }
+
 -- the stretch of hart h in this state, over this code: none where no thread runs on it or one waits in a barrier, where it has no
 -- credit, or where its next instruction touches more than registers
 abbrev pub stretch_on : List ImagePage → ℕ → HartState → Option plain.Stretch
 stretch_on code h x =
     if not (is_some x.running) || is_some x.waits || x.credit == 0 || not (option_map_or sets_register (next_effect code (file_of x)) false) then None
-    else Some (record { hart = h; events = x.events; file = file_of x; credit = x.credit; pcs = [] })
+    else Some (stretch_from h x)
 
 -- a hart as a stretch of its work leaves it: the file and the credit are the stretch's, and each of its instructions counts
 abbrev pub taken_in : plain.Stretch → HartState → HartState
@@ -43,3 +47,7 @@ taken_in l x = record x {
   ran = x.ran + length l.pcs;
   events = x.events + length l.pcs;
 }
+
+-- hart h in this state once its thread has executed its next instruction on credit, over this code: the first of its stretch
+abbrev pub gone_on_credit : List ImagePage → ℕ → HartState → HartState
+gone_on_credit code h x = taken_in (plain.stepped code (stretch_from h x)) x

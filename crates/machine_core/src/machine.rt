@@ -17,6 +17,7 @@ ghost use Rattle.mach_types.specs.declared.events.Entry.{Entry};
 ghost use Rattle.rv_inst.specs.declared.effects.Effect.{Effect};
 
 mod local_stretches;
+mod on_credit;
 mod readers;
 mod run_choices;
 

@@ -2,7 +2,7 @@
 -- an add block. It is preempted inside, begins anew at the abort handler, and adds once. It uses the block as
 -- HoldsAdd asks.
 use Rattle.std.proofs.Common.{◌≡◌, ℕ, ◌+◌, List, [], ◌∷◌, ◌++◌, take, drop, refl}
-use Rattle.std.proofs.Common.{true, Some, Ok}
+use Rattle.std.proofs.Common.{true, Some}
 use Rattle.mach_types.specs.Kernel.Areas.{is_inside}
 use Rattle.mach_types.specs.declared.events.Choice.TheVariants as asked
 use Rattle.mach_types.specs.declared.events.Entry.{Entry}
@@ -59,12 +59,9 @@ log =
     ∷ entry kind.Preempt 1 0x100E8 ∷ entry kind.Run 1 0x100E8 ∷ entry kind.Exec 1 0x10104 ∷ walk 0x100D0 6
     ++ entry kind.Drain 1 0x100E8 ∷ walk 0x100E8 5
 
-is_played : played adding lines ≡ Ok log
-unfolding played by_rules
-is_played = refl
-
 pub is_run : IsBlockRun adding log
-is_run = (played_is_run adding lines log is_played).0
+unfolding played by_rules
+is_run = (played_is_run adding lines log refl).0
 
 -- its second sequence, from the place before its first instruction on
 abbrev pub sequence : Sequence

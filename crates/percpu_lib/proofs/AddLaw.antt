@@ -1,31 +1,29 @@
 -- A sequence of an add block is one run of its thread alone, and so adds once or not at all.
-use Rattle.std.proofs.Common.{◌≡◌, ℕ, ◌+◌, ◌*◌, ◌<◌, ◌≤◌, ◌%◌, ◌^◌, List, [], ◌∷◌, ◌++◌, refl, ap, ◌∙◌}
+use Rattle.std.proofs.Common.{◌≡◌, ℕ, ◌+◌, ◌%◌, ◌^◌, List, [], ◌∷◌, ◌++◌, refl, ap, ◌∙◌}
 use Rattle.std.proofs.Common.{arith, Bool, true, Some, inr, pos}
 use Rattle.mach_types.specs.Bytes.{each_byte, word_at}
-use Rattle.mach_types.specs.Kernel.Areas.{is_inside}
 use Rattle.mach_types.specs.declared.sequences.Area.{Area}
 use Rattle.mach_types.specs.declared.user_memory.Store.{Store}
 use Rattle.rv_inst.specs.Execution.{seen_byte}
 use Rattle.rv_inst.specs.declared.instruction.Inst.TheVariants as inst
 use Rattle.alone.specs.Paths.{KeepsOn, Path}
-use Rattle.alone.proofs.Laws.{loaded_word, word_unchanged}
-use Rattle.alone.proofs.Means.{means_add, means_ld, means_sd}
-use Rattle.alone.proofs.Paths.{leaves, then_load, then_next, then_store}
+use Rattle.alone.proofs.Laws.{loaded_word}
+use Rattle.alone.proofs.Means.{means_add, means_sd}
+use Rattle.alone.proofs.Paths.{leaves, then_next, then_store}
 use Rattle.alone_laws.specs.Blocks.{among}
 use Rattle.alone_laws.specs.Spans.{alone_from, code_of, sees}
 use Rattle.alone_laws.proofs.StoredWords.{beside_word, some_word, stored_word}
 use Rattle.block_model.specs.History.{History, stores}
 use Rattle.block_model.specs.Setting.{Setting}
-use Rattle.percpu_lib.specs.Adds.{add_block, add_bytes, add_range, cell_seen, cell_store}
+use Rattle.percpu_lib.specs.Adds.{add_block, add_bytes, cell_seen, cell_store}
 use Rattle.percpu_lib.specs.Forms.{IsBlockPlace}
 use Rattle.percpu_lib.specs.Kinds as kind
 use Rattle.percpu_lib.specs.Uses.{add_form}
 use Rattle.percpu_lib.specs.Words.{AreHeld, AreSlots}
 use Rattle.percpu_lib.specs.declared.slots.Slots.{Slots}
-use Rattle.percpu_lib.proofs.BlockCode.{behind_range}
+use Rattle.percpu_lib.proofs.CellPath.{sequence_at, to_word}
 use Rattle.percpu_lib.proofs.Beginnings.{beginning}
 use Rattle.percpu_lib.proofs.BlockWords.{beside_pointer}
-use Rattle.percpu_lib.proofs.CellPath.{inside_at, to_cell}
 use Rattle.percpu_lib.proofs.CourseLaw.{HasPath, SomePath, has_course, same_stores, same_word}
 use Rattle.percpu_lib.proofs.CourseLaw.{unstored, way}
 use Rattle.percpu_lib.proofs.Courses.{HasCourse}
@@ -59,21 +57,15 @@ module _ (s : Setting) (p : Slots) (at : ℕ) (area : Area) (h t : ℕ) (begun :
   in_cell : each_byte bytes cell 8 ≡ true
   in_cell = word_used area.at cell
 
+  open (sequence_at (add_form p) at (block_formed kind.adds p) place.low) use {here, out}
+
   keeps : KeepsOn w (alone_from s h t begun 0)
   keeps =
       let low = place.low in
       let low_cells = place.apart.low_cells in
-      to_cell s (add_form p) at area h t begun Inside Done (block_formed kind.adds p) held place 6 64
-      (block_begins kind.adds p slots)
-      refl
-      (area_used area.at (among cell 8)) cells refl (omega arith)
-      (λ y now.
-      then_load w (at + 32) _ [] y now (here 8 (omega arith) (omega arith)) refl
-      (inst.Ld 6 5 (pos 0)) (held.holds 8 (inst.Ld 6 5 (pos 0)) refl)
-      cell 8 6 old_word.0 (at + 36) true (λ f like. means_ld f (at + 32) 6 5 (pos 0) cell cell
-      (like.temp 5 refl) (omega arith))
-      in_cell (word_unchanged seen cell 8 ∙ old_word.1) refl refl (omega arith) (omega arith)
-      (omega arith) (omega arith)
+      to_word s (add_form p) at area h t begun Inside Done (block_formed kind.adds p) held place 6 64
+      (block_begins kind.adds p slots) refl (area_used area.at (among cell 8)) cells refl (omega arith)
+      6 old_word.0 refl refl (omega arith) refl low_cells in_cell old_word.1
       (λ z next.
       then_next w (at + 36) _ [] z next (here 9 (omega arith) (omega arith)) refl
       (inst.Add 6 6 p.value) (held.holds 9 (inst.Add 6 6 p.value) refl)
@@ -88,14 +80,7 @@ module _ (s : Setting) (p : Slots) (at : ℕ) (area : Area) (h t : ℕ) (begun :
       (λ f like. means_sd f (at + 40) 5 6 (pos 0) cell cell sum sum (like.temp 5 refl) (omega arith)
       (like.temp 6 refl) (omega arith))
       in_cell (omega arith) (omega arith) (omega arith)
-      (λ v last. leaves w (at + 44) _ _ v last (behind_range (add_form p) at 11 low (omega arith)
-      (omega arith))
-      (inr (refl, refl))))))
-    where
-      here : (k : ℕ) → 4 ≤ k → k < 11 → is_inside (add_range at) (at + 4 * k) ≡ true
-      here k from lt =
-          inside_at s (add_form p) at area h t begun Inside Done
-          (block_formed kind.adds p) held place k from lt
+      (λ v last. leaves w (at + 44) _ _ v last out (inr (refl, refl)))))
 
   path : HasPath s (add_form p) at area h t begun Inside Done
   path = record {

@@ -1,11 +1,9 @@
 -- A sequence of an alloc block is one run of its thread alone, and so takes one item or none.
-use Rattle.std.proofs.Common.{◌≡◌, ◌≢◌, ℕ, ◌+◌, ◌-◌, ◌*◌, ◌<◌, ◌≤◌, ◌%◌, ◌^◌, List, [], ◌∷◌, ◌++◌, refl, ap}
-use Rattle.std.proofs.Common.{◌∙◌, subst, arith, Bool, true, false, not, ◌&&◌, ◌||◌, eqb, Option, Some, inl}
+use Rattle.std.proofs.Common.{◌≡◌, ◌≢◌, ℕ, ◌+◌, ◌-◌, ◌*◌, ◌≤◌, ◌%◌, ◌^◌, List, [], ◌∷◌, ◌++◌, refl, ap}
+use Rattle.std.proofs.Common.{◌∙◌, subst, arith, Bool, true, false, eqb, Option, Some, inl}
 use Rattle.std.proofs.Common.{inr, ◌⊎◌, pos, negsuc, unwrap_or}
 use Rattle.std.proofs.lemmas.Bool.{eqb-false, eqb-true}
-use Rattle.mach_types.specs.Bytes.{each_byte, word_at}
-use Rattle.mach_types.specs.Kernel.Areas.{is_inside}
-use Rattle.mach_types.specs.Registers.{register}
+use Rattle.mach_types.specs.Bytes.{word_at}
 use Rattle.mach_types.specs.declared.sequences.Area.{Area}
 use Rattle.mach_types.specs.declared.user_memory.Store.{Store}
 use Rattle.rv_inst.specs.Execution.{seen_byte}
@@ -17,12 +15,11 @@ use Rattle.alone.specs.Temps.{IsAt, put}
 use Rattle.alone.proofs.Laws.{loaded_word, word_unchanged}
 use Rattle.alone.proofs.Means.{means_add, means_addi, means_ld, means_sd, means_slli}
 use Rattle.alone.proofs.Paths.{leaves, then_branch, then_load, then_next, then_store}
-use Rattle.alone_laws.specs.Blocks.{among}
 use Rattle.alone_laws.specs.Spans.{alone_from, code_of, sees}
 use Rattle.alone_laws.proofs.StoredWords.{beside_word, some_word, stored_word}
 use Rattle.block_model.specs.History.{History, stores}
 use Rattle.block_model.specs.Setting.{Setting}
-use Rattle.percpu_lib.specs.Allocs.{Allocs, alloc_block, alloc_bytes, alloc_form, alloc_range}
+use Rattle.percpu_lib.specs.Allocs.{Allocs, alloc_block, alloc_form}
 use Rattle.percpu_lib.specs.Allocs.{allocs_last, allocs_none}
 use Rattle.percpu_lib.specs.Forms.{IsBlockPlace}
 use Rattle.percpu_lib.specs.Kinds as kind
@@ -30,10 +27,9 @@ use Rattle.percpu_lib.specs.Pools.{count_of, count_seen, count_store, slot_at}
 use Rattle.percpu_lib.specs.Pushes.{word_seen}
 use Rattle.percpu_lib.specs.Words.{AreHeld, AreSlots, is_changed}
 use Rattle.percpu_lib.specs.declared.slots.Slots.{Slots}
-use Rattle.percpu_lib.proofs.BlockCode.{behind_range}
+use Rattle.percpu_lib.proofs.CellPath.{sequence_at, to_word}
 use Rattle.percpu_lib.proofs.Beginnings.{beginning}
 use Rattle.percpu_lib.proofs.BlockWords.{beside_pointer}
-use Rattle.percpu_lib.proofs.CellPath.{inside_at, to_cell}
 use Rattle.percpu_lib.proofs.Changes.{beside_value, means_beq_not}
 use Rattle.percpu_lib.proofs.Changes.{means_beq_taken, put_same, some_value}
 use Rattle.percpu_lib.proofs.Changes.{value_changed}
@@ -41,12 +37,12 @@ use Rattle.percpu_lib.proofs.CourseLaw.{HasPath, IsAfter, SomePath, has_course, 
 use Rattle.percpu_lib.proofs.CourseLaw.{unstored, way}
 use Rattle.percpu_lib.proofs.Courses.{HasCourse}
 use Rattle.percpu_lib.proofs.FormedBlocks.{block_begins, block_formed}
-use Rattle.percpu_lib.proofs.UsedWords.{area_used, first_used, second_used_where}
+use Rattle.percpu_lib.proofs.UsedWords.{words_used}
 
 module _ (s : Setting) (p : Slots) (at : ℕ) (area : Area) (h t : ℕ) (begun : History)
     (held : AreHeld (code_of s.program.pages) at (alloc_block p)) (slots : AreSlots p)
     (place : IsBlockPlace s (alloc_form p) at area h t begun) where
-  open (beginning s p h t begun) use {old, seen, cells as pools, pool}
+  open (beginning s p h t begun) use {old, seen, cells as pools, pool, pool_temps as temps_0}
 
   abbrev count : ℕ
   count = count_of s h pools begun
@@ -82,33 +78,10 @@ module _ (s : Setting) (p : Slots) (at : ℕ) (area : Area) (h t : ℕ) (begun :
   abbrev w : Path
   w = way s (alloc_form p) at area h t begun Inside Done
 
-  abbrev bytes : ℕ → Bool
-  bytes = alloc_bytes area.at pool count
-
-  abbrev of_item : ℕ → Bool
-  of_item a = not (eqb count 0) && among slot 8 a
-
-  area_bytes : (a : ℕ) → among area.at 32 a ≡ true → bytes a ≡ true
-  area_bytes = area_used area.at (λ a. among pool 8 a || of_item a)
-
-  in_count : each_byte bytes pool 8 ≡ true
-  in_count = first_used area.at pool of_item
-
-  in_slot : eqb count 0 ≡ false → each_byte bytes slot 8 ≡ true
-  in_slot = second_used_where area.at pool slot (eqb count 0)
-
-  here : (k : ℕ) → 4 ≤ k → k < 16 → is_inside (alloc_range at) (at + 4 * k) ≡ true
-  here k from lt =
-      inside_at s (alloc_form p) at area h t begun Inside Done
-      (block_formed kind.allocs p) held place k from lt
-
-  out : is_inside (alloc_range at) (at + 64) ≡ false
-  out = let low = place.low in behind_range (alloc_form p) at 16 low (omega arith) (omega arith)
+  open (words_used area.at pool slot (eqb count 0)) use {area_bytes, in_first as in_count, in_second as in_slot}
+  open (sequence_at (alloc_form p) at (block_formed kind.allocs p) place.low) use {here, out}
 
   -- THE PATH
-
-  abbrev temps_0 : ℕ → ℕ
-  temps_0 = put 5 (pools + 8192 * h) (put 5 (8192 * h) (put 6 h (register old)))
 
   abbrev temps_2 : ℕ → ℕ
   temps_2 = put p.value 0 (put 6 count temps_0)
@@ -207,16 +180,9 @@ module _ (s : Setting) (p : Slots) (at : ℕ) (area : Area) (h t : ℕ) (begun :
   keeps =
       let low = place.low in
       let low_pool = place.apart.low_pool in
-      to_cell s (alloc_form p) at area h t begun Inside Done (block_formed kind.allocs p) held place 13 8192
-      (block_begins kind.allocs p slots) refl
-      area_bytes pools refl (omega arith)
-      (λ y now.
-      then_load w (at + 32) _ [] y now (here 8 (omega arith) (omega arith)) refl
-      (inst.Ld 6 5 (pos 0)) (held.holds 8 (inst.Ld 6 5 (pos 0)) refl)
-      pool 8 6 count_word.0 (at + 36) true (λ f like. means_ld f (at + 32) 6 5 (pos 0) pool pool
-      (like.temp 5 refl) (omega arith))
-      in_count (word_unchanged seen pool 8 ∙ count_word.1) refl refl (omega arith) (omega arith)
-      (omega arith) (omega arith)
+      to_word s (alloc_form p) at area h t begun Inside Done (block_formed kind.allocs p) held place 13 8192
+      (block_begins kind.allocs p slots) refl area_bytes pools refl (omega arith)
+      6 count_word.0 refl refl (omega arith) refl (omega arith) in_count count_word.1
       (λ z next.
       then_next w (at + 36) (put 6 count temps_0) [] z
       (subst (λ n. IsAt (is_changed p) old (at + 36) (put 6 n temps_0) [] z) count_is next)
@@ -224,7 +190,7 @@ module _ (s : Setting) (p : Slots) (at : ℕ) (area : Area) (h t : ℕ) (begun :
       (inst.Addi p.value 0 (pos 0)) (held.holds 9 (inst.Addi p.value 0 (pos 0)) refl) p.value 0 (at + 40)
       (λ f like. means_addi f (at + 36) (at + 40) (omega arith) p.value 0 (pos 0) 0 0 refl refl)
       (value_changed p) (some_value p slots) slots.low_value (omega arith) (omega arith)
-      (λ u then. by_count u then (eqb count 0) refl)))
+      (λ u then. by_count u then (eqb count 0) refl))
 
   -- WHAT WAS DONE
 

@@ -1,6 +1,8 @@
 -- What the law of a block calls by a name of its own where a thread is about to begin its sequence.
-use Rattle.std.proofs.Common.{ℕ, Option}
+use Rattle.std.proofs.Common.{ℕ, ◌+◌, ◌*◌, Option}
+use Rattle.mach_types.specs.Registers.{register}
 use Rattle.mach_types.specs.declared.registers.Regs.{Regs}
+use Rattle.alone.specs.Temps.{put}
 use Rattle.alone_laws.specs.Spans.{seen_at}
 use Rattle.block_model.specs.History.{History, file}
 use Rattle.block_model.specs.Setting.{Setting}
@@ -12,7 +14,8 @@ use Rattle.percpu_lib.specs.Uses.{cells_of}
 use Rattle.percpu_lib.specs.declared.slots.Slots.{Slots}
 
 -- the thread's registers, the bytes that its hart sees, the address of the data and the value; and where the
--- cell, the pool and the ring of its processor lie
+-- cell, the pool and the ring of its processor lie, and the registers once the address of the one or the others
+-- is in x5
 pub record Beginning : Type 0 where
   pub old : Regs
   pub seen : ℕ → Option ℕ
@@ -21,6 +24,12 @@ pub record Beginning : Type 0 where
   pub cell : ℕ
   pub pool : ℕ
   pub ring : ℕ
+  pub cell_temps : ℕ → ℕ
+  pub pool_temps : ℕ → ℕ
+
+-- the registers once the address of data, so many bytes apart for each processor, is in x5
+abbrev temps_with : Regs → ℕ → ℕ → ℕ → ℕ → ℕ
+temps_with old h scale cells = put 5 (cells + scale * h) (put 5 (scale * h) (put 6 h (register old)))
 
 abbrev pub beginning : Setting → Slots → ℕ → ℕ → History → Beginning
 beginning s p h t begun = record {
@@ -31,6 +40,8 @@ beginning s p h t begun = record {
   cell = cell_at (cells_of s p t begun) h;
   pool = pool_at (cells_of s p t begun) h;
   ring = ring_at (cells_of s p t begun) h;
+  cell_temps = temps_with (file s t begun).file h 64 (cells_of s p t begun);
+  pool_temps = temps_with (file s t begun).file h 8192 (cells_of s p t begun);
 }
 
 -- a ring as the hart sees it: its head, its tail, and how many words it holds

@@ -26,7 +26,8 @@ use Rattle.percpu_lib.specs.declared.lines.Line.{Line}
 use Rattle.percpu_lib.specs.declared.lines.Line.TheVariants as line
 use Rattle.percpu_lib.specs.declared.slots.Slots.{Slots}
 use Rattle.percpu_lib.proofs.FileCode.{word_loaded}
-use Rattle.percpu_lib.proofs.HeldBlocks.{behind_inside, emitted_length, end_at, leave_at, retry_at, still_there, words_of}
+use Rattle.percpu_lib.proofs.HeldBlocks.{behind_inside, emitted_length, end_at, leave_at, retry_at, words_of}
+use Rattle.percpu_lib.proofs.KnownWords.{still_there}
 use Rattle.percpu_lib.proofs.HeldWords.{emitted_behind, get_behind, labelled_items}
 use Rattle.percpu_lib.proofs.Labels.{Stands, at_leave, first_part, free_there, from_aborted, from_inside, index_is}
 use Rattle.percpu_lib.proofs.Labels.{inside_part, keeps, label_other, label_own, no_label, parts, stays}

@@ -4,26 +4,28 @@ use Rattle.std.proofs.Common.{◌≡◌, ℕ, ◌+◌, ◌*◌, ◌^◌, ◌<◌
 use Rattle.std.proofs.Common.{inl, inr, Bool, true, false, eqb, slice_get, Some, pos, negsuc}
 use Rattle.std.proofs.lemmas.Bool.{eqb-true}
 use Rattle.std.proofs.lemmas.Int.{ints}
+use Rattle.mach_types.specs.Bytes.{each_byte, word_at}
 use Rattle.mach_types.specs.Kernel.Areas.{is_inside}
 use Rattle.mach_types.specs.Registers.{register}
 use Rattle.mach_types.specs.declared.registers.Regs.{Regs}
 use Rattle.mach_types.specs.declared.sequences.Area.{Area}
 use Rattle.mach_types.specs.declared.user_memory.Store.{Store}
+use Rattle.rv_inst.specs.Memory.{loaded}
 use Rattle.rv_inst.specs.Words.{shift_left, sum_64}
 use Rattle.rv_inst.specs.declared.instruction.Inst.TheVariants as inst
 use Rattle.alone.specs.Alone.{Stand}
 use Rattle.alone.specs.Paths.{KeepsOn, Path}
 use Rattle.alone.specs.Temps.{IsAt, put}
 use Rattle.alone.proofs.Laws.{loaded_small, word_unchanged}
-use Rattle.alone.proofs.Means.{means_add, means_bne_not, means_bne_taken, means_lw, means_slli}
+use Rattle.alone.proofs.Means.{means_add, means_bne_not, means_bne_taken, means_ld, means_lw, means_slli}
 use Rattle.alone.proofs.Paths.{leaves, then_branch, then_load, then_next}
 use Rattle.alone_laws.specs.Blocks.{among}
-use Rattle.alone_laws.specs.Spans.{alone_from, code_of}
+use Rattle.alone_laws.specs.Spans.{alone_from, code_of, seen_at}
 use Rattle.block_model.specs.History.{History, file}
 use Rattle.block_model.specs.Setting.{Setting}
 use Rattle.percpu_lib.specs.Forms.{Form, IsBlockPlace, committed, range_of}
 use Rattle.percpu_lib.specs.Words.{AreHeld}
-use Rattle.percpu_lib.proofs.BlockCode.{IsFormed, before_range, within_range}
+use Rattle.percpu_lib.proofs.BlockCode.{IsFormed, before_range, behind_range, within_range}
 use Rattle.percpu_lib.proofs.CourseLaw.{block, in_area, way}
 
 -- the first words of a sequence: they load the processor, go back to the retry label where it isn't the
@@ -62,6 +64,20 @@ begins_of form shift scale lw bne slli add long five six area cells shifts = rec
   shifts = shifts;
 }
 
+-- the words of a sequence, and the one behind it
+pub record HasSequence (form : Form) (at : ℕ) : Type 0 where
+  pub here : (k : ℕ) → form.first ≤ k → k < committed form → is_inside (range_of form at) (at + 4 * k) ≡ true
+  pub out : is_inside (range_of form at) (at + 4 * committed form) ≡ false
+
+pub sequence_at : (form : Form) (at : ℕ) → IsFormed form → at < 2 ^ 37 → HasSequence form at
+sequence_at form at formed low =
+    let within = formed.within in
+    let all = formed.short in
+    record {
+      here = λ k from lt. within_range form at k low (omega arith) from lt;
+      out = behind_range form at (committed form) low (omega arith) (omega arith);
+    }
+
 module _ (s : Setting) (form : Form) (at : ℕ) (area : Area) (h t : ℕ) (begun : History)
     (Inside : List Store → Type 0) (Done : (ℕ → ℕ) → List Store → Type 0)
     (formed : IsFormed form) (held : AreHeld (code_of s.program.pages) at form.words)
@@ -78,10 +94,7 @@ module _ (s : Setting) (form : Form) (at : ℕ) (area : Area) (h t : ℕ) (begun
       let all = formed.short in
       omega arith
 
-  -- a word of the sequence
-  pub inside_at : (k : ℕ) → form.first ≤ k → k < committed form → is_inside (range_of form at) (at + 4 * k)
-      ≡ true
-  inside_at k from lt = within_range form at k place.low short from lt
+  open (sequence_at form at formed place.low) use {here as inside_at}
 
   retry_out : is_inside (range_of form at) at ≡ false
   retry_out =
@@ -184,3 +197,26 @@ module _ (s : Setting) (form : Form) (at : ℕ) (area : Area) (h t : ℕ) (begun
         (λ y now. compared y
         (subst (λ n. IsAt form.may old (at + 4 * (form.first + 1)) (put 6 n (register old)) [] y)
         (loaded_small h place.few) now) rest (eqb h (register old 5)) refl)
+
+    -- and on, once the word there is in a register
+    pub to_word : (d v : ℕ) → form.may d ≡ true → eqb d 0 ≡ false → d < 32
+        → slice_get form.words (form.first + 4) ≡ Some (Some (inst.Ld d 5 (pos 0)))
+        → cells + scale * h + 8 ≤ 2 ^ 64
+        → each_byte (block s form at area h t begun Inside Done).words (cells + scale * h) 8 ≡ true
+        → word_at (seen_at s h begun) (cells + scale * h) 8 ≡ Some v
+        → ((y : Stand) → IsAt form.may old (at + 4 * (form.first + 5)) (put d (loaded v 8 true) temps_there) [] y
+        → KeepsOn w y)
+        → KeepsOn w (alone_from s h t begun 0)
+    to_word d v may some small there high used is rest =
+        let low = place.low in
+        let near = short in
+        let long = begins.long in
+        to_cell (λ y now.
+        then_load w (at + 4 * (form.first + 4)) temps_there [] y now
+        (inside_at (form.first + 4) (omega arith) (omega arith)) nothing
+        (inst.Ld d 5 (pos 0)) (held.holds (form.first + 4) (inst.Ld d 5 (pos 0)) there)
+        (cells + scale * h) 8 d v (at + 4 * (form.first + 5)) true
+        (λ f like. means_ld f (at + 4 * (form.first + 4)) d 5 (pos 0) (cells + scale * h) (cells + scale * h)
+        (like.temp 5 begins.five) (omega arith))
+        used (word_unchanged w.seen (cells + scale * h) 8 ∙ is) may some small (omega arith) (omega arith)
+        (omega arith) rest)

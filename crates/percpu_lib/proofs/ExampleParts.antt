@@ -2,11 +2,12 @@
 -- that is used as it should be where tests find so.
 use Rattle.std.proofs.Common.{◌≡◌, ◌≢◌, ℕ, suc, zero, ◌+◌, ◌*◌, ◌-◌, ◌%◌, ◌^◌, ◌<◌, ◌≤◌, List, [], ◌∷◌, refl}
 use Rattle.std.proofs.Common.{sym, ap, ◌∙◌, subst, arith, Bool, true, false, not, ◌&&◌, ◌||◌, ◌⊎◌, inl, inr}
-use Rattle.std.proofs.Common.{eqb, leb, ltb, Option, Some, None, slice_get, ◌++◌, replicate, unwrap_or}
+use Rattle.std.proofs.Common.{eqb, leb, ltb, Option, Some, None, slice_get, ◌++◌, take, drop, replicate, unwrap_or}
 use Rattle.std.specs.Option.{option_map_or}
 use Rattle.std.specs.Prelude.{Contains}
 use Rattle.std.proofs.lemmas.Bool.{and_parts, eqb-false, eqb-true, false≢true, le-ltb, leb-true, ltb-true}
 use Rattle.std.proofs.lemmas.Bool.{not-true}
+use Rattle.std.proofs.lemmas.List.{take-append-drop}
 use Rattle.mach_types.specs.Kernel.Areas.{is_inside}
 use Rattle.mach_types.specs.declared.events.Choice.{Choice}
 use Rattle.mach_types.specs.declared.events.Choice.TheVariants as asked
@@ -22,6 +23,7 @@ use Rattle.block_model.specs.History.{History, file}
 use Rattle.block_model.specs.Replay.{Ask}
 use Rattle.block_model.specs.Run.{IsBlockRun, IsRunHistory}
 use Rattle.block_model.specs.Setting.{Setting}
+use Rattle.block_model.proofs.Laws.{run_before}
 use Rattle.alone.specs.Temps.{is_scratch}
 use Rattle.alone_laws.specs.Entering.{IsIn}
 use Rattle.alone_laws.specs.Pointers.{LiesBeside}
@@ -45,6 +47,17 @@ entry k t pc = record { hart = record { 0 = 0 }; kind = k; tid = record { 0 = t 
 -- so many lines that ask for an instruction
 abbrev pub execs : ℕ → List Ask
 execs n = replicate n (line asked.Exec)
+
+-- a thread runs, executes so many instructions, whose stores then enter memory, is preempted, runs again and
+-- executes so many more
+abbrev pub cut_after : ℕ → ℕ → ℕ → List Ask
+cut_after n stores rest =
+    line (asked.Run (record { 0 = 1 }))
+    ∷ (execs n
+    ++ (replicate stores (line asked.Drain)
+    ++ line asked.Preempt
+    ∷ line (asked.Run (record { 0 = 1 }))
+    ∷ execs rest))
 
 -- so many instructions of a thread, one word behind the other, from an address on; and of thread 1
 abbrev pub walk_of : ℕ → ℕ → ℕ → List Entry
@@ -236,65 +249,90 @@ each_beside b (x ∷ rest) is other (zero, lt, at) =
 each_beside b (x ∷ rest) is other (suc k, lt, at) =
     each_beside b rest (and_parts (stands_apart b x) (stand_apart b rest) is).1 other (k, omega arith, at)
 
+-- a block as the thread of a log uses it: its form and what is tested of that, where it stands, its area and the
+-- thread
+pub record Use : Type 1 where
+  pub form : Form
+  pub tested : IsTested form
+  pub at : ℕ
+  pub area : Area
+  pub thread : ℕ
+
+-- by thread 1, with the area that the programs register
+abbrev pub use_of : (form : Slots → Form) → ((p : Slots) → IsTested (form p)) → Slots → ℕ → Use
+use_of form tested p at = record { form = form p; tested = tested p; at = at; area = own_area; thread = 1 }
+
+abbrev pub place_of : Use → Placed
+place_of u = placed_of u.form u.at u.area
+
 -- what is found of a log at once: the thread uses the block well, beside others, and its last sequence on
 -- hart 0 has come to the post-commit address, and passes a test
-abbrev pub commits_so : Setting → Form → ℕ → ℕ → (Sequence → Bool) → Sequence → Bool
-commits_so s form at t fits q =
-    eqb q.thread t
-    && (is_inside (range_of form at) (file s t q.begun).pc
-    && (eqb (file s t q.reached).pc (at + 4 * committed form) && fits q))
+abbrev pub commits_so : Setting → Use → (Sequence → Bool) → Sequence → Bool
+commits_so s u fits q =
+    eqb q.thread u.thread
+    && (is_inside (range_of u.form u.at) (file s u.thread q.begun).pc
+    && (eqb (file s u.thread q.reached).pc (u.at + 4 * committed u.form) && fits q))
 
-abbrev pub is_good : (s : Setting) (form : Form) → IsTested form → ℕ → Area → ℕ → List Placed
-    → (Sequence → Bool) → History
-    → Bool
-is_good s form tested at area t others fits before =
-    are_fine s form tested at area t before
-    && (always_begins_freely s form tested at area t before
-    && (shares_so s form tested at area t others before
-    && option_map_or (commits_so s form at t fits) (sequence_on s 0 before) false))
+abbrev pub is_good : Setting → Use → List Placed → (Sequence → Bool) → History → Bool
+is_good s u others fits before =
+    are_fine s u.form u.tested u.at u.area u.thread before
+    && (always_begins_freely s u.form u.tested u.at u.area u.thread before
+    && (shares_so s u.form u.tested u.at u.area u.thread others before
+    && option_map_or (commits_so s u fits) (sequence_on s 0 before) false))
 
-pub record IsGood (s : Setting) (log : List Entry) (form : Form) (at : ℕ) (area : Area) (others : List Placed)
-    (fits : Sequence → Bool) : Type 0 where
+-- the first entries of a log are such
+pub record IsGood (s : Setting) (log : List Entry) (n : ℕ) (u : Use) (others : List Placed) (fits : Sequence → Bool)
+    : Type 0 where
   pub sequence : Sequence
-  pub used : IsWellUsed s log form at area others sequence
+  pub used : IsWellUsed s (take n log) u.form u.at u.area others sequence
   pub passes : fits sequence ≡ true
 
-pub record IsUsedSo (s : Setting) (log : List Entry) (form : Form) (at : ℕ) (area : Area) (t : ℕ)
-    (others : List Placed)
-    : Type 0 where
+pub record IsUsedSo (s : Setting) (log : List Entry) (u : Use) (others : List Placed) : Type 0 where
   pub run : IsBlockRun s log
-  pub holds : HoldsBlock s (history s log) form at area t
-  pub begins : CanAlwaysBegin s (placed_of form at area) t (history s log)
-  pub shares : SharesAreaWith s (history s log) (placed_of form at area) t others
+  pub holds : HoldsBlock s (history s log) u.form u.at u.area u.thread
+  pub begins : CanAlwaysBegin s (place_of u) u.thread (history s log)
+  pub shares : SharesAreaWith s (history s log) (place_of u) u.thread others
 
-module _ (s : Setting) (log : List Entry) (form : Form) (tested : IsTested form) (at : ℕ) (area : Area)
-    (t : ℕ)
-    (others : List Placed) (fits : Sequence → Bool) (run : IsBlockRun s log)
-    (good : is_good s form tested at area t others fits (history s log) ≡ true)
-    (low : is_low s form at area ≡ true)
-    (there : AreThere (code_of s.program.pages) at form.words)
-    (apart : stand_apart (placed_of form at area) others ≡ true)
+-- the first entries of a run are one
+run_to : (s : Setting) (log : List Entry) (n : ℕ) → IsBlockRun s log → IsBlockRun s (take n log)
+run_to s log n run =
+    run_before s (take n log) (drop n log)
+    (subst (IsBlockRun s) (sym (take-append-drop n log)) run)
+
+module _ (s : Setting) (whole : List Entry) (is_run : IsBlockRun s whole) (n : ℕ) (u : Use)
+    (others : List Placed) (fits : Sequence → Bool)
+    (good : is_good s u others fits (history s (take n whole)) ≡ true) (low : is_low s u.form u.at u.area ≡ true)
+    (there : AreThere (code_of s.program.pages) u.at u.form.words)
+    (apart : stand_apart (place_of u) others ≡ true)
   where
+    open u use {form, tested, at, area, thread as t}
+
+    abbrev log : List Entry
+    log = take n whole
+
+    run : IsBlockRun s log
+    run = run_to s whole n is_run
+
     abbrev past : History
     past = history s log
 
     one : (are_fine s form tested at area t past ≡ true)
         × (always_begins_freely s form tested at area t past
         && (shares_so s form tested at area t others past
-        && option_map_or (commits_so s form at t fits) (sequence_on s 0 past) false) ≡ true)
+        && option_map_or (commits_so s u fits) (sequence_on s 0 past) false) ≡ true)
     one = and_parts (are_fine s form tested at area t past) _ good
 
     two : (always_begins_freely s form tested at area t past ≡ true)
         × (shares_so s form tested at area t others past
-        && option_map_or (commits_so s form at t fits) (sequence_on s 0 past) false ≡ true)
+        && option_map_or (commits_so s u fits) (sequence_on s 0 past) false ≡ true)
     two = and_parts (always_begins_freely s form tested at area t past) _ one.1
 
     three : (shares_so s form tested at area t others past ≡ true)
-        × (option_map_or (commits_so s form at t fits) (sequence_on s 0 past) false ≡ true)
+        × (option_map_or (commits_so s u fits) (sequence_on s 0 past) false ≡ true)
     three = and_parts (shares_so s form tested at area t others past) _ two.1
 
     -- what holds of the thread, whichever its last sequence is
-    pub used_so : IsUsedSo s log form at area t others
+    pub used_so : IsUsedSo s log u others
     used_so = record {
       run = run;
       holds = holds_so s form tested at area t past run.allowed one.0 low there;
@@ -304,8 +342,8 @@ module _ (s : Setting) (log : List Entry) (form : Form) (tested : IsTested form)
     }
 
     found : (o : Option Sequence) → sequence_on s 0 past ≡ o
-        → option_map_or (commits_so s form at t fits) o false ≡ true
-        → IsGood s log form at area others fits
+        → option_map_or (commits_so s u fits) o false ≡ true
+        → IsGood s whole n u others fits
     found None is test = absurd (false≢true test)
     found (Some q) is test =
         let first = and_parts (eqb q.thread t) _ test in
@@ -327,7 +365,7 @@ module _ (s : Setting) (log : List Entry) (form : Form) (tested : IsTested form)
           passes = third.1;
         }
 
-    pub found_good : IsGood s log form at area others fits
+    pub found_good : IsGood s whole n u others fits
     found_good = found (sequence_on s 0 past) refl three.1
 
 -- a last sequence on hart 0 that passes a test
@@ -347,3 +385,13 @@ sequence_found s log fits there = by_what (sequence_on s 0 (history s log)) refl
         → IsFound s log fits
     by_what None is test = absurd (false≢true test)
     by_what (Some q) is test = record { sequence = q; is = is; passes = test }
+
+-- a use of which a fact is known, as the laws ask for one
+pub is_shown : (form : Slots → Form) (tested : (p : Slots) → IsTested (form p))
+    (Fact : Setting → Slots → Sequence → Type 0) (s : Setting) (log : List Entry) (n : ℕ) (p : Slots) (at : ℕ)
+    (others : List Placed) (fits : Sequence → Bool) → IsGood s log n (use_of form tested p at) others fits
+    → ((q : Sequence) → fits q ≡ true → Fact s p q)
+    → (s : Setting) × (log : List Entry) × (p : Slots) × (at : ℕ) × (area : Area) × (others : List Placed)
+    × (q : Sequence) × IsWellUsed s log (form p) at area others q × Fact s p q
+is_shown form tested Fact s log n p at others fits good so =
+    (s, take n log, p, at, own_area, others, good.sequence, good.used, so good.sequence good.passes)

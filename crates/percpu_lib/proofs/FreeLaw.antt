@@ -1,11 +1,10 @@
 -- A sequence of a free block is one run of its thread alone, and so puts its value into the pool once or not
 -- at all.
-use Rattle.std.proofs.Common.{◌≡◌, ◌≢◌, ℕ, ◌+◌, ◌*◌, ◌<◌, ◌≤◌, ◌%◌, ◌^◌, List, [], ◌∷◌, ◌++◌, refl, ap}
-use Rattle.std.proofs.Common.{◌∙◌, subst, arith, Bool, true, false, not, ◌&&◌, ◌||◌, eqb, Option, Some, inl}
+use Rattle.std.proofs.Common.{◌≡◌, ◌≢◌, ℕ, ◌+◌, ◌*◌, ◌≤◌, ◌%◌, ◌^◌, List, [], ◌∷◌, ◌++◌, refl, ap}
+use Rattle.std.proofs.Common.{◌∙◌, subst, arith, Bool, true, false, eqb, Option, Some, inl}
 use Rattle.std.proofs.Common.{inr, ◌⊎◌, pos, unwrap_or}
 use Rattle.std.proofs.lemmas.Bool.{eqb-false, eqb-true}
-use Rattle.mach_types.specs.Bytes.{byte_over, each_byte, word_at}
-use Rattle.mach_types.specs.Kernel.Areas.{is_inside}
+use Rattle.mach_types.specs.Bytes.{byte_over, word_at}
 use Rattle.mach_types.specs.Registers.{register}
 use Rattle.mach_types.specs.declared.sequences.Area.{Area}
 use Rattle.mach_types.specs.declared.user_memory.Store.{Store}
@@ -15,25 +14,23 @@ use Rattle.rv_inst.specs.declared.instruction.Inst.TheVariants as inst
 use Rattle.alone.specs.Alone.{Stand}
 use Rattle.alone.specs.Paths.{KeepsOn, Path}
 use Rattle.alone.specs.Temps.{IsAt, put}
-use Rattle.alone.proofs.Laws.{loaded_word, word_unchanged}
-use Rattle.alone.proofs.Means.{means_add, means_addi, means_ld, means_sd, means_slli}
-use Rattle.alone.proofs.Paths.{leaves, then_branch, then_load, then_next, then_store}
-use Rattle.alone_laws.specs.Blocks.{among}
+use Rattle.alone.proofs.Laws.{loaded_word}
+use Rattle.alone.proofs.Means.{means_add, means_addi, means_sd, means_slli}
+use Rattle.alone.proofs.Paths.{leaves, then_branch, then_next, then_store}
 use Rattle.alone_laws.specs.Spans.{alone_from, code_of, sees}
 use Rattle.alone_laws.proofs.StoredWords.{beside_word, some_word, stored_word}
 use Rattle.block_model.specs.History.{History, stores}
 use Rattle.block_model.specs.Setting.{Setting}
 use Rattle.percpu_lib.specs.Forms.{IsBlockPlace}
-use Rattle.percpu_lib.specs.Frees.{Frees, FreesNoMore, fills_none, fills_slot, free_block, free_bytes}
-use Rattle.percpu_lib.specs.Frees.{free_form, free_range, frees_none, frees_slot}
+use Rattle.percpu_lib.specs.Frees.{Frees, FreesNoMore, fills_none, fills_slot, free_block}
+use Rattle.percpu_lib.specs.Frees.{free_form, frees_none, frees_slot}
 use Rattle.percpu_lib.specs.Kinds as kind
 use Rattle.percpu_lib.specs.Pools.{count_of, count_seen, count_store, slot_at, slot_store}
 use Rattle.percpu_lib.specs.Words.{AreHeld, AreSlots, is_changed}
 use Rattle.percpu_lib.specs.declared.slots.Slots.{Slots}
-use Rattle.percpu_lib.proofs.BlockCode.{behind_range}
+use Rattle.percpu_lib.proofs.CellPath.{sequence_at, to_word}
 use Rattle.percpu_lib.proofs.Beginnings.{beginning}
 use Rattle.percpu_lib.proofs.BlockWords.{beside_pointer}
-use Rattle.percpu_lib.proofs.CellPath.{inside_at, to_cell}
 use Rattle.percpu_lib.proofs.Changes.{beside_value, means_beq_not}
 use Rattle.percpu_lib.proofs.Changes.{means_beq_taken, put_same, some_value}
 use Rattle.percpu_lib.proofs.Changes.{value_beside, value_changed}
@@ -41,12 +38,12 @@ use Rattle.percpu_lib.proofs.CourseLaw.{HasPath, IsAfter, SomePath, has_course, 
 use Rattle.percpu_lib.proofs.CourseLaw.{unstored, way}
 use Rattle.percpu_lib.proofs.Courses.{HasCourse}
 use Rattle.percpu_lib.proofs.FormedBlocks.{block_begins, block_formed}
-use Rattle.percpu_lib.proofs.UsedWords.{area_used, first_used, second_used_where}
+use Rattle.percpu_lib.proofs.UsedWords.{words_used}
 
 module _ (s : Setting) (p : Slots) (at : ℕ) (area : Area) (h t : ℕ) (begun : History)
     (held : AreHeld (code_of s.program.pages) at (free_block p)) (slots : AreSlots p)
     (place : IsBlockPlace s (free_form p) at area h t begun) where
-  open (beginning s p h t begun) use {old, seen, cells as pools, pool, value}
+  open (beginning s p h t begun) use {old, seen, cells as pools, pool, value, pool_temps as temps_0}
 
   abbrev count : ℕ
   count = count_of s h pools begun
@@ -82,32 +79,10 @@ module _ (s : Setting) (p : Slots) (at : ℕ) (area : Area) (h t : ℕ) (begun :
   abbrev w : Path
   w = way s (free_form p) at area h t begun Inside Done
 
-  abbrev bytes : ℕ → Bool
-  bytes = free_bytes area.at pool count
-
-  abbrev of_slot : ℕ → Bool
-  of_slot a = not (eqb count 512) && among slot 8 a
-
-  area_bytes : (a : ℕ) → among area.at 32 a ≡ true → bytes a ≡ true
-  area_bytes = area_used area.at (λ a. among pool 8 a || of_slot a)
-
-  in_count : each_byte bytes pool 8 ≡ true
-  in_count = first_used area.at pool of_slot
-
-  in_slot : eqb count 512 ≡ false → each_byte bytes slot 8 ≡ true
-  in_slot = second_used_where area.at pool slot (eqb count 512)
-
-  here : (k : ℕ) → 5 ≤ k → k < 18 → is_inside (free_range at) (at + 4 * k) ≡ true
-  here k from lt =
-      inside_at s (free_form p) at area h t begun Inside Done (block_formed kind.frees p) held place k from lt
-
-  out : is_inside (free_range at) (at + 72) ≡ false
-  out = let low = place.low in behind_range (free_form p) at 18 low (omega arith) (omega arith)
+  open (words_used area.at pool slot (eqb count 512)) use {area_bytes, in_first as in_count, in_second as in_slot}
+  open (sequence_at (free_form p) at (block_formed kind.frees p) place.low) use {here, out}
 
   -- THE PATH
-
-  abbrev temps_0 : ℕ → ℕ
-  temps_0 = put 5 (pools + 8192 * h) (put 5 (8192 * h) (put 6 h (register old)))
 
   abbrev temps_2 : ℕ → ℕ
   temps_2 = put 7 512 (put 6 count temps_0)
@@ -209,16 +184,9 @@ module _ (s : Setting) (p : Slots) (at : ℕ) (area : Area) (h t : ℕ) (begun :
   keeps =
       let low = place.low in
       let low_pool = place.apart.is_pool.low_pool in
-      to_cell s (free_form p) at area h t begun Inside Done (block_formed kind.frees p) held place 13 8192
-      (block_begins kind.frees p slots)
-      (inl refl) area_bytes pools refl (omega arith)
-      (λ y now.
-      then_load w (at + 36) _ [] y now (here 9 (omega arith) (omega arith)) (inl refl)
-      (inst.Ld 6 5 (pos 0)) (held.holds 9 (inst.Ld 6 5 (pos 0)) refl)
-      pool 8 6 count_word.0 (at + 40) true (λ f like. means_ld f (at + 36) 6 5 (pos 0) pool pool
-      (like.temp 5 refl) (omega arith))
-      in_count (word_unchanged seen pool 8 ∙ count_word.1) refl refl (omega arith) (omega arith)
-      (omega arith) (omega arith)
+      to_word s (free_form p) at area h t begun Inside Done (block_formed kind.frees p) held place 13 8192
+      (block_begins kind.frees p slots) (inl refl) area_bytes pools refl (omega arith)
+      6 count_word.0 refl refl (omega arith) refl (omega arith) in_count count_word.1
       (λ z next.
       then_next w (at + 40) (put 6 count temps_0) [] z
       (subst (λ n. IsAt (is_changed p) old (at + 40) (put 6 n temps_0) [] z) count_is next)
@@ -226,7 +194,7 @@ module _ (s : Setting) (p : Slots) (at : ℕ) (area : Area) (h t : ℕ) (begun :
       (inst.Addi 7 0 (pos 512)) (held.holds 10 (inst.Addi 7 0 (pos 512)) refl) 7 512 (at + 44)
       (λ f like. means_addi f (at + 40) (at + 44) (omega arith) 7 0 (pos 512) 0 512 refl refl)
       refl refl (omega arith) (omega arith) (omega arith)
-      (λ u then. by_count u then (eqb count 512) refl)))
+      (λ u then. by_count u then (eqb count 512) refl))
 
   -- WHAT WAS DONE
 

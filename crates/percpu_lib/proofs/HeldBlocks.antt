@@ -1,25 +1,15 @@
 -- Code that was finished holds the instructions of a block where its lines were appended.
-use Rattle.std.proofs.Common.{◌≡◌, ℕ, zero, suc, ◌+◌, List, [], ◌∷◌, ◌++◌, length, slice_get, refl, ap, ◌∙◌}
-use Rattle.std.proofs.Common.{arith, subst, Option, Some, None, ◌*◌, get_or, length-append}
-use Rattle.std.proofs.lemmas.Option.{slice_get-get_or, slice_get_within}
-use Rattle.elf_load.specs.Images.{IsImage}
-use Rattle.elf_load.specs.declared.image.Image.{Image}
-use Rattle.rv_asm.specs.Assembly.{AreAssembled, Assembly, index_of}
+use Rattle.std.proofs.Common.{◌≡◌, ℕ, suc, ◌+◌, List, [], ◌∷◌, ◌++◌, length, slice_get, refl, ap, ◌∙◌}
+use Rattle.std.proofs.Common.{arith, subst, Some, None, length-append}
+use Rattle.rv_asm.specs.Assembly.{Assembly, index_of}
 use Rattle.rv_asm.specs.declared.item.Item.{Item}
 use Rattle.rv_asm.specs.declared.item.Item.TheVariants as item
-use Rattle.rv_inst.specs.Table.{row_of}
-use Rattle.rv_inst.specs.declared.instruction.Inst.{Inst}
-use Rattle.block_model.specs.Instruction.{instruction_of}
-use Rattle.alone_laws.specs.Spans.{code_of}
 use Rattle.percpu_lib.specs.BlockLines.{HasNoLabel, block_lines, start_lines}
-use Rattle.percpu_lib.specs.Files.{HoldsCode}
-use Rattle.percpu_lib.specs.Words.{AreHeld}
-use Rattle.percpu_lib.proofs.FileCode.{word_fetched}
-use Rattle.percpu_lib.specs.Lines.{AreEmitted, HasRoom, IsContinued, IsEmitted, instructions, with_item, with_label}
+use Rattle.percpu_lib.specs.Lines.{AreEmitted, HasRoom, IsContinued, IsEmitted, with_item, with_label}
 use Rattle.percpu_lib.specs.declared.lines.Line.{Line}
 use Rattle.percpu_lib.specs.declared.lines.Line.TheVariants as line
 use Rattle.percpu_lib.specs.declared.slots.Slots.{Slots}
-use Rattle.percpu_lib.proofs.HeldWords.{FindsItem, items_held, labelled_items}
+use Rattle.percpu_lib.proofs.HeldWords.{labelled_items}
 use Rattle.percpu_lib.proofs.Labels.{at_leave, first_part, from_start, index_is, inside_part, keeps, label_own, labelled}
 use Rattle.percpu_lib.proofs.Labels.{post_commit_at, start_part}
 
@@ -53,12 +43,6 @@ emitted_length (line.Branch i n ∷ xs) a b is =
 emitted_length (line.Data w ∷ xs) a b is =
     one_more a (item.Word w) (words_of xs) (length b.items)
     (emitted_length xs (with_item a (item.Word w)) b is)
-
--- an item stays where it is when others are appended
-pub still_there : (xs ys : List Item) (n : ℕ) (x : Item) → slice_get xs n ≡ Some x → slice_get (xs ++ ys) n ≡ Some x
-still_there [] ys n x is = absurd cc
-still_there (y ∷ xs) ys zero x is = is
-still_there (y ∷ xs) ys (suc n) x is = still_there xs ys n x is
 
 module _ (p : Slots) (base shift : ℕ) (first inside aborted : List Line) (a b c : Assembly)
     (room : HasRoom a.labels base) (is : AreEmitted (block_lines p base shift first inside aborted) a b)
@@ -102,41 +86,3 @@ module _ (p : Slots) (base shift : ℕ) (first inside aborted : List Line) (a b 
       more.labels (base + 4) (length a.items + words_of lines)
       ((labelled p base shift first inside aborted a b is room none_first none_inside none_aborted).behind
       ∙ ap Some (emitted_length lines a b is.are))
-
-  -- the words of the block
-  module _ (block : List (Option Inst)) (same : instructions c.labels (length a.items) lines ≡ block) where
-    module _ (bytes : List ℕ) (code : AreAssembled c.labels c.items bytes) (k : ℕ) (i : Inst)
-        (at : slice_get block k ≡ Some (Some i)) where
-      found : FindsItem c.labels b.items (length a.items + k) i
-      found = items_held c.labels lines a b k i is.are (ap (λ (xs : List (Option Inst)). slice_get xs k) same ∙ at)
-
-      entry_there : slice_get c.items (length a.items + k) ≡ Some found.entry
-      entry_there =
-          ap (λ (ys : List Item). slice_get ys (length a.items + k)) more.items
-          ∙ still_there b.items more.later (length a.items + k) found.entry found.there
-
-      pub held : (w : ℕ) → slice_get code.words (length a.items + k) ≡ Some w → row_of w ≡ Some i
-      held w word = found.is w (code.each (length a.items + k) found.entry w entry_there word)
-
-      -- a word is there
-      some_word : (w : ℕ) × (slice_get code.words (length a.items + k) ≡ Some w)
-      some_word =
-          let within = slice_get_within c.items (length a.items + k) found.entry entry_there in
-          let many = code.count in (
-            get_or code.words (length a.items + k) 0,
-            slice_get-get_or code.words (length a.items + k) 0 (omega (arith, many)),
-          )
-
-    -- a machine that runs the image of a file in which the code stands fetches the words of the block
-    pub file_holds : (file : List ℕ) (image : Image) (from : ℕ) (bytes : List ℕ) → IsImage file image
-        → AreAssembled c.labels c.items bytes → HoldsCode file from bytes
-        → AreHeld (code_of image.pages.items) (from + 4 * length a.items) block
-    file_holds file image from bytes its code holds = record {
-      holds = λ k i at.
-          let some = some_word bytes code k i at in
-          let place : from + 4 * length a.items + 4 * k ≡ from + 4 * (length a.items + k) = omega arith in
-          ap (code_of image.pages.items) place
-          ∙ ap instruction_of (word_fetched file image its from bytes holds c.labels c.items code
-          (length a.items + k) some.0 some.1)
-          ∙ held bytes code k i at some.0 some.1;
-    }

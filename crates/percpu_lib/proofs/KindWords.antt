@@ -1,30 +1,27 @@
 -- The words of the lines of each kind of block, and where they are held.
-use Rattle.std.proofs.Common.{◌≡◌, ℕ, ◌+◌, ◌*◌, List, [], length, slice_get, refl, ap, ◌∙◌, arith, Option}
+use Rattle.std.proofs.Common.{◌≡◌, ℕ, ◌+◌, ◌*◌, List, [], length, refl, ap, ◌∙◌, arith, Option}
 use Rattle.std.proofs.Common.{Some, pos, negsuc, ℤ, ◌-ℤ◌, ◌∷◌, None}
 use Rattle.std.specs.Option.{option_map}
 use Rattle.std.proofs.lemmas.Int.{ints}
-use Rattle.elf_load.specs.Images.{IsImage}
-use Rattle.elf_load.specs.declared.image.Image.{Image}
-use Rattle.rv_asm.specs.Assembly.{AreAssembled, Assembly, aimed, distance, index_of}
-use Rattle.rv_inst.specs.Table.{row_of}
+use Rattle.rv_asm.specs.Assembly.{Assembly, aimed, distance, index_of}
 use Rattle.rv_inst.specs.declared.instruction.Inst.{Inst}
 use Rattle.rv_inst.specs.declared.instruction.Inst.TheVariants as inst
-use Rattle.alone_laws.specs.Spans.{code_of}
 use Rattle.percpu_lib.specs.Adds.{add_block, add_steps}
 use Rattle.percpu_lib.specs.Allocs.{alloc_block, alloc_steps}
 use Rattle.percpu_lib.specs.BlockLines.{HasNoLabel, block_lines}
-use Rattle.percpu_lib.specs.Files.{HoldsCode}
 use Rattle.percpu_lib.specs.Forms.{committed}
 use Rattle.percpu_lib.specs.Frees.{free_aborted, free_block, free_first, free_steps}
 use Rattle.percpu_lib.specs.Kinds.{Kind, adds, allocs, form_of, frees, lines_of, pops, pushes}
 use Rattle.percpu_lib.specs.Lines.{AreEmitted, HasRoom, IsContinued, instructions}
 use Rattle.percpu_lib.specs.Pops.{pop_block, pop_steps}
 use Rattle.percpu_lib.specs.Pushes.{push_block, push_steps}
-use Rattle.percpu_lib.specs.Words.{AreHeld, asking_words}
+use Rattle.percpu_lib.specs.Words.{asking_words}
 use Rattle.percpu_lib.specs.declared.lines.Line.{Line}
 use Rattle.percpu_lib.specs.declared.lines.Line.TheVariants as line
 use Rattle.percpu_lib.specs.declared.slots.Slots.{Slots}
-use Rattle.percpu_lib.proofs.HeldBlocks.{end_at, file_holds, held, leave_at, retry_at, words_of}
+use Rattle.percpu_lib.proofs.HeldBlocks.{end_at, leave_at, retry_at, words_of}
+pub use Rattle.percpu_lib.proofs.KnownWords.{IsHeld}
+use Rattle.percpu_lib.proofs.KnownWords.{are_held}
 
 -- BRANCHES
 
@@ -145,15 +142,6 @@ free_words p base n labels retry leave end =
 
 -- WHERE THEY ARE HELD
 
--- finished code has them, and so does the program of a file in which it stands
-pub record IsHeld (block : List (Option Inst)) (a c : Assembly) : Type 0 where
-  pub words : (bytes : List ℕ) (k : ℕ) (i : Inst) (w : ℕ) → (code : AreAssembled c.labels c.items bytes)
-      → slice_get block k ≡ Some (Some i) → slice_get code.words (length a.items + k) ≡ Some w → row_of w
-      ≡ Some i
-  pub file : (bytes file : List ℕ) (image : Image) (at : ℕ) → AreAssembled c.labels c.items bytes
-      → IsImage file image
-      → HoldsCode file at bytes → AreHeld (code_of image.pages.items) (at + 4 * length a.items) block
-
 -- so they are held where lines with these parts were appended, if with the labels bound they have these words
 pub lines_held : (p : Slots) (base shift : ℕ) (first inside aborted : List Line) (block : List (Option Inst))
     (a b c : Assembly) → HasRoom a.labels base
@@ -166,19 +154,10 @@ pub lines_held : (p : Slots) (base shift : ℕ) (first inside aborted : List Lin
     → instructions c.labels (length a.items) (block_lines p base shift first inside aborted) ≡ block)
     → IsHeld block a c
 lines_held p base shift first inside aborted block a b c room is one two three more words =
-    let same = words
-    (retry_at p base shift first inside aborted a b c room is one two three more)
+    are_held (block_lines p base shift first inside aborted) block a b c is more
+    (words (retry_at p base shift first inside aborted a b c room is one two three more)
     (leave_at p base shift first inside aborted a b c room is one two three more)
-    (end_at p base shift first inside aborted a b c room is one two three more) in
-    record {
-      words = λ bytes k i w code at word.
-          held p base shift first inside aborted a b c room is one two three more block same bytes code k i at
-          w word;
-      file = λ bytes file image at code its holds.
-          file_holds p base shift first inside aborted a b c room is one two three more block same file image
-          at bytes
-          its code holds;
-    }
+    (end_at p base shift first inside aborted a b c room is one two three more))
 
 pub kind_held : (k : Kind) (p : Slots) (base : ℕ) (a b c : Assembly) → HasRoom a.labels base
     → AreEmitted (lines_of k p base) a b → IsContinued b c → IsHeld (form_of k p).words a c

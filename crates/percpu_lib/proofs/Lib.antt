@@ -29,6 +29,7 @@ pub mod HeldWords
 pub mod KindLaws
 pub mod KindLines
 pub mod KindWords
+pub mod KnownWords
 pub mod Labels
 pub mod ListExample
 pub mod OfLibrary

@@ -14,7 +14,7 @@ use Rattle.percpu_lib.specs.Lines.{instructions}
 use Rattle.percpu_lib.specs.Pops.{pop_steps}
 use Rattle.percpu_lib.specs.Pushes.{push_steps}
 use Rattle.percpu_lib.specs.RingForms.{ring_get_form, ring_put_form}
-use Rattle.percpu_lib.specs.RingKinds.{RingKind, gets, puts, ring_form_of}
+use Rattle.percpu_lib.specs.RingKinds.{RingKind, gets, puts, ring_form_of, ring_steps_of}
 use Rattle.percpu_lib.specs.Rings.{get_steps, put_steps}
 use Rattle.percpu_lib.specs.Words.{AreHeld}
 use Rattle.percpu_lib.specs.declared.lines.Line.{Line}
@@ -44,12 +44,18 @@ abbrev sequence_words : Form → Slots → ℕ → List Line → List (Option In
 sequence_words form p shift inside = instructions (labels_of form) form.first (sequence_lines p 0 shift inside)
 
 -- the words of a form are its first ones, those of its sequence, and the rest
+abbrev IsParted : Form → Slots → ℕ → List Line → Type 0
+IsParted form p shift inside =
+    (form.words ≡ take form.first form.words
+    ++ (sequence_words form p shift inside ++ drop (committed form) form.words))
+    × (length (take form.first form.words) ≡ form.first)
+    × (form.inside ≡ length (sequence_words form p shift inside))
+
 holds_sequence : (form : Form) (p : Slots) (shift : ℕ) (inside : List Line) (code : ℕ → Option Inst) (at : ℕ) (area : Area)
-    → form.words ≡ take form.first form.words ++ (sequence_words form p shift inside ++ drop (committed form) form.words)
-    → length (take form.first form.words) ≡ form.first → form.inside ≡ length (sequence_words form p shift inside)
+    → IsParted form p shift inside
     → AreHeld code at form.words → (range_of form at).start < 2 ^ 37 → form.slots.table < 0x7FFFF800
     → HoldsSequence code (placed_of form at area) p 0 shift inside
-holds_sequence form p shift inside code at area parted first long held low low_table = record {
+holds_sequence form p shift inside code at area parts held low low_table = record {
   labels = labels_of form;
   first = form.first;
   retry = 0;
@@ -61,13 +67,13 @@ holds_sequence form p shift inside code at area parted first long held low low_t
         let place : at + 4 * form.first + 4 * k ≡ at + 4 * (form.first + k) = omega arith in
         ap code place
         ∙ held.holds (form.first + k) i
-        (ap (λ (ws : List (Option Inst)). slice_get ws (form.first + k)) parted
+        (ap (λ (ws : List (Option Inst)). slice_get ws (form.first + k)) parts.0
         ∙ ap (λ n. slice_get (take form.first form.words ++ (sequence_words form p shift inside
-        ++ drop (committed form) form.words)) (n + k)) (sym first)
+        ++ drop (committed form) form.words)) (n + k)) (sym parts.1)
         ∙ between (take form.first form.words) (sequence_words form p shift inside) (drop (committed form) form.words) k
         (Some i) is);
   };
-  long = ap (λ n. 4 * n) long;
+  long = ap (λ n. 4 * n) parts.2;
   low = low;
   low_table = low_table;
 }
@@ -76,46 +82,44 @@ pub of_library : (k : Kind) (code : ℕ → Option Inst) (p : Slots) (at : ℕ) 
     → AreHeld code at (form_of k p).words → (range_of (form_of k p) at).start < 2 ^ 37 → p.table < 0x7FFFF800
     → IsOfLibrary code (placed_of (form_of k p) at area)
 of_library adds code p at area held low low_table =
-    is_add p 0 (holds_sequence (form_of adds p) p 6 (add_steps p) code at area refl refl refl held low low_table)
+    is_add p 0 (holds_sequence (form_of adds p) p 6 (add_steps p) code at area (refl, refl, refl) held low low_table)
 of_library pushes code p at area held low low_table =
-    is_push p 0 (holds_sequence (form_of pushes p) p 6 (push_steps p) code at area refl refl refl held low low_table)
+    is_push p 0 (holds_sequence (form_of pushes p) p 6 (push_steps p) code at area (refl, refl, refl) held low low_table)
 of_library pops code p at area held low low_table =
-    is_pop p 0 (holds_sequence (form_of pops p) p 6 (pop_steps p 0) code at area refl refl refl held low low_table)
+    is_pop p 0 (holds_sequence (form_of pops p) p 6 (pop_steps p 0) code at area (refl, refl, refl) held low low_table)
 of_library allocs code p at area held low low_table =
-    is_alloc p 0 (holds_sequence (form_of allocs p) p 13 (alloc_steps p 0) code at area refl refl refl held low low_table)
+    is_alloc p 0 (holds_sequence (form_of allocs p) p 13 (alloc_steps p 0) code at area (refl, refl, refl) held low low_table)
 of_library frees code p at area held low low_table =
-    is_free p 0 (holds_sequence (form_of frees p) p 13 (free_steps p 0) code at area refl refl refl held low low_table)
+    is_free p 0 (holds_sequence (form_of frees p) p 13 (free_steps p 0) code at area (refl, refl, refl) held low low_table)
+
+-- what holds of 1, 2, 3 and 4
+one_to_four : (P : ℕ → Type 0) → P 1 → P 2 → P 3 → P 4 → (n : ℕ) → 1 ≤ n → n ≤ 4 → P n
+one_to_four P one two three four zero some few = absurd (omega arith)
+one_to_four P one two three four (suc zero) some few = one
+one_to_four P one two three four (suc (suc zero)) some few = two
+one_to_four P one two three four (suc (suc (suc zero))) some few = three
+one_to_four P one two three four (suc (suc (suc (suc zero)))) some few = four
+one_to_four P one two three four (suc (suc (suc (suc (suc n))))) some few = absurd (omega arith)
 
 -- the same of ring blocks
+ring_parted : (k : RingKind) (p : Slots) (count : ℕ) → 1 ≤ count → count ≤ 4
+    → IsParted (ring_form_of k count p) p 13 (ring_steps_of k p 0 count)
+ring_parted puts p =
+    one_to_four (λ n. IsParted (ring_put_form n p) p 13 (put_steps p 0 n)) (refl, refl, refl) (refl, refl, refl)
+    (refl, refl, refl) (refl, refl, refl)
+ring_parted gets p =
+    one_to_four (λ n. IsParted (ring_get_form n p) p 13 (get_steps p 0 n)) (refl, refl, refl) (refl, refl, refl)
+    (refl, refl, refl) (refl, refl, refl)
+
 pub ring_of_library : (k : RingKind) (count : ℕ) (code : ℕ → Option Inst) (p : Slots) (at : ℕ) (area : Area)
     → 1 ≤ count → count ≤ 4 → AreHeld code at (ring_form_of k count p).words
     → (range_of (ring_form_of k count p) at).start < 2 ^ 37 → p.table < 0x7FFFF800
     → IsOfLibrary code (placed_of (ring_form_of k count p) at area)
-ring_of_library puts zero code p at area some few held low low_table = absurd (omega arith)
-ring_of_library puts (suc zero) code p at area some few held low low_table =
-    is_ring_put p 0 1 some few
-    (holds_sequence (ring_put_form 1 p) p 13 (put_steps p 0 1) code at area refl refl refl held low low_table)
-ring_of_library puts (suc (suc zero)) code p at area some few held low low_table =
-    is_ring_put p 0 2 some few
-    (holds_sequence (ring_put_form 2 p) p 13 (put_steps p 0 2) code at area refl refl refl held low low_table)
-ring_of_library puts (suc (suc (suc zero))) code p at area some few held low low_table =
-    is_ring_put p 0 3 some few
-    (holds_sequence (ring_put_form 3 p) p 13 (put_steps p 0 3) code at area refl refl refl held low low_table)
-ring_of_library puts (suc (suc (suc (suc zero)))) code p at area some few held low low_table =
-    is_ring_put p 0 4 some few
-    (holds_sequence (ring_put_form 4 p) p 13 (put_steps p 0 4) code at area refl refl refl held low low_table)
-ring_of_library puts (suc (suc (suc (suc (suc n))))) code p at area some few held low low_table = absurd (omega arith)
-ring_of_library gets zero code p at area some few held low low_table = absurd (omega arith)
-ring_of_library gets (suc zero) code p at area some few held low low_table =
-    is_ring_get p 0 1 some few
-    (holds_sequence (ring_get_form 1 p) p 13 (get_steps p 0 1) code at area refl refl refl held low low_table)
-ring_of_library gets (suc (suc zero)) code p at area some few held low low_table =
-    is_ring_get p 0 2 some few
-    (holds_sequence (ring_get_form 2 p) p 13 (get_steps p 0 2) code at area refl refl refl held low low_table)
-ring_of_library gets (suc (suc (suc zero))) code p at area some few held low low_table =
-    is_ring_get p 0 3 some few
-    (holds_sequence (ring_get_form 3 p) p 13 (get_steps p 0 3) code at area refl refl refl held low low_table)
-ring_of_library gets (suc (suc (suc (suc zero)))) code p at area some few held low low_table =
-    is_ring_get p 0 4 some few
-    (holds_sequence (ring_get_form 4 p) p 13 (get_steps p 0 4) code at area refl refl refl held low low_table)
-ring_of_library gets (suc (suc (suc (suc (suc n))))) code p at area some few held low low_table = absurd (omega arith)
+ring_of_library puts count code p at area some few held low low_table =
+    is_ring_put p 0 count some few
+    (holds_sequence (ring_put_form count p) p 13 (put_steps p 0 count) code at area
+    (ring_parted puts p count some few) held low low_table)
+ring_of_library gets count code p at area some few held low low_table =
+    is_ring_get p 0 count some few
+    (holds_sequence (ring_get_form count p) p 13 (get_steps p 0 count) code at area
+    (ring_parted gets p count some few) held low low_table)

@@ -2,9 +2,9 @@
 -- free block. It is preempted inside, once its value is 0, begins anew at the abort handler, which brings the
 -- value back, and puts it in once. Then it takes it out by an alloc block, and finds the pool empty by
 -- another sequence of that. And a log of a pool that is full.
-use Rattle.std.proofs.Common.{◌≡◌, ℕ, ◌<◌, ◌^◌, List, [], ◌∷◌, ◌++◌, replicate, take, drop, refl, ltb}
+use Rattle.std.proofs.Common.{◌≡◌, ℕ, ◌<◌, ◌^◌, List, [], ◌∷◌, ◌++◌, replicate, take, drop, refl, Bool, ltb}
 use Rattle.std.proofs.lemmas.Bool.{ltb-true}
-use Rattle.std.proofs.Common.{Bool, true, ◌&&◌, eqb, Ok}
+use Rattle.std.proofs.Common.{true, ◌&&◌, eqb}
 use Rattle.mach_types.specs.Registers.{register}
 use Rattle.mach_types.specs.declared.events.Choice.TheVariants as asked
 use Rattle.mach_types.specs.declared.events.Entry.{Entry}
@@ -15,21 +15,18 @@ use Rattle.block_model.specs.History.{file}
 use Rattle.block_model.specs.Replay.{Ask, played}
 use Rattle.block_model.specs.Run.{IsBlockRun}
 use Rattle.block_model.specs.Setting.{Setting}
-use Rattle.block_model.proofs.Laws.{played_is_run, run_before}
+use Rattle.block_model.proofs.Laws.{played_is_run}
 use Rattle.alone_laws.specs.Retries.{Retries}
 use Rattle.alone_laws.specs.Spans.{code_of}
-use Rattle.alone_laws.specs.Uses.{Placed}
-use Rattle.percpu_lib.specs.Forms.{placed_of}
-use Rattle.percpu_lib.specs.Allocs.{alloc_block, alloc_form}
-use Rattle.percpu_lib.specs.Frees.{free_block, free_form}
+use Rattle.percpu_lib.specs.Allocs.{alloc_form}
+use Rattle.percpu_lib.specs.Frees.{free_form}
 use Rattle.percpu_lib.specs.Pools.{count_seen, pool_at, slot_at}
 use Rattle.percpu_lib.specs.Pushes.{word_seen}
 use Rattle.percpu_lib.specs.Uses.{cells_of}
-use Rattle.percpu_lib.specs.declared.slots.Slots.{Slots}
 use Rattle.percpu_lib.proofs.Computing.{by_rules, by_table}
-use Rattle.percpu_lib.proofs.ExampleParts.{AreThere, IsGood, IsUsedSo, entry, found_good, is_good, line}
-use Rattle.percpu_lib.proofs.ExampleParts.{used_so, data_at, setting_of, walk}
-use Rattle.percpu_lib.proofs.ExampleParts.{execs, slots_with}
+use Rattle.percpu_lib.proofs.ExampleParts.{AreThere, IsGood, IsUsedSo, Use, entry, found_good, is_good, line}
+use Rattle.percpu_lib.proofs.ExampleParts.{data_at, setting_of, use_of, used_so, walk}
+use Rattle.percpu_lib.proofs.ExampleParts.{cut_after, execs, place_of, slots_with}
 pub use Rattle.percpu_lib.proofs.ExampleParts.{own_area as area}
 use Rattle.percpu_lib.proofs.ExamplePrograms.{pool_code}
 use Rattle.percpu_lib.proofs.FormTests.{alloc_tested, free_tested}
@@ -43,36 +40,18 @@ setting_with bytes = setting_of 0xB0 pool_code (data_at 0x20 bytes ∷ []) 0x210
 abbrev pub setting : Setting
 setting = setting_with []
 
-abbrev pub free_slots : Slots
-free_slots = slots_with 18 0x10180
+abbrev pub free : Use
+free = use_of free_form free_tested (slots_with 18 0x10180) 0x100D4
 
-abbrev pub alloc_slots : Slots
-alloc_slots = slots_with 19 0x101A0
-
-abbrev pub free_at : ℕ
-free_at = 0x100D4
-
-abbrev pub alloc_at : ℕ
-alloc_at = 0x1012C
-
-abbrev pub the_free : Placed
-the_free = placed_of (free_form free_slots) free_at area
-
-abbrev pub the_alloc : Placed
-the_alloc = placed_of (alloc_form alloc_slots) alloc_at area
+abbrev pub alloc : Use
+alloc = use_of alloc_form alloc_tested (slots_with 19 0x101A0) 0x1012C
 
 -- the thread runs, and executes the first nine instructions and 17 words of the free block, whose two stores
 -- then enter memory. It is preempted and runs again; it executes the two words of the abort handler, 18 words
 -- of the block, and the jump behind it; 16 words of the alloc block and the jump behind it; and the jump
 -- back, and eleven of its words
 abbrev lines : List Ask
-lines =
-    line (asked.Run (record { 0 = 1 }))
-    ∷ (execs 26
-    ++ (replicate 2 (line asked.Drain)
-    ++ line asked.Preempt
-    ∷ line (asked.Run (record { 0 = 1 }))
-    ∷ execs 50))
+lines = cut_after 26 2 50
 
 abbrev pub log : List Entry
 log =
@@ -80,78 +59,42 @@ log =
     ∷ entry kind.Preempt 1 0x10118 ∷ entry kind.Run 1 0x10118 ∷ walk 0x10124 2 ++ walk 0x100D4 19
     ++ walk 0x1012C 17 ++ entry kind.Exec 1 0x10178 ∷ walk 0x1012C 11
 
-is_played : played setting lines ≡ Ok log
-unfolding played by_rules
-is_played = refl
-
 is_run : IsBlockRun setting log
-is_run = (played_is_run setting lines log is_played).0
+unfolding played by_rules
+is_run = (played_is_run setting lines log refl).0
 
-free_there : AreThere (code_of setting.program.pages) free_at (free_block free_slots)
+free_there : AreThere (code_of setting.program.pages) free.at free.form.words
 unfolding by_table
 free_there = (refl, (refl, (refl, (refl, (refl, (refl, (refl, (refl, (refl, (refl, (refl, (refl, (refl, (refl, (refl, (refl, (refl, (refl, (refl, (refl, (refl, (refl, tt))))))))))))))))))))))
 
-alloc_there : AreThere (code_of setting.program.pages) alloc_at (alloc_block alloc_slots)
+alloc_there : AreThere (code_of setting.program.pages) alloc.at alloc.form.words
 unfolding by_table
 alloc_there = (refl, (refl, (refl, (refl, (refl, (refl, (refl, (refl, (refl, (refl, (refl, (refl, (refl, (refl, (refl, (refl, (refl, (refl, (refl, tt)))))))))))))))))))
 
 -- the free: the first slot is 42
-abbrev pub free_log : List Entry
-free_log = take 51 log
+abbrev pub is_freed : Sequence → Bool
+is_freed q =
+    is_just (word_seen setting 0 (slot_at (pool_at (cells_of setting free.form.slots q.thread q.begun) 0) 0)
+    q.reached) 42
 
-abbrev pub free_fits : Sequence → Bool
-free_fits q = is_just (word_seen setting 0 (slot_at (pool_at (cells_of setting free_slots q.thread q.begun) 0)
-    0) q.reached) 42
-
-free_good : is_good setting (free_form free_slots) (free_tested free_slots) free_at area 1 (the_alloc ∷ [])
-    free_fits
-    (history setting free_log) ≡ true
+free_good : is_good setting free (place_of alloc ∷ []) is_freed (history setting (take 51 log)) ≡ true
 unfolding by_rules
 free_good = refl
 
-pub free_used : IsGood setting free_log (free_form free_slots) free_at area (the_alloc ∷ []) free_fits
-free_used =
-    found_good setting free_log (free_form free_slots) (free_tested free_slots) free_at area 1
-    (the_alloc ∷ [])
-    free_fits (run_before setting (take 51 log) (drop 51 log) is_run) free_good refl free_there refl
+pub free_used : IsGood setting log 51 free (place_of alloc ∷ []) is_freed
+free_used = found_good setting log is_run 51 free (place_of alloc ∷ []) is_freed free_good refl free_there refl
 
--- the alloc: the value is 42
-abbrev pub alloc_log : List Entry
-alloc_log = take 68 log
+-- the alloc: the value is 42; and the alloc of an empty pool: it is 0
+abbrev pub has_taken : ℕ → Sequence → Bool
+has_taken value q = eqb (register (file setting q.thread q.reached).file 19) value
 
-abbrev pub alloc_fits : Sequence → Bool
-alloc_fits q = eqb (register (file setting q.thread q.reached).file 19) 42
-
-alloc_good : is_good setting (alloc_form alloc_slots) (alloc_tested alloc_slots) alloc_at area 1
-    (the_free ∷ []) alloc_fits
-    (history setting alloc_log) ≡ true
+pub alloc_used : IsGood setting log 68 alloc (place_of free ∷ []) (has_taken 42)
 unfolding by_rules
-alloc_good = refl
+alloc_used = found_good setting log is_run 68 alloc (place_of free ∷ []) (has_taken 42) refl refl alloc_there refl
 
-pub alloc_used : IsGood setting alloc_log (alloc_form alloc_slots) alloc_at area (the_free ∷ []) alloc_fits
-alloc_used =
-    found_good setting alloc_log (alloc_form alloc_slots) (alloc_tested alloc_slots) alloc_at area 1
-    (the_free ∷ [])
-    alloc_fits (run_before setting (take 68 log) (drop 68 log) is_run) alloc_good refl alloc_there refl
-
--- the alloc of an empty pool: the value is 0
-abbrev pub none_log : List Entry
-none_log = log
-
-abbrev pub none_fits : Sequence → Bool
-none_fits q = eqb (register (file setting q.thread q.reached).file 19) 0
-
-none_good : is_good setting (alloc_form alloc_slots) (alloc_tested alloc_slots) alloc_at area 1
-    (the_free ∷ []) none_fits
-    (history setting none_log) ≡ true
+pub none_used : IsGood setting log 81 alloc (place_of free ∷ []) (has_taken 0)
 unfolding by_rules
-none_good = refl
-
-pub none_used : IsGood setting none_log (alloc_form alloc_slots) alloc_at area (the_free ∷ []) none_fits
-none_used =
-    found_good setting none_log (alloc_form alloc_slots) (alloc_tested alloc_slots) alloc_at area 1
-    (the_free ∷ [])
-    none_fits is_run none_good refl alloc_there refl
+none_used = found_good setting log is_run 81 alloc (place_of free ∷ []) (has_taken 0) refl refl alloc_there refl
 
 -- A RETRY
 
@@ -167,22 +110,19 @@ anew = take 33 log
 abbrev pub rest : List Entry
 rest = take 18 (drop 33 log)
 
-comes_back : is_retried setting the_free 1 first_time (take 19 (drop 10 log)) (take 2 (drop 29 log))
+comes_back : is_retried setting (place_of free) 1 first_time (take 19 (drop 10 log)) (take 2 (drop 29 log))
     (take 2 (drop 31 log)) ≡ true
 unfolding by_rules
 comes_back = refl
 
-pub retried : Retries setting the_free 1 first_time anew
+pub retried : Retries setting (place_of free) 1 first_time anew
 retried =
-    retried_so setting the_free 1 first_time (take 19 (drop 10 log)) (take 2 (drop 29 log))
+    retried_so setting (place_of free) 1 first_time (take 19 (drop 10 log)) (take 2 (drop 29 log))
     (take 2 (drop 31 log))
     comes_back
 
-pub used_again : IsUsedSo setting free_log (free_form free_slots) free_at area 1 (the_alloc ∷ [])
-used_again =
-    used_so setting free_log (free_form free_slots) (free_tested free_slots) free_at area 1 (the_alloc ∷ [])
-    free_fits
-    (run_before setting (take 51 log) (drop 51 log) is_run) free_good refl free_there refl
+pub used_again : IsUsedSo setting (take 51 log) free (place_of alloc ∷ [])
+used_again = used_so setting log is_run 51 free (place_of alloc ∷ []) is_freed free_good refl free_there refl
 
 small_there : ltb (register (file setting 1 (history setting first_time)).file 18) (2 ^ 64) ≡ true
 unfolding by_rules
@@ -191,7 +131,7 @@ small_there = refl
 pub small_value : register (file setting 1 (history setting first_time)).file 18 < 2 ^ 64
 small_value = ltb-true (register (file setting 1 (history setting first_time)).file 18) (2 ^ 64) small_there
 
-pub at_label : (file setting 1 (history setting anew)).pc ≡ free_at
+pub at_label : (file setting 1 (history setting anew)).pc ≡ free.at
 unfolding by_rules
 at_label = refl
 
@@ -208,27 +148,20 @@ abbrev pub full_log : List Entry
 full_log =
     entry kind.Run 1 0x100B0 ∷ walk 0x100B0 21
 
-full_played : played full_setting full_lines ≡ Ok full_log
+full_run : IsBlockRun full_setting full_log
 unfolding played by_rules
-full_played = refl
+full_run = (played_is_run full_setting full_lines full_log refl).0
 
-full_there : AreThere (code_of full_setting.program.pages) free_at (free_block free_slots)
+full_there : AreThere (code_of full_setting.program.pages) free.at free.form.words
 unfolding by_table
 full_there = (refl, (refl, (refl, (refl, (refl, (refl, (refl, (refl, (refl, (refl, (refl, (refl, (refl, (refl, (refl, (refl, (refl, (refl, (refl, (refl, (refl, (refl, tt))))))))))))))))))))))
 
-abbrev pub full_fits : Sequence → Bool
-full_fits q =
+abbrev pub stays_full : Sequence → Bool
+stays_full q =
     eqb (register (file full_setting q.thread q.reached).file 18) 42
-    && is_just (count_seen full_setting 0 (cells_of full_setting free_slots q.thread q.begun) q.reached) 512
+    && is_just (count_seen full_setting 0 (cells_of full_setting free.form.slots q.thread q.begun) q.reached) 512
 
-full_good : is_good full_setting (free_form free_slots) (free_tested free_slots) free_at area 1
-    (the_alloc ∷ []) full_fits
-    (history full_setting full_log) ≡ true
+pub full_used : IsGood full_setting full_log 22 free (place_of alloc ∷ []) stays_full
 unfolding by_rules
-full_good = refl
-
-pub full_used : IsGood full_setting full_log (free_form free_slots) free_at area (the_alloc ∷ []) full_fits
 full_used =
-    found_good full_setting full_log (free_form free_slots) (free_tested free_slots) free_at area 1
-    (the_alloc ∷ [])
-    full_fits (played_is_run full_setting full_lines full_log full_played).0 full_good refl full_there refl
+    found_good full_setting full_log full_run 22 free (place_of alloc ∷ []) stays_full refl refl full_there refl

@@ -1,11 +1,9 @@
 -- A sequence of a pop block is one run of its thread alone, and so pops once or not at all.
-use Rattle.std.proofs.Common.{◌≡◌, ◌≢◌, ℕ, ◌+◌, ◌*◌, ◌<◌, ◌≤◌, ◌%◌, ◌^◌, List, [], ◌∷◌, ◌++◌, refl, sym, ap}
-use Rattle.std.proofs.Common.{◌∙◌, subst, arith, Bool, true, false, not, ◌&&◌, ◌||◌, eqb, Option, Some, inl}
+use Rattle.std.proofs.Common.{◌≡◌, ◌≢◌, ℕ, ◌+◌, ◌%◌, ◌^◌, List, [], ◌∷◌, ◌++◌, refl, sym, ap}
+use Rattle.std.proofs.Common.{◌∙◌, subst, arith, Bool, true, false, eqb, Option, Some, inl}
 use Rattle.std.proofs.Common.{inr, ◌⊎◌, pos, unwrap_or}
 use Rattle.std.proofs.lemmas.Bool.{eqb-false, eqb-true}
-use Rattle.mach_types.specs.Bytes.{each_byte, word_at}
-use Rattle.mach_types.specs.Kernel.Areas.{is_inside}
-use Rattle.mach_types.specs.Registers.{register}
+use Rattle.mach_types.specs.Bytes.{word_at}
 use Rattle.mach_types.specs.declared.sequences.Area.{Area}
 use Rattle.mach_types.specs.declared.user_memory.Store.{Store}
 use Rattle.rv_inst.specs.Execution.{seen_byte}
@@ -17,7 +15,6 @@ use Rattle.alone.specs.Temps.{IsAt, put}
 use Rattle.alone.proofs.Laws.{loaded_word, word_unchanged}
 use Rattle.alone.proofs.Means.{means_ld, means_sd}
 use Rattle.alone.proofs.Paths.{leaves, then_branch, then_load, then_store}
-use Rattle.alone_laws.specs.Blocks.{among}
 use Rattle.alone_laws.specs.Spans.{alone_from, code_of, sees}
 use Rattle.alone_laws.proofs.StoredWords.{beside_word, some_word, stored_word}
 use Rattle.block_model.specs.History.{History, stores}
@@ -25,27 +22,26 @@ use Rattle.block_model.specs.Setting.{Setting}
 use Rattle.percpu_lib.specs.Adds.{cell_seen, cell_store}
 use Rattle.percpu_lib.specs.Forms.{IsBlockPlace}
 use Rattle.percpu_lib.specs.Kinds as kind
-use Rattle.percpu_lib.specs.Pops.{Pops, head_of, pop_block, pop_bytes, pop_form, pop_range}
+use Rattle.percpu_lib.specs.Pops.{Pops, head_of, pop_block, pop_form}
 use Rattle.percpu_lib.specs.Pops.{pops_first, pops_none}
 use Rattle.percpu_lib.specs.Pushes.{word_seen}
 use Rattle.percpu_lib.specs.Words.{AreHeld, AreSlots, is_changed}
 use Rattle.percpu_lib.specs.declared.slots.Slots.{Slots}
-use Rattle.percpu_lib.proofs.BlockCode.{behind_range}
+use Rattle.percpu_lib.proofs.CellPath.{sequence_at, to_word}
 use Rattle.percpu_lib.proofs.Beginnings.{beginning}
 use Rattle.percpu_lib.proofs.BlockWords.{beside_pointer}
-use Rattle.percpu_lib.proofs.CellPath.{inside_at, to_cell}
 use Rattle.percpu_lib.proofs.Changes.{means_beq_not, means_beq_taken}
 use Rattle.percpu_lib.proofs.Changes.{put_other, put_same, scratch_not, some_value, value_changed}
 use Rattle.percpu_lib.proofs.CourseLaw.{HasPath, IsAfter, SomePath, has_course, same_stores, same_word}
 use Rattle.percpu_lib.proofs.CourseLaw.{unstored, way}
 use Rattle.percpu_lib.proofs.Courses.{HasCourse}
 use Rattle.percpu_lib.proofs.FormedBlocks.{block_begins, block_formed}
-use Rattle.percpu_lib.proofs.UsedWords.{area_used, first_used, second_used_where}
+use Rattle.percpu_lib.proofs.UsedWords.{words_used}
 
 module _ (s : Setting) (p : Slots) (at : ℕ) (area : Area) (h t : ℕ) (begun : History)
     (held : AreHeld (code_of s.program.pages) at (pop_block p)) (slots : AreSlots p)
     (place : IsBlockPlace s (pop_form p) at area h t begun) where
-  open (beginning s p h t begun) use {old, seen, cells, cell}
+  open (beginning s p h t begun) use {old, seen, cells, cell, cell_temps as temps_0}
 
   abbrev head : ℕ
   head = head_of s h cells begun
@@ -76,32 +72,10 @@ module _ (s : Setting) (p : Slots) (at : ℕ) (area : Area) (h t : ℕ) (begun :
   abbrev w : Path
   w = way s (pop_form p) at area h t begun Inside Done
 
-  abbrev bytes : ℕ → Bool
-  bytes = pop_bytes area.at cells h head
-
-  abbrev of_node : ℕ → Bool
-  of_node a = not (eqb head 0) && among head 8 a
-
-  area_bytes : (a : ℕ) → among area.at 32 a ≡ true → bytes a ≡ true
-  area_bytes = area_used area.at (λ a. among cell 8 a || of_node a)
-
-  in_cell : each_byte bytes cell 8 ≡ true
-  in_cell = first_used area.at cell of_node
-
-  in_node : eqb head 0 ≡ false → each_byte bytes head 8 ≡ true
-  in_node = second_used_where area.at cell head (eqb head 0)
-
-  here : (k : ℕ) → 4 ≤ k → k < 12 → is_inside (pop_range at) (at + 4 * k) ≡ true
-  here k from lt = inside_at s (pop_form p) at area h t begun Inside Done
-      (block_formed kind.pops p) held place k from lt
-
-  out : is_inside (pop_range at) (at + 48) ≡ false
-  out = let low = place.low in behind_range (pop_form p) at 12 low (omega arith) (omega arith)
+  open (words_used area.at cell head (eqb head 0)) use {area_bytes, in_first as in_cell, in_second as in_node}
+  open (sequence_at (pop_form p) at (block_formed kind.pops p) place.low) use {here, out}
 
   -- THE PATH
-
-  abbrev temps_0 : ℕ → ℕ
-  temps_0 = put 5 (cells + 64 * h) (put 5 (64 * h) (put 6 h (register old)))
 
   abbrev temps_1 : ℕ → ℕ
   temps_1 = put p.value head temps_0
@@ -164,20 +138,12 @@ module _ (s : Setting) (p : Slots) (at : ℕ) (area : Area) (h t : ℕ) (begun :
   keeps =
       let low = place.low in
       let low_cells = place.apart.low_cells in
-      to_cell s (pop_form p) at area h t begun Inside Done (block_formed kind.pops p) held place 6 64
-      (block_begins kind.pops p slots)
-      refl
-      area_bytes cells refl (omega arith)
-      (λ y now.
-      then_load w (at + 32) _ [] y now (here 8 (omega arith) (omega arith)) refl
-      (inst.Ld p.value 5 (pos 0)) (held.holds 8 (inst.Ld p.value 5 (pos 0)) refl)
-      cell 8 p.value old_word.0 (at + 36) true (λ f like. means_ld f (at + 32) p.value 5 (pos 0) cell cell
-      (like.temp 5 refl) (omega arith))
-      in_cell (word_unchanged seen cell 8 ∙ old_word.1) (value_changed p) (some_value p slots) slots.low_value
-      (omega arith) (omega arith) (omega arith)
+      to_word s (pop_form p) at area h t begun Inside Done (block_formed kind.pops p) held place 6 64
+      (block_begins kind.pops p slots) refl area_bytes cells refl (omega arith)
+      p.value old_word.0 (value_changed p) (some_value p slots) slots.low_value refl low_cells in_cell old_word.1
       (λ z next. by_head z
       (subst (λ n. IsAt (is_changed p) old (at + 36) (put p.value n temps_0) [] z) head_is next) (eqb head 0)
-      refl))
+      refl)
 
   -- WHAT WAS DONE
 

@@ -1,32 +1,30 @@
 -- A sequence of a push block is one run of its thread alone, and so pushes once or not at all.
-use Rattle.std.proofs.Common.{◌≡◌, ℕ, ◌+◌, ◌*◌, ◌<◌, ◌≤◌, ◌%◌, ◌^◌, List, [], ◌∷◌, ◌++◌, refl, ap, ◌∙◌}
+use Rattle.std.proofs.Common.{◌≡◌, ℕ, ◌+◌, ◌≤◌, ◌%◌, ◌^◌, List, [], ◌∷◌, ◌++◌, refl, ap, ◌∙◌}
 use Rattle.std.proofs.Common.{arith, Bool, true, ◌||◌, Some, inl, inr, ◌⊎◌, pos}
 use Rattle.mach_types.specs.Bytes.{byte_over, each_byte, word_at}
-use Rattle.mach_types.specs.Kernel.Areas.{is_inside}
 use Rattle.mach_types.specs.declared.sequences.Area.{Area}
 use Rattle.mach_types.specs.declared.user_memory.Store.{Store}
 use Rattle.rv_inst.specs.Execution.{seen_byte}
 use Rattle.rv_inst.specs.declared.instruction.Inst.TheVariants as inst
 use Rattle.alone.specs.Paths.{KeepsOn, Path}
-use Rattle.alone.proofs.Laws.{loaded_word, word_unchanged}
-use Rattle.alone.proofs.Means.{means_ld, means_sd}
-use Rattle.alone.proofs.Paths.{leaves, then_load, then_store}
+use Rattle.alone.proofs.Laws.{loaded_word}
+use Rattle.alone.proofs.Means.{means_sd}
+use Rattle.alone.proofs.Paths.{leaves, then_store}
 use Rattle.alone_laws.specs.Blocks.{among}
 use Rattle.alone_laws.specs.Spans.{alone_from, code_of, sees}
 use Rattle.alone_laws.proofs.StoredWords.{beside_word, some_word, stored_word}
 use Rattle.block_model.specs.History.{History, stores}
 use Rattle.block_model.specs.Setting.{Setting}
-use Rattle.percpu_lib.specs.Adds.{add_range, cell_seen, cell_store}
+use Rattle.percpu_lib.specs.Adds.{cell_seen, cell_store}
 use Rattle.percpu_lib.specs.Forms.{IsBlockPlace}
 use Rattle.percpu_lib.specs.Kinds as kind
 use Rattle.percpu_lib.specs.Pushes.{IsNoPush, IsWholePush, LieBeside, node_store, push_block}
 use Rattle.percpu_lib.specs.Pushes.{push_bytes, push_form, stores_node, stores_none}
 use Rattle.percpu_lib.specs.Words.{AreHeld, AreSlots}
 use Rattle.percpu_lib.specs.declared.slots.Slots.{Slots}
-use Rattle.percpu_lib.proofs.BlockCode.{behind_range}
+use Rattle.percpu_lib.proofs.CellPath.{sequence_at, to_word}
 use Rattle.percpu_lib.proofs.Beginnings.{beginning}
 use Rattle.percpu_lib.proofs.BlockWords.{beside_pointer}
-use Rattle.percpu_lib.proofs.CellPath.{inside_at, to_cell}
 use Rattle.percpu_lib.proofs.CourseLaw.{HasPath, IsAfter, SomePath, has_course, same_stores, same_word}
 use Rattle.percpu_lib.proofs.CourseLaw.{unstored, way}
 use Rattle.percpu_lib.proofs.Courses.{HasCourse}
@@ -69,21 +67,16 @@ module _ (s : Setting) (p : Slots) (at : ℕ) (area : Area) (h t : ℕ) (begun :
   in_node : each_byte bytes node 8 ≡ true
   in_node = second_used area.at cell node
 
+  open (sequence_at (push_form p) at (block_formed kind.pushes p) place.low) use {here, out}
+
   keeps : KeepsOn w (alone_from s h t begun 0)
   keeps =
       let low = place.low in
       let low_cells = place.apart.cell.low_cells in
       let low_node = place.apart.low_node in
-      to_cell s (push_form p) at area h t begun Inside Done (block_formed kind.pushes p) held place 6 64
-      (block_begins kind.pushes p slots)
-      (inl refl) area_bytes cells refl (omega arith)
-      (λ y now.
-      then_load w (at + 32) _ [] y now (here 8 (omega arith) (omega arith)) (inl refl)
-      (inst.Ld 6 5 (pos 0)) (held.holds 8 (inst.Ld 6 5 (pos 0)) refl)
-      cell 8 6 old_word.0 (at + 36) true (λ f like. means_ld f (at + 32) 6 5 (pos 0) cell cell
-      (like.temp 5 refl) (omega arith))
-      in_cell (word_unchanged seen cell 8 ∙ old_word.1) refl refl (omega arith) (omega arith)
-      (omega arith) (omega arith)
+      to_word s (push_form p) at area h t begun Inside Done (block_formed kind.pushes p) held place 6 64
+      (block_begins kind.pushes p slots) (inl refl) area_bytes cells refl (omega arith)
+      6 old_word.0 refl refl (omega arith) refl low_cells in_cell old_word.1
       (λ z next.
       then_store w (at + 36) _ [] z next (here 9 (omega arith) (omega arith)) (inl refl)
       (inst.Sd p.value 6 (pos 0)) (held.holds 9 (inst.Sd p.value 6 (pos 0)) refl)
@@ -99,14 +92,7 @@ module _ (s : Setting) (p : Slots) (at : ℕ) (area : Area) (h t : ℕ) (begun :
       (λ f like. means_sd f (at + 40) 5 p.value (pos 0) cell cell node node (like.temp 5 refl) (omega arith)
       (like.rest p.value slots.value) (omega arith))
       in_cell (omega arith) (omega arith) (omega arith)
-      (λ v last. leaves w (at + 44) _ _ v last (behind_range (push_form p) at 11 low (omega arith)
-      (omega arith))
-      (inr (refl, refl))))))
-    where
-      here : (k : ℕ) → 4 ≤ k → k < 11 → is_inside (add_range at) (at + 4 * k) ≡ true
-      here k from lt =
-          inside_at s (push_form p) at area h t begun Inside Done
-          (block_formed kind.pushes p) held place k from lt
+      (λ v last. leaves w (at + 44) _ _ v last out (inr (refl, refl)))))
 
   -- the pointer of the area stays
   node_points : word_at (seen_byte (linked ∷ []) seen) (area.at + 8) 8 ≡ word_at seen (area.at + 8) 8

@@ -4,7 +4,7 @@
 -- get block, and finds the ring empty by another sequence of that. The value of both blocks is in a0. In
 -- the other log a thread is to put a word into a ring that is full.
 use Rattle.std.proofs.Common.{◌≡◌, ℕ, ◌+◌, ◌-◌, ◌^◌, ◌≤◌, List, [], ◌∷◌, ◌++◌, replicate, take, drop}
-use Rattle.std.proofs.Common.{length, refl, Bool, true, ◌&&◌, Some, eqb, Ok}
+use Rattle.std.proofs.Common.{length, refl, Bool, true, ◌&&◌, Some, eqb}
 use Rattle.std.proofs.lemmas.Bool.{leb-true}
 use Rattle.mach_types.specs.Kernel.Areas.{is_inside}
 use Rattle.mach_types.specs.declared.events.Choice.TheVariants as asked
@@ -16,27 +16,25 @@ use Rattle.block_model.specs.History.{file, running, stores}
 use Rattle.block_model.specs.Replay.{Ask, played}
 use Rattle.block_model.specs.Run.{IsBlockRun}
 use Rattle.block_model.specs.Setting.{Setting}
-use Rattle.block_model.proofs.Laws.{played_is_run, run_before}
+use Rattle.block_model.proofs.Laws.{played_is_run}
 use Rattle.alone_laws.specs.Retries.{Retries}
 use Rattle.alone_laws.specs.Spans.{code_of}
 use Rattle.alone_laws.specs.Undisturbed.{IsUndisturbed, executed_on}
-use Rattle.alone_laws.specs.Uses.{Placed}
-use Rattle.percpu_lib.specs.Forms.{Form, placed_of}
 use Rattle.percpu_lib.specs.Frees.{value_of}
 use Rattle.percpu_lib.specs.Pushes.{word_seen}
-use Rattle.percpu_lib.specs.RingForms.{get_block, put_block, ring_at, ring_get_form, ring_put_form, slot_of}
+use Rattle.percpu_lib.specs.RingForms.{ring_at, ring_get_form, ring_put_form, slot_of}
 use Rattle.percpu_lib.specs.Uses.{cells_of}
 use Rattle.percpu_lib.specs.declared.slots.Slots.{Slots}
 use Rattle.percpu_lib.proofs.Computing.{by_rules, by_table}
-use Rattle.percpu_lib.proofs.ExampleParts.{AreThere, IsFound, IsGood, IsUsedSo, entry, found_good, is_found}
+use Rattle.percpu_lib.proofs.ExampleParts.{AreThere, IsFound, IsGood, IsUsedSo, Use, entry, found_good, is_found}
 use Rattle.percpu_lib.proofs.ExampleParts.{data_at, setting_of, walk}
-use Rattle.percpu_lib.proofs.ExampleParts.{is_good, line, is_found, sequence_found, used_so}
-use Rattle.percpu_lib.proofs.ExampleParts.{execs, slots_with}
+use Rattle.percpu_lib.proofs.ExampleParts.{is_good, line, sequence_found, use_of, used_so}
+use Rattle.percpu_lib.proofs.ExampleParts.{execs, place_of, slots_with}
 pub use Rattle.percpu_lib.proofs.ExampleParts.{own_area as area}
 use Rattle.percpu_lib.proofs.ExamplePrograms.{full_ring_code, ring_code}
 use Rattle.percpu_lib.proofs.FormTests.{ring_get_tested, ring_put_tested}
 use Rattle.percpu_lib.proofs.RetryParts.{calm_so, is_retried, retried_so}
-use Rattle.percpu_lib.proofs.UseTests.{IsTested, is_just}
+use Rattle.percpu_lib.proofs.UseTests.{is_just}
 
 -- the ring of the thread of a sequence
 abbrev pub ring_of : Setting → Slots → Sequence → ℕ
@@ -66,23 +64,11 @@ put_slots = slots_with 10 0x10200
 abbrev pub get_slots : Slots
 get_slots = slots_with 10 0x10220
 
-abbrev pub put_at : ℕ
-put_at = 0x100D8
+abbrev pub put : Use
+put = use_of (ring_put_form 2) (ring_put_tested 2) put_slots 0x100D8
 
-abbrev pub get_at : ℕ
-get_at = 0x10164
-
-abbrev put : Form
-put = ring_put_form 2 put_slots
-
-abbrev get : Form
-get = ring_get_form 2 get_slots
-
-abbrev pub the_put : Placed
-the_put = placed_of put put_at area
-
-abbrev pub the_get : Placed
-the_get = placed_of get get_at area
+abbrev pub get : Use
+get = use_of (ring_get_form 2) (ring_get_tested 2) get_slots 0x10164
 
 -- the thread runs, and executes the first 10 instructions and 22 words of the put, whose two stores then
 -- enter memory. It is preempted and runs again; it executes the two words of the abort handler and 30 words
@@ -102,7 +88,7 @@ lines =
     ++ (replicate 4 (line asked.Drain)
     ++ execs 18))))))
 
-abbrev log : List Entry
+abbrev pub log : List Entry
 log =
     entry kind.Run 1 0x100B0 ∷ walk 0x100B0 32 ++ entry kind.Drain 1 0x10130 ∷ entry kind.Drain 1 0x10130
     ∷ entry kind.Preempt 1 0x10130 ∷ entry kind.Run 1 0x10130 ∷ walk 0x10158 2 ++ walk 0x100D8 30
@@ -111,50 +97,32 @@ log =
     ++ entry kind.Drain 1 0x101DC ∷ entry kind.Drain 1 0x101DC ∷ entry kind.Drain 1 0x101DC
     ∷ entry kind.Drain 1 0x101DC ∷ entry kind.Exec 1 0x101DC ∷ entry kind.Exec 1 0x101EC ∷ walk 0x10164 16
 
-is_played : played setting lines ≡ Ok log
-unfolding played by_rules
-is_played = refl
-
 is_run : IsBlockRun setting log
-is_run = (played_is_run setting lines log is_played).0
+unfolding played by_rules
+is_run = (played_is_run setting lines log refl).0
 
-put_there : AreThere (code_of setting.program.pages) put_at (put_block put_slots 2)
+put_there : AreThere (code_of setting.program.pages) put.at put.form.words
 unfolding by_table
 put_there = (refl, (refl, (refl, (refl, (refl, (refl, (refl, (refl, (refl, (refl, (refl, (refl, (refl, (refl, (refl, (refl, (refl, (refl, (refl, (refl, (refl, (refl, (refl, (refl, (refl, (refl, (refl, (refl, (refl, (refl, (refl, (refl, (refl, (refl, tt))))))))))))))))))))))))))))))))))
 
-get_there : AreThere (code_of setting.program.pages) get_at (get_block get_slots 2)
+get_there : AreThere (code_of setting.program.pages) get.at get.form.words
 unfolding by_table
 get_there = (refl, (refl, (refl, (refl, (refl, (refl, (refl, (refl, (refl, (refl, (refl, (refl, (refl, (refl, (refl, (refl, (refl, (refl, (refl, (refl, (refl, (refl, (refl, (refl, (refl, (refl, (refl, (refl, (refl, (refl, (refl, (refl, (refl, (refl, tt))))))))))))))))))))))))))))))))))
 
-abbrev put_tested : IsTested put
-put_tested = ring_put_tested 2 put_slots
-
-abbrev get_tested : IsTested get
-get_tested = ring_get_tested 2 get_slots
-
 -- the put: slots 511 and 0 are 7 and 9, and the tail is 1
-abbrev pub put_log : List Entry
-put_log = take 69 log
-
-abbrev pub put_fits : Sequence → Bool
-put_fits q =
+abbrev pub is_put : Sequence → Bool
+is_put q =
     eqb q.thread 1
     && (is_just (word_seen setting 0 (slot_of (ring_of setting put_slots q) 511) q.reached) 7
     && (is_just (word_seen setting 0 (slot_of (ring_of setting put_slots q) 0) q.reached) 9
     && is_just (word_seen setting 0 (ring_of setting put_slots q + 8) q.reached) 1))
 
-put_good : is_good setting put put_tested put_at area 1 (the_get ∷ []) put_fits (history setting put_log)
-    ≡ true
+put_good : is_good setting put (place_of get ∷ []) is_put (history setting (take 69 log)) ≡ true
 unfolding by_rules
 put_good = refl
 
-put_run : IsBlockRun setting put_log
-put_run = run_before setting (take 69 log) (drop 69 log) is_run
-
-pub put_used : IsGood setting put_log put put_at area (the_get ∷ []) put_fits
-put_used =
-    found_good setting put_log put put_tested put_at area 1 (the_get ∷ []) put_fits put_run put_good refl
-    put_there refl
+pub put_used : IsGood setting log 69 put (place_of get ∷ []) is_put
+put_used = found_good setting log is_run 69 put (place_of get ∷ []) is_put put_good refl put_there refl
 
 -- its first sequence, which was cut: slot 511 is 7, and the tail is as it was
 abbrev pub cut : List Entry
@@ -166,8 +134,8 @@ cut_rest = take 34 (drop 35 log)
 abbrev pub cut_fits : Sequence → Bool
 cut_fits q =
     eqb q.thread 1
-    && (is_inside the_put.range (file setting q.thread q.begun).pc
-    && (eqb (file setting q.thread q.reached).pc (put_at + 88)
+    && (is_inside (place_of put).range (file setting q.thread q.begun).pc
+    && (eqb (file setting q.thread q.reached).pc (put.at + 88)
     && (is_just (word_seen setting 0 (slot_of (ring_of setting put_slots q) 511) q.reached) 7
     && is_just (word_seen setting 0 (ring_of setting put_slots q + 8) q.reached) (2 ^ 64 - 1))))
 
@@ -179,41 +147,23 @@ pub was_cut : IsFound setting cut cut_fits
 was_cut = sequence_found setting cut cut_fits cut_found
 
 -- the get: the words at 0x21120 are 7 and 9, and the head is 1
-abbrev pub get_log : List Entry
-get_log = take 105 log
-
-abbrev pub get_fits : Sequence → Bool
-get_fits q =
+abbrev pub is_got : Sequence → Bool
+is_got q =
     is_just (word_seen setting 0 (value_of setting get_slots q.thread q.begun) q.reached) 7
     && (is_just (word_seen setting 0 (value_of setting get_slots q.thread q.begun + 8) q.reached) 9
     && is_just (word_seen setting 0 (ring_of setting get_slots q) q.reached) 1)
 
-get_good : is_good setting get get_tested get_at area 1 (the_put ∷ []) get_fits (history setting get_log)
-    ≡ true
+pub get_used : IsGood setting log 105 get (place_of put ∷ []) is_got
 unfolding by_rules
-get_good = refl
-
-pub get_used : IsGood setting get_log get get_at area (the_put ∷ []) get_fits
-get_used =
-    found_good setting get_log get get_tested get_at area 1 (the_put ∷ []) get_fits
-    (run_before setting (take 105 log) (drop 105 log) is_run) get_good refl get_there refl
+get_used = found_good setting log is_run 105 get (place_of put ∷ []) is_got refl refl get_there refl
 
 -- the get from an empty ring: the value is 0, and no store was executed
-abbrev pub none_log : List Entry
-none_log = log
+abbrev pub finds_none : Sequence → Bool
+finds_none q = eqb (value_of setting get_slots q.thread q.reached) 0 && stores_none q
 
-abbrev pub none_fits : Sequence → Bool
-none_fits q = eqb (value_of setting get_slots q.thread q.reached) 0 && stores_none q
-
-none_good : is_good setting get get_tested get_at area 1 (the_put ∷ []) none_fits (history setting none_log)
-    ≡ true
+pub none_used : IsGood setting log 127 get (place_of put ∷ []) finds_none
 unfolding by_rules
-none_good = refl
-
-pub none_used : IsGood setting none_log get get_at area (the_put ∷ []) none_fits
-none_used =
-    found_good setting none_log get get_tested get_at area 1 (the_put ∷ []) none_fits is_run none_good refl
-    get_there refl
+none_used = found_good setting log is_run 127 get (place_of put ∷ []) finds_none refl refl get_there refl
 
 -- A RETRY
 
@@ -229,27 +179,24 @@ anew = take 39 log
 abbrev pub rest : List Entry
 rest = take 30 (drop 39 log)
 
-comes_back : is_retried setting the_put 1 first_time (take 24 (drop 11 log)) (take 2 (drop 35 log))
+comes_back : is_retried setting (place_of put) 1 first_time (take 24 (drop 11 log)) (take 2 (drop 35 log))
     (take 2 (drop 37 log)) ≡ true
 unfolding by_rules
 comes_back = refl
 
-pub retried : Retries setting the_put 1 first_time anew
+pub retried : Retries setting (place_of put) 1 first_time anew
 retried =
-    retried_so setting the_put 1 first_time (take 24 (drop 11 log)) (take 2 (drop 35 log))
+    retried_so setting (place_of put) 1 first_time (take 24 (drop 11 log)) (take 2 (drop 35 log))
     (take 2 (drop 37 log)) comes_back
 
-pub used_again : IsUsedSo setting put_log put put_at area 1 (the_get ∷ [])
-used_again =
-    used_so setting put_log put put_tested put_at area 1 (the_get ∷ []) put_fits put_run put_good refl
-    put_there
-    refl
+pub used_again : IsUsedSo setting (take 69 log) put (place_of get ∷ [])
+used_again = used_so setting log is_run 69 put (place_of get ∷ []) is_put put_good refl put_there refl
 
 pub runs_anew : running setting 0 (history setting anew) ≡ Some 1
 unfolding by_rules
 runs_anew = refl
 
-pub at_label : (file setting 1 (history setting anew)).pc ≡ put_at
+pub at_label : (file setting 1 (history setting anew)).pc ≡ put.at
 unfolding by_rules
 at_label = refl
 
@@ -268,14 +215,8 @@ full_setting = setting_over full_ring_code (replicate 8 0xFF ++ 0xFF ∷ 0x01 �
 abbrev pub full_slots : Slots
 full_slots = slots_with 18 0x10160
 
-abbrev pub full_at : ℕ
-full_at = 0x100D8
-
-abbrev full_put : Form
-full_put = ring_put_form 1 full_slots
-
-abbrev full_tested : IsTested full_put
-full_tested = ring_put_tested 1 full_slots
+abbrev pub full : Use
+full = use_of (ring_put_form 1) (ring_put_tested 1) full_slots 0x100D8
 
 abbrev full_lines : List Ask
 full_lines = line (asked.Run (record { 0 = 1 })) ∷ execs 26
@@ -284,28 +225,22 @@ abbrev pub full_log : List Entry
 full_log =
     entry kind.Run 1 0x100B0 ∷ walk 0x100B0 26
 
-full_played : played full_setting full_lines ≡ Ok full_log
+full_run : IsBlockRun full_setting full_log
 unfolding played by_rules
-full_played = refl
+full_run = (played_is_run full_setting full_lines full_log refl).0
 
-full_there : AreThere (code_of full_setting.program.pages) full_at (put_block full_slots 1)
+full_there : AreThere (code_of full_setting.program.pages) full.at full.form.words
 unfolding by_table
 full_there = (refl, (refl, (refl, (refl, (refl, (refl, (refl, (refl, (refl, (refl, (refl, (refl, (refl, (refl, (refl, (refl, (refl, (refl, (refl, (refl, (refl, (refl, (refl, (refl, (refl, (refl, (refl, (refl, tt))))))))))))))))))))))))))))
 
 -- the value is 0, head and tail are as they were, and no store was executed
-abbrev pub full_fits : Sequence → Bool
-full_fits q =
+abbrev pub finds_no_room : Sequence → Bool
+finds_no_room q =
     eqb (value_of full_setting full_slots q.thread q.reached) 0
     && (is_just (word_seen full_setting 0 (ring_of full_setting full_slots q) q.reached) (2 ^ 64 - 1)
     && (is_just (word_seen full_setting 0 (ring_of full_setting full_slots q + 8) q.reached) 511
     && stores_none q))
 
-full_good : is_good full_setting full_put full_tested full_at area 1 [] full_fits
-    (history full_setting full_log) ≡ true
+pub full_used : IsGood full_setting full_log 27 full [] finds_no_room
 unfolding by_rules
-full_good = refl
-
-pub full_used : IsGood full_setting full_log full_put full_at area [] full_fits
-full_used =
-    found_good full_setting full_log full_put full_tested full_at area 1 [] full_fits
-    (played_is_run full_setting full_lines full_log full_played).0 full_good refl full_there refl
+full_used = found_good full_setting full_log full_run 27 full [] finds_no_room refl refl full_there refl

@@ -6,7 +6,6 @@ use Rattle.std.proofs.Common.{append-nil, pos, slice_get, unwrap_or}
 use Rattle.std.proofs.lemmas.Bool.{cases_lt, ltb-false, ltb-true}
 use Rattle.std.proofs.lemmas.Int.{ints}
 use Rattle.mach_types.specs.Bytes.{word_at}
-use Rattle.mach_types.specs.Kernel.Areas.{is_inside}
 use Rattle.mach_types.specs.Registers.{register}
 use Rattle.mach_types.specs.declared.sequences.Area.{Area}
 use Rattle.mach_types.specs.declared.user_memory.Store.{Store}
@@ -23,7 +22,7 @@ use Rattle.alone.proofs.Paths.{leaves, then_branch, then_load, then_next, then_s
 use Rattle.alone_laws.specs.Spans.{alone_from, code_of, sees}
 use Rattle.block_model.specs.History.{History, stores}
 use Rattle.block_model.specs.Setting.{Setting}
-use Rattle.percpu_lib.specs.Forms.{Form, IsBlockPlace, committed, range_of}
+use Rattle.percpu_lib.specs.Forms.{Form, IsBlockPlace, committed}
 use Rattle.percpu_lib.specs.Pushes.{LieBeside, word_seen}
 use Rattle.percpu_lib.specs.RingForms.{AreGot, IsNoGet, IsRingApart, IsRingKept, Gets, content, first_stores}
 use Rattle.percpu_lib.specs.RingForms.{head_seen, get_block, get_front, get_insts, get_store, gets_none}
@@ -32,8 +31,7 @@ use Rattle.percpu_lib.specs.RingForms.{word_of, word_store}
 use Rattle.percpu_lib.specs.Words.{AreHeld, AreSlots, is_changed}
 use Rattle.percpu_lib.specs.declared.slots.Slots.{Slots}
 use Rattle.percpu_lib.proofs.Beginnings.{beginning, ring_seen}
-use Rattle.percpu_lib.proofs.BlockCode.{behind_range}
-use Rattle.percpu_lib.proofs.CellPath.{BeginsSo, begins_of, inside_at, to_cell}
+use Rattle.percpu_lib.proofs.CellPath.{BeginsSo, begins_of, sequence_at, to_cell}
 use Rattle.percpu_lib.proofs.Changes.{area_not_changed, beside_value, cells_not_changed, put_same}
 use Rattle.percpu_lib.proofs.Changes.{some_value, value_beside, value_changed}
 use Rattle.percpu_lib.proofs.CourseLaw.{HasPath, IsAfter, course_of, way}
@@ -61,7 +59,7 @@ module _ (s : Setting) (count : ℕ) (some : 1 ≤ count) (many : count ≤ 4) (
   abbrev form : Form
   form = ring_get_form count p
 
-  open (beginning s p h t begun) use {old, seen, cells as rings, ring, value}
+  open (beginning s p h t begun) use {old, seen, cells as rings, ring, value, pool_temps as temps_0}
   open (ring_seen s h ring begun) use {head, tail, holds}
 
   abbrev store : ℕ → Store
@@ -91,13 +89,7 @@ module _ (s : Setting) (count : ℕ) (some : 1 ≤ count) (many : count ≤ 4) (
 
   -- WORDS
 
-  here : (k : ℕ) → 5 ≤ k → k < 18 + 6 * count → is_inside (range_of form at) (at + 4 * k) ≡ true
-  here k from lt =
-      inside_at s form at area h t begun Inside Done (get_formed count many p) standing place k from
-      (omega arith)
-
-  out : is_inside (range_of form at) (at + 4 * committed form) ≡ false
-  out = let low = place.low in behind_range form at (committed form) low (omega arith) (omega arith)
+  open (sequence_at form at (get_formed count many p) place.low) use {here, out}
 
   -- THE WORDS ARE GOT
 
@@ -277,9 +269,6 @@ module _ (s : Setting) (count : ℕ) (some : 1 ≤ count) (many : count ≤ 4) (
         (next_ready k (omega arith) temps ready) u then))
 
   -- THE TEST
-
-  abbrev temps_0 : ℕ → ℕ
-  temps_0 = put 5 ring (put 5 (8192 * h) (put 6 h (register old)))
 
   abbrev temps_1 : ℕ → ℕ
   temps_1 = put 28 value temps_0

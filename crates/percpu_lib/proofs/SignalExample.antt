@@ -2,7 +2,7 @@
 -- sends itself the signal, and is to add 32 to the cell of its processor by an add block. The signal is
 -- delivered at the fourth word of the block, before its sequence; the handler returns there, and the thread
 -- adds once.
-use Rattle.std.proofs.Common.{◌≡◌, ℕ, ◌+◌, List, [], ◌∷◌, ◌++◌, replicate, take, drop, refl, true, Some, Ok}
+use Rattle.std.proofs.Common.{◌≡◌, ℕ, ◌+◌, List, [], ◌∷◌, ◌++◌, replicate, take, drop, refl, true, Some}
 use Rattle.mach_types.specs.Kernel.Areas.{is_inside}
 use Rattle.mach_types.specs.declared.events.Choice.TheVariants as asked
 use Rattle.mach_types.specs.declared.events.Entry.{Entry}
@@ -52,12 +52,9 @@ log =
     entry kind.Run 1 0x100C0 ∷ walk 0x100C0 21 ++ entry kind.Signal 1 0x10114 ∷ entry kind.Exec 1 0x10140
     ∷ walk 0x3FFFFF0000 2 ++ walk 0x10114 3 ++ entry kind.Drain 1 0x10120 ∷ walk 0x10120 5
 
-is_played : played adding lines ≡ Ok log
-unfolding played by_rules by_signals
-is_played = refl
-
 pub is_run : IsBlockRun adding log
-is_run = (played_is_run adding lines log is_played).0
+unfolding played by_rules by_signals
+is_run = (played_is_run adding lines log refl).0
 
 -- up to where the handler has returned
 abbrev pub returned : List Entry

@@ -36,10 +36,26 @@ second_used area first from =
     (λ a is. ap (λ b. among area 32 a || (among first 8 a || b)) is
     ∙ ap (λ b. among area 32 a || b) (or_true (among first 8 a)) ∙ or_true (among area 32 a))
 
-pub second_used_where : (area first from : ℕ) (unused : Bool) → unused ≡ false
+second_used_where : (area first from : ℕ) (unused : Bool) → unused ≡ false
     → each_byte (λ a. among area 32 a || (among first 8 a || (not unused && among from 8 a))) from 8 ≡ true
 second_used_where area first from unused is_used =
     each_of (λ a. among area 32 a || (among first 8 a || (not unused && among from 8 a))) from
     (λ a is. ap (λ c. among area 32 a || (among first 8 a || (not c && among from 8 a))) is_used
     ∙ ap (λ b. among area 32 a || (among first 8 a || b)) is
     ∙ ap (λ b. among area 32 a || b) (or_true (among first 8 a)) ∙ or_true (among area 32 a))
+
+-- the first word, and a second one unless it is unused
+pub record AreUsed (area first second : ℕ) (unused : Bool) : Type 0 where
+  pub area_bytes : (a : ℕ) → among area 32 a ≡ true
+      → among area 32 a || (among first 8 a || (not unused && among second 8 a)) ≡ true
+  pub in_first : each_byte (λ a. among area 32 a || (among first 8 a || (not unused && among second 8 a))) first 8
+      ≡ true
+  pub in_second : unused ≡ false
+      → each_byte (λ a. among area 32 a || (among first 8 a || (not unused && among second 8 a))) second 8 ≡ true
+
+pub words_used : (area first second : ℕ) (unused : Bool) → AreUsed area first second unused
+words_used area first second unused = record {
+  area_bytes = area_used area (λ a. among first 8 a || (not unused && among second 8 a));
+  in_first = first_used area first (λ a. not unused && among second 8 a);
+  in_second = second_used_where area first second unused;
+}

@@ -1,5 +1,5 @@
 -- The block that adds to the cell of its processor (librseq, rseq_addv).
-use Rattle.std.specs.Prelude.{ℕ, ◌≡◌, ◌+◌, ◌*◌, ◌≤◌, ◌%◌, ◌^◌, ◌||◌, ◌⊎◌, Bool, false, List, [], ◌∷◌}
+use Rattle.std.specs.Prelude.{ℕ, ◌≡◌, ◌+◌, ◌*◌, ◌≤◌, ◌%◌, ◌^◌, ◌||◌, ◌⊎◌, Bool, List, [], ◌∷◌}
 use Rattle.std.specs.Prelude.{◌++◌, Option, Some, None, pos, negsuc}
 use Rattle.mach_types.specs.Bytes.{word_at}
 use Rattle.mach_types.specs.Registers.{register}
@@ -16,32 +16,23 @@ use Rattle.block_model.specs.History.{History, file, stores}
 use Rattle.block_model.specs.Setting.{Setting}
 use Rattle.mach_types.specs.declared.sequences.Area.{Area}
 use Rattle.percpu_lib.specs.BlockLines.{block_lines}
-use Rattle.percpu_lib.specs.Forms.{IsLeftFrom}
-use Rattle.percpu_lib.specs.Words.{lower, upper}
+use Rattle.percpu_lib.specs.Forms.{AreKept, IsLeftFrom}
+use Rattle.percpu_lib.specs.Words.{asking_words}
 use Rattle.percpu_lib.specs.declared.lines.Line.{Line}
 use Rattle.percpu_lib.specs.declared.lines.Line.TheVariants as line
 use Rattle.percpu_lib.specs.declared.slots.Slots.{Slots}
 
--- its words from the retry label on. The area is read for the processor, and the address of the descriptor is
--- stored in it. Then the sequence starts: the area must still name that processor, else the block begins
--- anew; and the cell of the processor grows
+-- its words from the retry label on: once it has the address of the cell, the cell grows
 abbrev pub add_block : Slots → List (Option Inst)
 add_block p =
-    Some (inst.Lw 5 p.area (pos 0))
-    ∷ Some (inst.Lui 6 (upper p.table))
-    ∷ Some (inst.Addi 6 6 (lower p.table))
-    ∷ Some (inst.Sd p.area 6 (pos 8))
-    ∷ Some (inst.Lw 6 p.area (pos 4))
-    ∷ Some (inst.Bne 6 5 (negsuc 19))
-    ∷ Some (inst.Slli 5 5 6)
-    ∷ Some (inst.Add 5 5 p.cells)
-    ∷ Some (inst.Ld 6 5 (pos 0))
+    asking_words p 19 6
+    (Some (inst.Ld 6 5 (pos 0))
     ∷ Some (inst.Add 6 6 p.value)
     ∷ Some (inst.Sd 5 6 (pos 0))
     ∷ Some (inst.Jal 0 (pos 12))
     ∷ None
     ∷ Some (inst.Jal 0 (negsuc 51))
-    ∷ []
+    ∷ [])
 
 -- the same as lines with labels: what it does inside once the address of the cell is in x5
 abbrev pub add_steps : Slots → List Line
@@ -103,15 +94,13 @@ pub record IsWholeAdd (s : Setting) (p : Slots) (cells h t : ℕ) (begun reached
   pub grown : cell_seen s h cells reached ≡ Some ((old + register (file s t begun).file p.value) % 2 ^ 64)
   pub stored : stores h reached ≡ stores h begun
       ++ cell_store cells h ((old + register (file s t begun).file p.value) % 2 ^ 64) ∷ []
-  pub kept : (r : ℕ) → is_scratch r ≡ false
-      → register (file s t reached).file r ≡ register (file s t begun).file r
+  pub kept : AreKept s is_scratch t begun reached
 
 -- and what one did that isn't whole: nothing but to registers that a block may change
 pub record IsNoAdd (s : Setting) (cells h t : ℕ) (begun reached : History) : Type 0 where
   pub same : cell_seen s h cells reached ≡ cell_seen s h cells begun
   pub stored : stores h reached ≡ stores h begun
-  pub kept : (r : ℕ) → is_scratch r ≡ false
-      → register (file s t reached).file r ≡ register (file s t begun).file r
+  pub kept : AreKept s is_scratch t begun reached
 
 -- how a sequence of an add block ends whose thread is at this pc after its last event
 abbrev pub IsLeftAt : ℕ → ℕ → SeqEnd → Type 0

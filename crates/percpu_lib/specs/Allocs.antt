@@ -1,5 +1,5 @@
 -- The block that takes the last item out of the pool of its processor (own).
-use Rattle.std.specs.Prelude.{ℕ, ◌≡◌, ◌≢◌, ◌+◌, ◌-◌, ◌%◌, ◌^◌, ◌||◌, ◌&&◌, ◌==◌, not, Bool, false, List, [], ◌∷◌, ◌++◌}
+use Rattle.std.specs.Prelude.{ℕ, ◌≡◌, ◌≢◌, ◌+◌, ◌-◌, ◌%◌, ◌^◌, ◌||◌, ◌&&◌, ◌==◌, not, Bool, List, [], ◌∷◌, ◌++◌}
 use Rattle.std.specs.Prelude.{Option, Some, None, pos, negsuc}
 use Rattle.mach_types.specs.Registers.{register}
 use Rattle.mach_types.specs.declared.sequences.Seq.{Seq}
@@ -9,10 +9,10 @@ use Rattle.alone_laws.specs.Blocks.{among}
 use Rattle.block_model.specs.History.{History, file, stores}
 use Rattle.block_model.specs.Setting.{Setting}
 use Rattle.percpu_lib.specs.BlockLines.{block_lines}
-use Rattle.percpu_lib.specs.Forms.{Form}
+use Rattle.percpu_lib.specs.Forms.{AreKept, Form}
 use Rattle.percpu_lib.specs.Pools.{IsPool, count_of, count_seen, count_store, pool_at, slot_at}
 use Rattle.percpu_lib.specs.Pushes.{word_seen}
-use Rattle.percpu_lib.specs.Uses.{cells_of}
+use Rattle.percpu_lib.specs.Uses.{form_on_cells}
 use Rattle.percpu_lib.specs.Words.{asking_words, is_changed}
 use Rattle.percpu_lib.specs.declared.lines.Line.{Line}
 use Rattle.percpu_lib.specs.declared.lines.Line.TheVariants as line
@@ -77,27 +77,19 @@ pub data Allocs (s : Setting) (p : Slots) (pools h t count : ℕ) (begun reached
 -- register changed but that of the value and those that every block may change
 pub record IsWholeAlloc (s : Setting) (p : Slots) (pools h t : ℕ) (begun reached : History) : Type 0 where
   pub allocs : Allocs s p pools h t (count_of s h pools begun) begun reached
-  pub kept : (r : ℕ) → is_changed p r ≡ false
-      → register (file s t reached).file r ≡ register (file s t begun).file r
+  pub kept : AreKept s (is_changed p) t begun reached
 
 -- and what one did that isn't whole: nothing but to the value, and to registers that every block may change
 pub record IsNoAlloc (s : Setting) (p : Slots) (pools h t : ℕ) (begun reached : History) : Type 0 where
   pub same : count_seen s h pools reached ≡ count_seen s h pools begun
   pub stored : stores h reached ≡ stores h begun
-  pub kept : (r : ℕ) → is_changed p r ≡ false
-      → register (file s t reached).file r ≡ register (file s t begun).file r
+  pub kept : AreKept s (is_changed p) t begun reached
 
 -- the alloc block. The item may lie on the area: it is read before the one store
 abbrev pub alloc_form : Slots → Form
-alloc_form p = record {
-  slots = p;
-  words = alloc_block p;
-  first = 4;
-  inside = 12;
-  may = is_changed p;
-  bytes = λ s area h t begun.
-      alloc_bytes area.at (pool_at (cells_of s p t begun) h) (count_of s h (cells_of s p t begun) begun);
-  Apart = λ s area h t begun. IsPool s area.at (cells_of s p t begun) h begun;
-  Whole = λ s h t begun reached. IsWholeAlloc s p (cells_of s p t begun) h t begun reached;
-  Partial = λ s h t begun reached. IsNoAlloc s p (cells_of s p t begun) h t begun reached;
-}
+alloc_form p = form_on_cells p (alloc_block p) 4 12 (is_changed p) (record {
+  bytes = λ s area cells h t begun. alloc_bytes area (pool_at cells h) (count_of s h cells begun);
+  Apart = λ s area cells h t. IsPool s area cells h;
+  Whole = λ s. IsWholeAlloc s p;
+  Partial = λ s. IsNoAlloc s p;
+})

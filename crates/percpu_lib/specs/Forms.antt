@@ -1,6 +1,6 @@
 -- The blocks of the library as data, and how a program uses one (own): what is asked of a setting and a log, one
 -- condition at each event, read back from it. A block is 'a block that stands and is used so' by its form alone.
-use Rattle.std.specs.Prelude.{ℕ, ◌≡◌, ◌≢◌, ◌+◌, ◌*◌, ◌^◌, ◌<◌, ◌≤◌, ◌%◌, ◌⊎◌, Bool, List, [], ◌∷◌, length, Option, Some}
+use Rattle.std.specs.Prelude.{ℕ, ◌≡◌, ◌≢◌, ◌+◌, ◌*◌, ◌^◌, ◌<◌, ◌≤◌, ◌%◌, ◌⊎◌, Bool, false, List, [], ◌∷◌, length, Option, Some}
 use Rattle.std.specs.Prelude.{Contains}
 use Rattle.mach_types.specs.Bytes.{word_at}
 use Rattle.mach_types.specs.Registers.{register}
@@ -36,6 +36,11 @@ pub record Form : Type 1 where
   pub Apart : Setting → Area → ℕ → ℕ → History → Type 0
   pub Whole : Setting → ℕ → ℕ → History → History → Type 0
   pub Partial : Setting → ℕ → ℕ → History → History → Type 0
+
+-- the registers of a thread are as they were, but for those that it may change
+abbrev pub AreKept : Setting → (ℕ → Bool) → ℕ → History → History → Type 0
+AreKept s may t begun reached =
+    (r : ℕ) → may r ≡ false → register (file s t reached).file r ≡ register (file s t begun).file r
 
 -- the word behind its sequence, at the post-commit address
 abbrev pub committed : Form → ℕ

@@ -1,6 +1,6 @@
 -- The block that puts the value behind the items of the pool of its processor (own). A pool holds at most 512
 -- items.
-use Rattle.std.specs.Prelude.{ℕ, ◌≡◌, ◌≢◌, ◌+◌, ◌%◌, ◌^◌, ◌||◌, ◌&&◌, ◌==◌, not, Bool, false, List, [], ◌∷◌, ◌++◌}
+use Rattle.std.specs.Prelude.{ℕ, ◌≡◌, ◌≢◌, ◌+◌, ◌%◌, ◌^◌, ◌||◌, ◌&&◌, ◌==◌, not, Bool, List, [], ◌∷◌, ◌++◌}
 use Rattle.std.specs.Prelude.{Option, Some, None, pos, negsuc}
 use Rattle.mach_types.specs.Registers.{register}
 use Rattle.mach_types.specs.declared.sequences.Seq.{Seq}
@@ -10,10 +10,10 @@ use Rattle.alone_laws.specs.Blocks.{among}
 use Rattle.block_model.specs.History.{History, file, stores}
 use Rattle.block_model.specs.Setting.{Setting}
 use Rattle.percpu_lib.specs.BlockLines.{block_lines}
-use Rattle.percpu_lib.specs.Forms.{Form}
+use Rattle.percpu_lib.specs.Forms.{AreKept, Form}
 use Rattle.percpu_lib.specs.Pools.{IsPool, count_of, count_seen, count_store, pool_at, slot_at, slot_store}
 use Rattle.percpu_lib.specs.Pushes.{LieBeside, word_seen}
-use Rattle.percpu_lib.specs.Uses.{cells_of}
+use Rattle.percpu_lib.specs.Uses.{form_on_cells}
 use Rattle.percpu_lib.specs.Words.{asking_words, is_changed}
 use Rattle.percpu_lib.specs.declared.lines.Line.{Line}
 use Rattle.percpu_lib.specs.declared.lines.Line.TheVariants as line
@@ -104,8 +104,7 @@ pub data Frees (s : Setting) (p : Slots) (pools h t count : ℕ) (begun reached 
 -- register changed but those that every block may change
 pub record IsWholeFree (s : Setting) (p : Slots) (pools h t : ℕ) (begun reached : History) : Type 0 where
   pub frees : Frees s p pools h t (count_of s h pools begun) begun reached
-  pub kept : (r : ℕ) → is_changed p r ≡ false
-      → register (file s t reached).file r ≡ register (file s t begun).file r
+  pub kept : AreKept s (is_changed p) t begun reached
 
 -- a sequence that isn't whole executed no store, or the one to the slot behind the items, where the pool
 -- wasn't full
@@ -121,20 +120,13 @@ pub data FreesNoMore (s : Setting) (p : Slots) (pools h t count : ℕ) (begun re
 pub record IsNoFree (s : Setting) (p : Slots) (pools h t : ℕ) (begun reached : History) : Type 0 where
   pub same : count_seen s h pools reached ≡ count_seen s h pools begun
   pub stored : FreesNoMore s p pools h t (count_of s h pools begun) begun reached
-  pub kept : (r : ℕ) → is_changed p r ≡ false
-      → register (file s t reached).file r ≡ register (file s t begun).file r
+  pub kept : AreKept s (is_changed p) t begun reached
 
 -- the free block
 abbrev pub free_form : Slots → Form
-free_form p = record {
-  slots = p;
-  words = free_block p;
-  first = 5;
-  inside = 13;
-  may = is_changed p;
-  bytes = λ s area h t begun.
-      free_bytes area.at (pool_at (cells_of s p t begun) h) (count_of s h (cells_of s p t begun) begun);
-  Apart = λ s area h t begun. IsFreeApart s area.at (cells_of s p t begun) h begun;
-  Whole = λ s h t begun reached. IsWholeFree s p (cells_of s p t begun) h t begun reached;
-  Partial = λ s h t begun reached. IsNoFree s p (cells_of s p t begun) h t begun reached;
-}
+free_form p = form_on_cells p (free_block p) 5 13 (is_changed p) (record {
+  bytes = λ s area cells h t begun. free_bytes area (pool_at cells h) (count_of s h cells begun);
+  Apart = λ s area cells h t. IsFreeApart s area cells h;
+  Whole = λ s. IsWholeFree s p;
+  Partial = λ s. IsNoFree s p;
+})

@@ -1,11 +1,11 @@
 -- The blocks of the library as one table (own): what is said of all of them is said of a kind.
 use Rattle.std.specs.Prelude.{ℕ, Bool, true, false, List}
-use Rattle.percpu_lib.specs.Adds.{add_lines}
-use Rattle.percpu_lib.specs.Allocs.{alloc_form, alloc_lines}
+use Rattle.percpu_lib.specs.Adds.{add_lines, add_steps}
+use Rattle.percpu_lib.specs.Allocs.{alloc_form, alloc_lines, alloc_steps}
 use Rattle.percpu_lib.specs.Forms.{Form}
-use Rattle.percpu_lib.specs.Frees.{free_form, free_lines}
-use Rattle.percpu_lib.specs.Pops.{pop_form, pop_lines}
-use Rattle.percpu_lib.specs.Pushes.{push_form, push_lines}
+use Rattle.percpu_lib.specs.Frees.{free_form, free_lines, free_steps}
+use Rattle.percpu_lib.specs.Pops.{pop_form, pop_lines, pop_steps}
+use Rattle.percpu_lib.specs.Pushes.{push_form, push_lines, push_steps}
 use Rattle.percpu_lib.specs.Uses.{add_form}
 use Rattle.percpu_lib.specs.declared.lines.Line.{Line}
 use Rattle.percpu_lib.specs.declared.slots.Slots.{Slots}
@@ -32,6 +32,14 @@ lines_of pushes p base = push_lines p base
 lines_of pops p base = pop_lines p base
 lines_of allocs p base = alloc_lines p base
 lines_of frees p base = free_lines p base
+
+-- what it does inside
+abbrev pub steps_of : Kind → Slots → ℕ → List Line
+steps_of adds p base = add_steps p
+steps_of pushes p base = push_steps p
+steps_of pops p base = pop_steps p base
+steps_of allocs p base = alloc_steps p base
+steps_of frees p base = free_steps p base
 
 -- it takes a value in; pop and alloc only bring one out
 abbrev pub takes_in : Kind → Bool

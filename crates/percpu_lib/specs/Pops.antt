@@ -1,7 +1,7 @@
 -- The block that pops the first node off the list of its processor (own, after the per-processor list of the
 -- kernel's rseq selftests): the value becomes the head, and where that isn't 0 the head becomes the first
 -- word of the node.
-use Rattle.std.specs.Prelude.{ℕ, ◌≡◌, ◌≢◌, ◌+◌, ◌%◌, ◌^◌, ◌||◌, ◌&&◌, ◌==◌, not, Bool, false, List, [], ◌∷◌, ◌++◌}
+use Rattle.std.specs.Prelude.{ℕ, ◌≡◌, ◌≢◌, ◌+◌, ◌%◌, ◌^◌, ◌||◌, ◌&&◌, ◌==◌, not, Bool, List, [], ◌∷◌, ◌++◌}
 use Rattle.std.specs.Prelude.{Option, Some, None, pos, negsuc, unwrap_or}
 use Rattle.mach_types.specs.Registers.{register}
 use Rattle.mach_types.specs.declared.sequences.Seq.{Seq}
@@ -12,9 +12,9 @@ use Rattle.block_model.specs.History.{History, file, stores}
 use Rattle.block_model.specs.Setting.{Setting}
 use Rattle.percpu_lib.specs.Adds.{IsCellApart, cell_at, cell_seen, cell_store}
 use Rattle.percpu_lib.specs.BlockLines.{block_lines}
-use Rattle.percpu_lib.specs.Forms.{Form}
+use Rattle.percpu_lib.specs.Forms.{AreKept, Form}
 use Rattle.percpu_lib.specs.Pushes.{word_seen}
-use Rattle.percpu_lib.specs.Uses.{cells_of}
+use Rattle.percpu_lib.specs.Uses.{form_on_cells}
 use Rattle.percpu_lib.specs.Words.{asking_words, is_changed}
 use Rattle.percpu_lib.specs.declared.lines.Line.{Line}
 use Rattle.percpu_lib.specs.declared.lines.Line.TheVariants as line
@@ -77,26 +77,19 @@ pub data Pops (s : Setting) (cells h head : ℕ) (begun reached : History) : Typ
 pub record IsWholePop (s : Setting) (p : Slots) (cells h t : ℕ) (begun reached : History) : Type 0 where
   pub popped : register (file s t reached).file p.value ≡ head_of s h cells begun
   pub pops : Pops s cells h (head_of s h cells begun) begun reached
-  pub kept : (r : ℕ) → is_changed p r ≡ false
-      → register (file s t reached).file r ≡ register (file s t begun).file r
+  pub kept : AreKept s (is_changed p) t begun reached
 
 -- and what one did that isn't whole: nothing but to the value, and to registers that every block may change
 pub record IsNoPop (s : Setting) (p : Slots) (cells h t : ℕ) (begun reached : History) : Type 0 where
   pub same : cell_seen s h cells reached ≡ cell_seen s h cells begun
   pub stored : stores h reached ≡ stores h begun
-  pub kept : (r : ℕ) → is_changed p r ≡ false
-      → register (file s t reached).file r ≡ register (file s t begun).file r
+  pub kept : AreKept s (is_changed p) t begun reached
 
 -- the pop block. The first word of the node may lie on the cell or the area: it is read before the one store
 abbrev pub pop_form : Slots → Form
-pop_form p = record {
-  slots = p;
-  words = pop_block p;
-  first = 4;
-  inside = 8;
-  may = is_changed p;
-  bytes = λ s area h t begun. pop_bytes area.at (cells_of s p t begun) h (head_of s h (cells_of s p t begun) begun);
-  Apart = λ s area h t begun. IsCellApart area.at (cells_of s p t begun) h;
-  Whole = λ s h t begun reached. IsWholePop s p (cells_of s p t begun) h t begun reached;
-  Partial = λ s h t begun reached. IsNoPop s p (cells_of s p t begun) h t begun reached;
-}
+pop_form p = form_on_cells p (pop_block p) 4 8 (is_changed p) (record {
+  bytes = λ s area cells h t begun. pop_bytes area cells h (head_of s h cells begun);
+  Apart = λ s area cells h t begun. IsCellApart area cells h;
+  Whole = λ s. IsWholePop s p;
+  Partial = λ s. IsNoPop s p;
+})

@@ -1,7 +1,7 @@
 -- The block that pushes a node on the list of its processor (rseq(2); own, after the per-processor list of
 -- the kernel's rseq selftests): the first word of the node becomes the head of the list, and the head the
 -- node.
-use Rattle.std.specs.Prelude.{ℕ, ◌≡◌, ◌+◌, ◌≤◌, ◌%◌, ◌^◌, ◌||◌, ◌⊎◌, Bool, false, List, [], ◌∷◌, ◌++◌, Option}
+use Rattle.std.specs.Prelude.{ℕ, ◌≡◌, ◌+◌, ◌≤◌, ◌%◌, ◌^◌, ◌||◌, ◌⊎◌, Bool, List, [], ◌∷◌, ◌++◌, Option}
 use Rattle.std.specs.Prelude.{Some, None, pos, negsuc}
 use Rattle.mach_types.specs.Bytes.{word_at}
 use Rattle.mach_types.specs.Registers.{register}
@@ -17,9 +17,9 @@ use Rattle.block_model.specs.History.{History, file, stores}
 use Rattle.block_model.specs.Setting.{Setting}
 use Rattle.percpu_lib.specs.Adds.{IsCellApart, cell_at, cell_seen, cell_store}
 use Rattle.percpu_lib.specs.BlockLines.{block_lines}
-use Rattle.percpu_lib.specs.Forms.{Form, HoldsBlock, IsCommitted, placed_of}
-use Rattle.percpu_lib.specs.Uses.{cells_of}
-use Rattle.percpu_lib.specs.Words.{lower, upper}
+use Rattle.percpu_lib.specs.Forms.{AreKept, Form, HoldsBlock, IsCommitted, placed_of}
+use Rattle.percpu_lib.specs.Uses.{form_on_cells}
+use Rattle.percpu_lib.specs.Words.{asking_words}
 use Rattle.percpu_lib.specs.declared.lines.Line.{Line}
 use Rattle.percpu_lib.specs.declared.lines.Line.TheVariants as line
 use Rattle.percpu_lib.specs.declared.slots.Slots.{Slots}
@@ -39,21 +39,14 @@ push_lines p base = block_lines p base 6 [] (push_steps p) []
 -- its words from the retry label on: those of an add block, but for the two behind the load of the head
 abbrev pub push_block : Slots → List (Option Inst)
 push_block p =
-    Some (inst.Lw 5 p.area (pos 0))
-    ∷ Some (inst.Lui 6 (upper p.table))
-    ∷ Some (inst.Addi 6 6 (lower p.table))
-    ∷ Some (inst.Sd p.area 6 (pos 8))
-    ∷ Some (inst.Lw 6 p.area (pos 4))
-    ∷ Some (inst.Bne 6 5 (negsuc 19))
-    ∷ Some (inst.Slli 5 5 6)
-    ∷ Some (inst.Add 5 5 p.cells)
-    ∷ Some (inst.Ld 6 5 (pos 0))
+    asking_words p 19 6
+    (Some (inst.Ld 6 5 (pos 0))
     ∷ Some (inst.Sd p.value 6 (pos 0))
     ∷ Some (inst.Sd 5 p.value (pos 0))
     ∷ Some (inst.Jal 0 (pos 12))
     ∷ None
     ∷ Some (inst.Jal 0 (negsuc 51))
-    ∷ []
+    ∷ [])
 
 -- the address of the node, as thread t has it in its register
 abbrev pub node_of : Setting → Slots → ℕ → History → ℕ
@@ -93,8 +86,7 @@ pub record IsWholePush (s : Setting) (cells node h t : ℕ) (begun reached : His
   pub pushed : cell_seen s h cells reached ≡ Some node
   pub stored : stores h reached
       ≡ stores h begun ++ node_store node (old % 2 ^ 64) ∷ cell_store cells h node ∷ []
-  pub kept : (r : ℕ) → is_scratch r ≡ false
-      → register (file s t reached).file r ≡ register (file s t begun).file r
+  pub kept : AreKept s is_scratch t begun reached
 
 -- a sequence that isn't whole executed no store, or the one to the first word of the node
 pub data StoresNoMore (h node : ℕ) (begun reached : History) : Type 0 where
@@ -107,22 +99,16 @@ pub data StoresNoMore (h node : ℕ) (begun reached : History) : Type 0 where
 pub record IsNoPush (s : Setting) (cells node h t : ℕ) (begun reached : History) : Type 0 where
   pub same : cell_seen s h cells reached ≡ cell_seen s h cells begun
   pub stored : StoresNoMore h node begun reached
-  pub kept : (r : ℕ) → is_scratch r ≡ false
-      → register (file s t reached).file r ≡ register (file s t begun).file r
+  pub kept : AreKept s is_scratch t begun reached
 
 -- the push block
 abbrev pub push_form : Slots → Form
-push_form p = record {
-  slots = p;
-  words = push_block p;
-  first = 4;
-  inside = 7;
-  may = is_scratch;
-  bytes = λ s area h t begun. push_bytes area.at (cells_of s p t begun) h (node_of s p t begun);
-  Apart = λ s area h t begun. IsNodeApart area.at (cells_of s p t begun) h (node_of s p t begun);
-  Whole = λ s h t begun reached. IsWholePush s (cells_of s p t begun) (node_of s p t begun) h t begun reached;
-  Partial = λ s h t begun reached. IsNoPush s (cells_of s p t begun) (node_of s p t begun) h t begun reached;
-}
+push_form p = form_on_cells p (push_block p) 4 7 is_scratch (record {
+  bytes = λ s area cells h t begun. push_bytes area cells h (node_of s p t begun);
+  Apart = λ s area cells h t begun. IsNodeApart area cells h (node_of s p t begun);
+  Whole = λ s cells h t begun. IsWholePush s cells (node_of s p t begun) h t begun;
+  Partial = λ s cells h t begun. IsNoPush s cells (node_of s p t begun) h t begun;
+})
 
 -- the block as it stands in a program; and one that stands in the program of a setting, and is used so in a log
 abbrev pub placed_push : Slots → ℕ → Area → Placed

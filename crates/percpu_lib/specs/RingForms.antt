@@ -1,17 +1,16 @@
 -- The ring blocks as data (own): their words, and the table of what they do.
-use Rattle.std.specs.Prelude.{ℕ, zero, suc, ◌≡◌, ◌≢◌, ◌+◌, ◌-◌, ◌*◌, ◌%◌, ◌^◌, ◌<◌, ◌≤◌, ◌||◌, Bool, false, List, [], ◌∷◌, ◌++◌}
+use Rattle.std.specs.Prelude.{ℕ, zero, suc, ◌≡◌, ◌≢◌, ◌+◌, ◌-◌, ◌*◌, ◌%◌, ◌^◌, ◌<◌, ◌≤◌, ◌||◌, Bool, List, [], ◌∷◌, ◌++◌}
 use Rattle.std.specs.Prelude.{Option, Some, None, pos, negsuc, unwrap_or}
-use Rattle.mach_types.specs.Registers.{register}
 use Rattle.mach_types.specs.declared.user_memory.Store.{Store}
 use Rattle.rv_inst.specs.declared.instruction.Inst.{Inst}
 use Rattle.rv_inst.specs.declared.instruction.Inst.TheVariants as inst
 use Rattle.alone_laws.specs.Blocks.{among}
-use Rattle.block_model.specs.History.{History, file, stores}
+use Rattle.block_model.specs.History.{History, stores}
 use Rattle.block_model.specs.Setting.{Setting}
-use Rattle.percpu_lib.specs.Forms.{Form}
+use Rattle.percpu_lib.specs.Forms.{AreKept, Form}
 use Rattle.percpu_lib.specs.Frees.{value_of}
 use Rattle.percpu_lib.specs.Pushes.{LieBeside, word_seen}
-use Rattle.percpu_lib.specs.Uses.{cells_of}
+use Rattle.percpu_lib.specs.Uses.{form_on_cells}
 use Rattle.percpu_lib.specs.Words.{asking_words, is_changed}
 use Rattle.percpu_lib.specs.declared.slots.Slots.{Slots}
 
@@ -220,51 +219,36 @@ pub record GetsNoMore (s : Setting) (p : Slots) (ring h t count : ℕ) (begun re
 -- whole, and not whole; no other register changed but those that every block may change
 pub record IsWholePut (s : Setting) (p : Slots) (ring h t count : ℕ) (begun reached : History) : Type 0 where
   pub puts : Puts s p ring h t count begun reached
-  pub kept : (r : ℕ) → is_changed p r ≡ false
-      → register (file s t reached).file r ≡ register (file s t begun).file r
+  pub kept : AreKept s (is_changed p) t begun reached
 
 pub record IsNoPut (s : Setting) (p : Slots) (ring h t count : ℕ) (begun reached : History) : Type 0 where
   pub same : IsRingKept s ring h begun reached
   pub stored : PutsNoMore s p ring h t count begun reached
-  pub kept : (r : ℕ) → is_changed p r ≡ false
-      → register (file s t reached).file r ≡ register (file s t begun).file r
+  pub kept : AreKept s (is_changed p) t begun reached
 
 pub record IsWholeGet (s : Setting) (p : Slots) (ring h t count : ℕ) (begun reached : History) : Type 0 where
   pub gets : Gets s p ring h t count begun reached
-  pub kept : (r : ℕ) → is_changed p r ≡ false
-      → register (file s t reached).file r ≡ register (file s t begun).file r
+  pub kept : AreKept s (is_changed p) t begun reached
 
 pub record IsNoGet (s : Setting) (p : Slots) (ring h t count : ℕ) (begun reached : History) : Type 0 where
   pub same : IsRingKept s ring h begun reached
   pub stored : GetsNoMore s p ring h t count begun reached
-  pub kept : (r : ℕ) → is_changed p r ≡ false
-      → register (file s t reached).file r ≡ register (file s t begun).file r
+  pub kept : AreKept s (is_changed p) t begun reached
 
--- the blocks of a count
+-- what the blocks of a count do, but for what became of the ring: a put and a get differ in that alone
+abbrev pub ring_form : Slots → List (Option Inst) → ℕ → (Setting → ℕ → ℕ → ℕ → History → History → Type 0)
+    → (Setting → ℕ → ℕ → ℕ → History → History → Type 0) → Form
+ring_form p words count Whole Partial = form_on_cells p words 5 (13 + 6 * count) (is_changed p) (record {
+  bytes = λ s area rings h t begun. ring_bytes area (ring_at rings h) (value_of s p t begun) count;
+  Apart = λ s area rings h t begun. IsRingApart s area (ring_at rings h) (value_of s p t begun) count h begun;
+  Whole = λ s rings h. Whole s (ring_at rings h) h;
+  Partial = λ s rings h. Partial s (ring_at rings h) h;
+})
+
 abbrev pub ring_put_form : ℕ → Slots → Form
-ring_put_form count p = record {
-  slots = p;
-  words = put_block p count;
-  first = 5;
-  inside = 13 + 6 * count;
-  may = is_changed p;
-  bytes = λ s area h t begun. ring_bytes area.at (ring_at (cells_of s p t begun) h) (value_of s p t begun) count;
-  Apart = λ s area h t begun.
-      IsRingApart s area.at (ring_at (cells_of s p t begun) h) (value_of s p t begun) count h begun;
-  Whole = λ s h t begun reached. IsWholePut s p (ring_at (cells_of s p t begun) h) h t count begun reached;
-  Partial = λ s h t begun reached. IsNoPut s p (ring_at (cells_of s p t begun) h) h t count begun reached;
-}
+ring_put_form count p = ring_form p (put_block p count) count
+    (λ s ring h t. IsWholePut s p ring h t count) (λ s ring h t. IsNoPut s p ring h t count)
 
 abbrev pub ring_get_form : ℕ → Slots → Form
-ring_get_form count p = record {
-  slots = p;
-  words = get_block p count;
-  first = 5;
-  inside = 13 + 6 * count;
-  may = is_changed p;
-  bytes = λ s area h t begun. ring_bytes area.at (ring_at (cells_of s p t begun) h) (value_of s p t begun) count;
-  Apart = λ s area h t begun.
-      IsRingApart s area.at (ring_at (cells_of s p t begun) h) (value_of s p t begun) count h begun;
-  Whole = λ s h t begun reached. IsWholeGet s p (ring_at (cells_of s p t begun) h) h t count begun reached;
-  Partial = λ s h t begun reached. IsNoGet s p (ring_at (cells_of s p t begun) h) h t count begun reached;
-}
+ring_get_form count p = ring_form p (get_block p count) count
+    (λ s ring h t. IsWholeGet s p ring h t count) (λ s ring h t. IsNoGet s p ring h t count)

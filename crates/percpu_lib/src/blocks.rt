@@ -3,15 +3,14 @@
 //! kernel's rseq tests; those that take an item out of a pool and put one in are own.
 
 ghost use Rattle.std.specs.Prelude.{◌≡◌, ◌↔◌, ◌+◌, ◌^◌, ◌<◌, ℕ, Ok, Err, OnOk, IfOk, take};
-ghost use Rattle.percpu_lib.specs.{Adds.add_lines, Allocs.alloc_lines, BlockKinds.kind_of};
-ghost use Rattle.percpu_lib.specs.{BlockLines.IsLabelled, Frees.free_lines, Kinds.lines_of};
+ghost use Rattle.percpu_lib.specs.{BlockKinds.kind_of, BlockLines.IsLabelled};
+ghost use Rattle.percpu_lib.specs.{Kinds.lines_of, Kinds.steps_of, Words.AreSlots};
 ghost use Rattle.percpu_lib.specs.Lines.{AreEmitted, HasRoom};
-ghost use Rattle.percpu_lib.specs.{Pops.pop_lines, Pushes.push_lines, Words.AreSlots};
 
-use crate::block_lines::{block_lines, inst};
+use crate::block_lines::{branch, inst, lines_of_block};
 use crate::fault::EmitFault;
 use crate::lines::{Line, emit_lines};
-use crate::room::{has_room, lower_part, upper_part};
+use crate::room::has_room;
 use crate::slots::Slots;
 use rv_asm::Asm;
 use rv_inst::Inst;
@@ -20,137 +19,83 @@ use std::alloc::{AllocError, Global};
 /// What a block does.
 #[derive(Clone, Copy, Drop)]
 pub enum BlockKind {
-    /// It adds to a cell.
+    /// It adds the value to the cell of its processor.
     Adds,
-    /// It pushes on a list.
+    /// It pushes the node at the value on the list of its processor.
     Pushes,
-    /// It pops off a list.
+    /// It pops the first node off the list of its processor into the value, which is 0 where there is none.
     Pops,
-    /// It takes out of a pool.
+    /// It takes the last item out of the pool of its processor into the value, which is 0 where there is none.
     Allocs,
-    /// It puts into a pool.
+    /// It puts the value behind the items of the pool of its processor and makes it 0, or does nothing where the
+    /// pool is full.
     Frees,
 }
 
-/// The lines of a block that adds the value to the cell of its processor.
-fn lines_of_add(base: u32, slots: Slots) -> [Line; 19]
-    requires slots { AreSlots slots }
-    requires low { slots.table < 0x7FFFF800 }
+/// What a block of a kind does inside.
+fn steps_of_kind(
+    alloc: Global,
+    base: u32,
+    slots: Slots,
+    kind: BlockKind,
+) -> Result<Vec<Line>, AllocError>
     requires fits { base + 8 < 2 ^ 32 }
-    ensures { result ≡ add_lines slots base }
+    ensures { IfOk result (λ lines. lines.items ≡ steps_of (kind_of kind) slots base) }
 {
-    block_lines!(
-        base,
-        slots,
-        first [],
-        shift 6,
-        inside [
-            inst!(Ld rd = 6, rs1 = 5, imm = 0),
-            inst!(Add rd = 6, rs1 = 6, rs2 = slots.value),
-            inst!(Sd rs1 = 5, rs2 = 6, imm = 0)
-        ],
-        aborted []
-    )
-}
-
-/// The lines of a block that pushes the node at the value on the list of its processor.
-fn lines_of_push(base: u32, slots: Slots) -> [Line; 19]
-    requires slots { AreSlots slots }
-    requires low { slots.table < 0x7FFFF800 }
-    requires fits { base + 8 < 2 ^ 32 }
-    ensures { result ≡ push_lines slots base }
-{
-    block_lines!(
-        base,
-        slots,
-        first [],
-        shift 6,
-        inside [
-            inst!(Ld rd = 6, rs1 = 5, imm = 0),
-            inst!(Sd rs1 = slots.value, rs2 = 6, imm = 0),
-            inst!(Sd rs1 = 5, rs2 = slots.value, imm = 0)
-        ],
-        aborted []
-    )
-}
-
-/// The lines of a block that pops the first node off the list of its processor.
-fn lines_of_pop(base: u32, slots: Slots) -> [Line; 20]
-    requires slots { AreSlots slots }
-    requires low { slots.table < 0x7FFFF800 }
-    requires fits { base + 8 < 2 ^ 32 }
-    ensures { result ≡ pop_lines slots base }
-{
-    block_lines!(
-        base,
-        slots,
-        first [],
-        shift 6,
-        inside [
-            inst!(Ld rd = slots.value, rs1 = 5, imm = 0),
-            Line::Branch(Inst::Beq { rs1: slots.value, rs2: 0, imm: 0 }, base + 2),
-            inst!(Ld rd = 6, rs1 = slots.value, imm = 0),
-            inst!(Sd rs1 = 5, rs2 = 6, imm = 0)
-        ],
-        aborted []
-    )
-}
-
-/// The lines of a block that takes the last item out of the pool of its processor.
-fn lines_of_alloc(base: u32, slots: Slots) -> [Line; 24]
-    requires slots { AreSlots slots }
-    requires low { slots.table < 0x7FFFF800 }
-    requires fits { base + 8 < 2 ^ 32 }
-    ensures { result ≡ alloc_lines slots base }
-{
-    block_lines!(
-        base,
-        slots,
-        first [],
-        shift 13,
-        inside [
-            inst!(Ld rd = 6, rs1 = 5, imm = 0),
-            inst!(Addi rd = slots.value, rs1 = 0, imm = 0),
-            Line::Branch(Inst::Beq { rs1: 6, rs2: 0, imm: 0 }, base + 2),
-            inst!(Addi rd = 6, rs1 = 6, imm = -1),
-            inst!(Slli rd = 7, rs1 = 6, shamt = 3),
-            inst!(Add rd = 7, rs1 = 7, rs2 = 5),
-            inst!(Ld rd = slots.value, rs1 = 7, imm = 64),
-            inst!(Sd rs1 = 5, rs2 = 6, imm = 0)
-        ],
-        aborted []
-    )
-}
-
-/// The lines of a block that puts the value behind the items of the pool of its processor.
-fn lines_of_free(base: u32, slots: Slots) -> [Line; 27]
-    requires slots { AreSlots slots }
-    requires low { slots.table < 0x7FFFF800 }
-    requires fits { base + 8 < 2 ^ 32 }
-    ensures { result ≡ free_lines slots base }
-{
-    block_lines!(
-        base,
-        slots,
-        first [
-            inst!(Addi rd = 28, rs1 = slots.value, imm = 0)
-        ],
-        shift 13,
-        inside [
-            inst!(Ld rd = 6, rs1 = 5, imm = 0),
-            inst!(Addi rd = 7, rs1 = 0, imm = 512),
-            Line::Branch(Inst::Beq { rs1: 6, rs2: 7, imm: 0 }, base + 2),
-            inst!(Slli rd = 7, rs1 = 6, shamt = 3),
-            inst!(Add rd = 7, rs1 = 7, rs2 = 5),
-            inst!(Sd rs1 = 7, rs2 = slots.value, imm = 64),
-            inst!(Addi rd = 6, rs1 = 6, imm = 1),
-            inst!(Addi rd = slots.value, rs1 = 0, imm = 0),
-            inst!(Sd rs1 = 5, rs2 = 6, imm = 0)
-        ],
-        aborted [
-            inst!(Addi rd = slots.value, rs1 = 28, imm = 0)
-        ]
-    )
+    match kind {
+        BlockKind::Adds => Vec::from_slice(
+            alloc,
+            &[
+                inst!(Ld rd = 6, rs1 = 5, imm = 0),
+                inst!(Add rd = 6, rs1 = 6, rs2 = slots.value),
+                inst!(Sd rs1 = 5, rs2 = 6, imm = 0),
+            ],
+        ),
+        BlockKind::Pushes => Vec::from_slice(
+            alloc,
+            &[
+                inst!(Ld rd = 6, rs1 = 5, imm = 0),
+                inst!(Sd rs1 = slots.value, rs2 = 6, imm = 0),
+                inst!(Sd rs1 = 5, rs2 = slots.value, imm = 0),
+            ],
+        ),
+        BlockKind::Pops => Vec::from_slice(
+            alloc,
+            &[
+                inst!(Ld rd = slots.value, rs1 = 5, imm = 0),
+                branch!(Beq rs1 = slots.value, rs2 = 0 => base + 2),
+                inst!(Ld rd = 6, rs1 = slots.value, imm = 0),
+                inst!(Sd rs1 = 5, rs2 = 6, imm = 0),
+            ],
+        ),
+        BlockKind::Allocs => Vec::from_slice(
+            alloc,
+            &[
+                inst!(Ld rd = 6, rs1 = 5, imm = 0),
+                inst!(Addi rd = slots.value, rs1 = 0, imm = 0),
+                branch!(Beq rs1 = 6, rs2 = 0 => base + 2),
+                inst!(Addi rd = 6, rs1 = 6, imm = -1),
+                inst!(Slli rd = 7, rs1 = 6, shamt = 3),
+                inst!(Add rd = 7, rs1 = 7, rs2 = 5),
+                inst!(Ld rd = slots.value, rs1 = 7, imm = 64),
+                inst!(Sd rs1 = 5, rs2 = 6, imm = 0),
+            ],
+        ),
+        BlockKind::Frees => Vec::from_slice(
+            alloc,
+            &[
+                inst!(Ld rd = 6, rs1 = 5, imm = 0),
+                inst!(Addi rd = 7, rs1 = 0, imm = 512),
+                branch!(Beq rs1 = 6, rs2 = 7 => base + 2),
+                inst!(Slli rd = 7, rs1 = 6, shamt = 3),
+                inst!(Add rd = 7, rs1 = 7, rs2 = 5),
+                inst!(Sd rs1 = 7, rs2 = slots.value, imm = 64),
+                inst!(Addi rd = 6, rs1 = 6, imm = 1),
+                inst!(Addi rd = slots.value, rs1 = 0, imm = 0),
+                inst!(Sd rs1 = 5, rs2 = 6, imm = 0),
+            ],
+        ),
+    }
 }
 
 /// The lines of a block of a kind.
@@ -160,127 +105,50 @@ fn lines_of_kind(
     slots: Slots,
     kind: BlockKind,
 ) -> Result<Vec<Line>, AllocError>
-    requires slots { AreSlots slots }
     requires low { slots.table < 0x7FFFF800 }
     requires fits { base + 8 < 2 ^ 32 }
     ensures { IfOk result (λ lines. lines.items ≡ lines_of (kind_of kind) slots base) }
 {
+    let steps = steps_of_kind(alloc, base, slots, kind)?;
     match kind {
-        BlockKind::Adds => Vec::from_slice(alloc, &lines_of_add(base, slots)),
-        BlockKind::Pushes => Vec::from_slice(alloc, &lines_of_push(base, slots)),
-        BlockKind::Pops => Vec::from_slice(alloc, &lines_of_pop(base, slots)),
-        BlockKind::Allocs => Vec::from_slice(alloc, &lines_of_alloc(base, slots)),
-        BlockKind::Frees => Vec::from_slice(alloc, &lines_of_free(base, slots)),
+        BlockKind::Adds => lines_of_block(alloc, base, slots, 6, &[], &steps, &[]),
+        BlockKind::Pushes => lines_of_block(alloc, base, slots, 6, &[], &steps, &[]),
+        BlockKind::Pops => lines_of_block(alloc, base, slots, 6, &[], &steps, &[]),
+        BlockKind::Allocs => lines_of_block(alloc, base, slots, 13, &[], &steps, &[]),
+        BlockKind::Frees => {
+            let kept = [inst!(Addi rd = 28, rs1 = slots.value, imm = 0)];
+            let back = [inst!(Addi rd = slots.value, rs1 = 28, imm = 0)];
+            lines_of_block(alloc, base, slots, 13, &kept, &steps, &back)
+        }
     }
 }
 
-/// Appends a block of a kind; labels, `Room` and `NoMemory` are as those of `emit_add`.
-fn emit_kind(
-    alloc: Global,
-    asm: &mut Asm,
-    base: u32,
-    slots: Slots,
-    kind: BlockKind,
-) -> Result<(), EmitFault>
-    requires slots { AreSlots slots }
-    requires low { slots.table < 0x7FFFF800 }
-    ensures room { (result ≡ Err EmitFault.Room) ↔ (HasRoom asm.old.labels base → ⊥) }
-    ensures refused { result ≡ Err EmitFault.Room → asm.new ≡ asm.old }
-    ensures ok { OnOk result (AreEmitted (lines_of (kind_of kind) slots base) asm.old asm.new) }
-    ensures labelled { OnOk result (IsLabelled base asm.new) }
-    ensures memory { result ≡ Err EmitFault.NoMemory
-        → (n : ℕ) × AreEmitted (take n (lines_of (kind_of kind) slots base)) asm.old asm.new }
-{
-    if !has_room(asm, base) {
-        return Err(EmitFault::Room);
-    }
-    let lines = lines_of_kind(alloc, base, slots, kind)?;
-    emit_lines(asm, &lines)?;
-    Ok(())
-}
-
-/// Appends a block that adds the value to the cell of its processor.
+/// Appends a block of a kind.
 ///
 /// Labels: `base` is the retry label, `base + 1` the start, `base + 2` the post-commit address, `base + 3`
 /// the abort address, and `base + 4` stands behind the block; `base + 5` to `base + 7` stay free. `Room`
 /// exactly where one of the eight isn't free, and then nothing changes. `NoMemory` leaves the lines that were
 /// appended before.
-pub fn emit_add(alloc: Global, asm: &mut Asm, base: u32, slots: &Slots) -> Result<(), EmitFault>
+pub fn emit_block(
+    alloc: Global,
+    asm: &mut Asm,
+    base: u32,
+    slots: &Slots,
+    kind: BlockKind,
+) -> Result<(), EmitFault>
     requires slots { AreSlots slots.now }
     requires low { slots.now.table < 0x7FFFF800 }
     ensures room { (result ≡ Err EmitFault.Room) ↔ (HasRoom asm.old.labels base → ⊥) }
     ensures refused { result ≡ Err EmitFault.Room → asm.new ≡ asm.old }
-    ensures ok { OnOk result (AreEmitted (add_lines slots.now base) asm.old asm.new) }
+    ensures ok { OnOk result (AreEmitted (lines_of (kind_of kind) slots.now base) asm.old asm.new) }
     ensures labelled { OnOk result (IsLabelled base asm.new) }
     ensures memory { result ≡ Err EmitFault.NoMemory
-        → (n : ℕ) × AreEmitted (take n (add_lines slots.now base)) asm.old asm.new }
+        → (n : ℕ) × AreEmitted (take n (lines_of (kind_of kind) slots.now base)) asm.old asm.new }
 {
-    emit_kind(alloc, asm, base, *slots, BlockKind::Adds)
-}
-
-/// Appends a block that pushes the node at the value on the list of its processor.
-///
-/// Labels, `Room` and `NoMemory` are as those of `emit_add`.
-pub fn emit_push(alloc: Global, asm: &mut Asm, base: u32, slots: &Slots) -> Result<(), EmitFault>
-    requires slots { AreSlots slots.now }
-    requires low { slots.now.table < 0x7FFFF800 }
-    ensures room { (result ≡ Err EmitFault.Room) ↔ (HasRoom asm.old.labels base → ⊥) }
-    ensures refused { result ≡ Err EmitFault.Room → asm.new ≡ asm.old }
-    ensures ok { OnOk result (AreEmitted (push_lines slots.now base) asm.old asm.new) }
-    ensures labelled { OnOk result (IsLabelled base asm.new) }
-    ensures memory { result ≡ Err EmitFault.NoMemory
-        → (n : ℕ) × AreEmitted (take n (push_lines slots.now base)) asm.old asm.new }
-{
-    emit_kind(alloc, asm, base, *slots, BlockKind::Pushes)
-}
-
-/// Appends a block that pops the first node off the list of its processor into the value, which is 0 where
-/// there is none.
-///
-/// Labels, `Room` and `NoMemory` are as those of `emit_add`.
-pub fn emit_pop(alloc: Global, asm: &mut Asm, base: u32, slots: &Slots) -> Result<(), EmitFault>
-    requires slots { AreSlots slots.now }
-    requires low { slots.now.table < 0x7FFFF800 }
-    ensures room { (result ≡ Err EmitFault.Room) ↔ (HasRoom asm.old.labels base → ⊥) }
-    ensures refused { result ≡ Err EmitFault.Room → asm.new ≡ asm.old }
-    ensures ok { OnOk result (AreEmitted (pop_lines slots.now base) asm.old asm.new) }
-    ensures labelled { OnOk result (IsLabelled base asm.new) }
-    ensures memory { result ≡ Err EmitFault.NoMemory
-        → (n : ℕ) × AreEmitted (take n (pop_lines slots.now base)) asm.old asm.new }
-{
-    emit_kind(alloc, asm, base, *slots, BlockKind::Pops)
-}
-
-/// Appends a block that takes the last item out of the pool of its processor into the value, which is 0 where
-/// there is none.
-///
-/// Labels, `Room` and `NoMemory` are as those of `emit_add`.
-pub fn emit_alloc(alloc: Global, asm: &mut Asm, base: u32, slots: &Slots) -> Result<(), EmitFault>
-    requires slots { AreSlots slots.now }
-    requires low { slots.now.table < 0x7FFFF800 }
-    ensures room { (result ≡ Err EmitFault.Room) ↔ (HasRoom asm.old.labels base → ⊥) }
-    ensures refused { result ≡ Err EmitFault.Room → asm.new ≡ asm.old }
-    ensures ok { OnOk result (AreEmitted (alloc_lines slots.now base) asm.old asm.new) }
-    ensures labelled { OnOk result (IsLabelled base asm.new) }
-    ensures memory { result ≡ Err EmitFault.NoMemory
-        → (n : ℕ) × AreEmitted (take n (alloc_lines slots.now base)) asm.old asm.new }
-{
-    emit_kind(alloc, asm, base, *slots, BlockKind::Allocs)
-}
-
-/// Appends a block that puts the value behind the items of the pool of its processor and makes it 0, or does
-/// nothing where the pool is full.
-///
-/// Labels, `Room` and `NoMemory` are as those of `emit_add`.
-pub fn emit_free(alloc: Global, asm: &mut Asm, base: u32, slots: &Slots) -> Result<(), EmitFault>
-    requires slots { AreSlots slots.now }
-    requires low { slots.now.table < 0x7FFFF800 }
-    ensures room { (result ≡ Err EmitFault.Room) ↔ (HasRoom asm.old.labels base → ⊥) }
-    ensures refused { result ≡ Err EmitFault.Room → asm.new ≡ asm.old }
-    ensures ok { OnOk result (AreEmitted (free_lines slots.now base) asm.old asm.new) }
-    ensures labelled { OnOk result (IsLabelled base asm.new) }
-    ensures memory { result ≡ Err EmitFault.NoMemory
-        → (n : ℕ) × AreEmitted (take n (free_lines slots.now base)) asm.old asm.new }
-{
-    emit_kind(alloc, asm, base, *slots, BlockKind::Frees)
+    if !has_room(asm, base) {
+        return Err(EmitFault::Room);
+    }
+    let lines = lines_of_kind(alloc, base, *slots, kind)?;
+    emit_lines(asm, &lines)?;
+    Ok(())
 }

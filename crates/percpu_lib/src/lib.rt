@@ -24,7 +24,7 @@ pub use block_theorems::{
     blocks_work_once_or_not_at_all, files_hold_block, finished_code_holds_block,
     labels_of_blocks_are_those_of_their_sequences, retries_work_on_the_value,
 };
-pub use blocks::{emit_add, emit_alloc, emit_free, emit_pop, emit_push};
+pub use blocks::{BlockKind, emit_block};
 pub use fault::EmitFault;
 pub use lines::{Line, emit_lines};
 pub use ring_theorems::{
@@ -33,7 +33,7 @@ pub use ring_theorems::{
     rings_are_done, rings_are_of_the_library, rings_are_signed, rings_begin_outside,
     rings_keep_registers, rings_that_commit_are_left, rings_work_once_or_not_at_all,
 };
-pub use rings::{emit_ring_get, emit_ring_put};
+pub use rings::{RingWay, emit_ring};
 pub use slots::Slots;
 pub use theorems::{
     aborted_adds_begin_anew, add_blocks_are_used, add_keeps_registers, adds_are_done,

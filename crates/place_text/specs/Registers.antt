@@ -19,6 +19,10 @@ register_names =
 abbrev pub register_name : ℕ → List ℕ
 register_name n = get_or register_names n []
 
+-- the fields of register n: `xN`, and its name
+abbrev pub register_fields : ℕ → List (List ℕ)
+register_fields n = (codes "x" ++ decimal n) ∷ register_name n ∷ []
+
 -- `hart H xN NAME VALUE`
 abbrev pub register_line : ℕ → Regs → ℕ → List ℕ
 register_line h file n =

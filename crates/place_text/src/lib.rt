@@ -6,6 +6,7 @@ mod choices;
 mod ends;
 pub mod fields;
 mod harts;
+mod line_end;
 mod memory;
 mod place;
 mod registers;
@@ -13,7 +14,8 @@ mod sequences;
 mod threads;
 
 pub use ends::{push_end, push_number_line};
+pub use line_end::LineEnd;
 pub use memory::push_memory;
 pub use place::place_text;
-pub use registers::register_name;
+pub use registers::put_register;
 pub use sequences::bad_word;

@@ -1,16 +1,18 @@
 //! The registers of a hart.
 
-ghost use Rattle.std.specs.Prelude.{◌≡◌, ◌<◌, ◌++◌, OnOk};
-ghost use Rattle.place_text.specs.Registers.{register_line, register_lines, register_name};
+ghost use Rattle.std.specs.Prelude.{◌≡◌, ◌+◌, ◌<◌, ◌≤◌, ◌++◌, OnOk, length};
+ghost use Rattle.place_text.specs.Fields.{behind};
+ghost use Rattle.place_text.specs.Registers.{register_fields, register_line, register_lines, register_name};
 
-use crate::fields::{begin_line, push_decimal, push_value, push_word};
+use crate::line_end::LineEnd;
 use mach_types::{Hart, Regs};
 use std::alloc::AllocError;
 
 /// The name of a register in the calling convention; none, where there is no such register.
 #[tactic(auto, unfolding(crate::specs::Registers::register_names))]
-pub fn register_name(number: u8) -> &'static [u8]
-    ensures { result.now ≡ register_name number }
+fn register_name(number: u8) -> &'static [u8]
+    ensures name { result.now ≡ register_name number }
+    ensures short { length result.now ≤ 4 }
 {
     if number > 31 {
         return b"";
@@ -51,18 +53,30 @@ pub fn register_name(number: u8) -> &'static [u8]
     }
 }
 
+/// Puts the fields of a register before the end of a line: `x` with its number, and its name in the calling convention, each behind a
+/// space. The name is empty where there is no such register.
+pub fn put_register(line: &mut LineEnd, number: u8)
+    requires { length line.old ≤ 90 }
+    ensures text { line.new ≡ behind (register_fields number) ++ line.old }
+    ensures length { length line.new ≤ length line.old + 27 }
+{
+    line.put(register_name(number));
+    line.put(b" ");
+    line.put_decimal(u64::from(number));
+    line.put(b" x");
+}
+
 /// Appends the line of a register.
 fn push_register(text: &mut Vec<u8>, hart: Hart, file: &Regs, number: u8) -> Result<(), AllocError>
     requires { number < 32 }
     ensures { OnOk result (text.new.items ≡ text.old.items ++ register_line hart.0 file.now number) }
 {
-    begin_line(text, b"hart", u64::from(hart.0))?;
-    text.extend_from_slice(b" x")?;
-    push_decimal(text, u64::from(number))?;
-    push_word(text, register_name(number))?;
-    push_value(text, file.get(number))?;
-    text.push(b'\n')?;
-    Ok(())
+    let mut line = LineEnd::newline();
+    line.put_value(file.get(number));
+    put_register(&mut line, number);
+    line.put_number(u64::from(hart.0));
+    line.put(b"hart");
+    line.append_to(text)
 }
 
 /// Appends a line for each register.

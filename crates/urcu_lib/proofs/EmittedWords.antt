@@ -1,83 +1,25 @@
--- Finished code holds the instructions of the blocks where their lines were appended, and a machine that runs
--- the image of a file in which the code stands fetches them.
-use Rattle.std.proofs.Common.{◌≡◌, ℕ, zero, suc, ◌+◌, ◌*◌, List, [], ◌∷◌, ◌++◌, length, length-append}
+-- The words of the sync block are those of its lines.
+use Rattle.std.proofs.Common.{◌≡◌, ℕ, ◌+◌, List, [], ◌∷◌, ◌++◌, length, length-append}
 use Rattle.std.proofs.Common.{slice_get, refl, ap, ◌∙◌}
-use Rattle.std.proofs.Common.{arith, Option, Some, None, get_or, ℤ, pos}
-use Rattle.std.proofs.Common.{negsuc, ◌-ℤ◌}
-use Rattle.std.specs.Option.{option_map}
-use Rattle.std.proofs.lemmas.Int.{ints}
-use Rattle.std.proofs.lemmas.Option.{slice_get-get_or, slice_get_within}
-use Rattle.elf_load.specs.Images.{IsImage}
-use Rattle.elf_load.specs.declared.image.Image.{Image}
-use Rattle.rv_asm.specs.Assembly.{AreAssembled, Assembly, aimed, distance, index_of}
+use Rattle.std.proofs.Common.{arith, Option, Some, None, pos}
+use Rattle.std.proofs.Common.{negsuc}
+use Rattle.rv_asm.specs.Assembly.{Assembly, index_of}
 use Rattle.rv_asm.specs.declared.item.Item.{Item}
 use Rattle.rv_asm.specs.declared.item.Item.TheVariants as item
 use Rattle.rv_inst.specs.Table.{row_of}
 use Rattle.rv_inst.specs.declared.instruction.Inst.{Inst}
 use Rattle.rv_inst.specs.declared.instruction.Inst.TheVariants as inst
-use Rattle.block_model.specs.Instruction.{instruction_of}
-use Rattle.alone_laws.specs.Spans.{code_of}
-use Rattle.percpu_lib.specs.Files.{HoldsCode}
 use Rattle.percpu_lib.specs.Lines.{AreEmitted, IsContinued, IsEmitted, instructions, with_item}
 use Rattle.percpu_lib.specs.Lines.{with_label}
-use Rattle.percpu_lib.specs.Words.{AreHeld}
 use Rattle.percpu_lib.specs.declared.lines.Line.{Line}
 use Rattle.percpu_lib.specs.declared.lines.Line.TheVariants as line
-use Rattle.percpu_lib.proofs.FileCode.{word_fetched}
-use Rattle.percpu_lib.proofs.HeldWords.{FindsItem, items_held, labelled_items}
+use Rattle.percpu_lib.proofs.HeldWords.{labelled_items}
+use Rattle.percpu_lib.proofs.KindWords.{back, branch_is, forth}
 use Rattle.percpu_lib.proofs.Labels.{index_is, keeps, label_own}
 use Rattle.percpu_lib.proofs.Labels.{label_other}
 use Rattle.urcu_lib.specs.Blocks.{sync_block}
 use Rattle.urcu_lib.specs.Lines.{AreFree, sync_lines}
 use Rattle.urcu_lib.specs.declared.regs.SyncRegs.{SyncRegs}
-
--- LINES WHOSE INSTRUCTIONS ARE KNOWN
-
--- an item stays where it is when others are appended
-still_there : (xs ys : List Item) (n : ℕ) (x : Item) → slice_get xs n ≡ Some x
-    → slice_get (xs ++ ys) n ≡ Some x
-still_there [] ys n x is = absurd cc
-still_there (y ∷ xs) ys zero x is = is
-still_there (y ∷ xs) ys (suc n) x is = still_there xs ys n x is
-
-module _ (lines : List Line) (block : List (Option Inst)) (a b c : Assembly) (is : AreEmitted lines a b)
-    (more : IsContinued b c)
-    (same : instructions c.labels (length a.items) lines ≡ block) where
-  module _ (bytes : List ℕ) (code : AreAssembled c.labels c.items bytes) (k : ℕ) (i : Inst)
-      (at : slice_get block k ≡ Some (Some i)) where
-    found : FindsItem c.labels b.items (length a.items + k) i
-    found = items_held c.labels lines a b k i is.are
-        (ap (λ (xs : List (Option Inst)). slice_get xs k) same ∙ at)
-
-    entry_there : slice_get c.items (length a.items + k) ≡ Some found.entry
-    entry_there =
-        ap (λ (ys : List Item). slice_get ys (length a.items + k)) more.items
-        ∙ still_there b.items more.later (length a.items + k) found.entry found.there
-
-    held : (w : ℕ) → slice_get code.words (length a.items + k) ≡ Some w → row_of w ≡ Some i
-    held w word = found.is w (code.each (length a.items + k) found.entry w entry_there word)
-
-    some_word : (w : ℕ) × (slice_get code.words (length a.items + k) ≡ Some w)
-    some_word =
-        let within = slice_get_within c.items (length a.items + k) found.entry entry_there in
-        let many = code.count in (
-          get_or code.words (length a.items + k) 0,
-          slice_get-get_or code.words (length a.items + k) 0 (omega (arith, many)),
-        )
-
-  pub file_holds : (file : List ℕ) (image : Image) (from : ℕ) (bytes : List ℕ) → IsImage file image
-      → AreAssembled c.labels c.items bytes
-      → HoldsCode file from bytes → AreHeld (code_of image.pages.items) (from + 4 * length a.items) block
-  file_holds file image from bytes its code holds = record {
-    holds = λ k i at.
-        let some = some_word bytes code k i at in
-        let place : from + 4 * length a.items + 4 * k ≡ from + 4 * (length a.items + k) = omega arith in
-        ap (code_of image.pages.items) place
-        ∙ ap instruction_of
-        (word_fetched file image its from bytes holds c.labels c.items code
-        (length a.items + k) some.0 some.1)
-        ∙ held bytes code k i at some.0 some.1;
-  }
 
 -- LABELS OF THE SYNC BLOCK
 
@@ -111,27 +53,7 @@ behind (i ∷ xs) ys a c is =
       rest = old.rest;
     }
 
--- DISTANCES
-
-forth_8 : (m k : ℕ) → k ≡ m + 2 → pos (4 * k) -ℤ pos (4 * m) ≡ pos 8
-forth_8 m k far = by_sign (pos (4 * k) -ℤ pos (4 * m)) refl
-  where
-    by_sign : (z : ℤ) → z ≡ pos (4 * k) -ℤ pos (4 * m) → z ≡ pos 8
-    by_sign (pos j) is = ap pos (omega (arith, ints))
-    by_sign (negsuc j) is = absurd (omega (arith, ints))
-
-back : (n m j : ℕ) → 4 * m ≡ 4 * n + (j + 1) → pos (4 * n) -ℤ pos (4 * m) ≡ negsuc j
-back n m j from = by_sign (pos (4 * n) -ℤ pos (4 * m)) refl
-  where
-    by_sign : (z : ℤ) → z ≡ pos (4 * n) -ℤ pos (4 * m) → z ≡ negsuc j
-    by_sign (pos i) is = absurd (omega (arith, ints))
-    by_sign (negsuc i) is = ap negsuc (omega (arith, ints))
-
-branch_is : (labels : List (Option ℕ)) (j i : Inst) (m l to : ℕ) (z : ℤ) → index_of labels l ≡ Some to
-    → distance m to ≡ z → aimed j z ≡ i
-    → option_map (λ n. aimed j (distance m n)) (index_of labels l) ≡ Some i
-branch_is labels j i m l to z bound far is =
-    ap (option_map (λ n. aimed j (distance m n))) bound ∙ ap (λ d. Some (aimed j d)) far ∙ ap Some is
+-- ITS WORDS
 
 module _ (r : SyncRegs) (base readers : ℕ) where
   pub sync_instructions : (n : ℕ) (labels : List (Option ℕ)) → index_of labels base ≡ Some (n + 10)
@@ -143,11 +65,11 @@ module _ (r : SyncRegs) (base readers : ℕ) where
       let twelve = eleven + 1 in
       let fifteen = twelve + 1 + 1 + 1 in
       let one = branch_is labels (inst.Beq 10 0 (pos 0)) (inst.Beq 10 0 (pos 8)) eleven (base + 1) (n + 13)
-      (pos 8) next (forth_8 eleven (n + 13) (omega arith)) refl in
+      (pos 8) next (forth (n + 13) eleven 2 8 (omega arith) refl) refl in
       let two = branch_is labels (inst.Bltu 10 5 (pos 0)) (inst.Bltu 10 5 (negsuc 7)) twelve base (n + 10)
-      (negsuc 7) loop (back (n + 10) twelve 7 (omega arith)) refl in
+      (negsuc 7) loop (back (n + 10) twelve 2 7 (omega arith) refl) refl in
       let three = branch_is labels (inst.Bne 7 0 (pos 0)) (inst.Bne 7 0 (negsuc 19)) fifteen base (n + 10)
-      (negsuc 19) loop (back (n + 10) fifteen 19 (omega arith)) refl in
+      (negsuc 19) loop (back (n + 10) fifteen 5 19 (omega arith) refl) refl in
       cc
 
   abbrev before_loop : List Inst

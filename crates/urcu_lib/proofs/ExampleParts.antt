@@ -1,7 +1,7 @@
 -- What worked logs of readers have in common: lines and entries, a script that is played in parts, and blocks
 -- and a start that are as they should be where tests find so.
 use Rattle.std.proofs.Common.{◌≡◌, ℕ, suc, zero, ◌+◌, ◌*◌, ◌^◌, ◌<◌, ◌≤◌, List, [], ◌∷◌, ◌++◌, refl, ap, ◌∙◌}
-use Rattle.std.proofs.Common.{fold, replicate, subst, arith, true, false, not, ◌&&◌, Bool, eqb, leb, ltb, None, Some}
+use Rattle.std.proofs.Common.{fold, replicate, subst, arith, true, false, not, ◌&&◌, Bool, cond, eqb, leb, ltb, Option, None, Some}
 use Rattle.std.proofs.Common.{Result, slice_get, inl}
 use Rattle.std.proofs.lemmas.Bool.{and_parts, eqb-false, leb-true, ltb-true, not-true}
 use Rattle.elf_load.specs.declared.image.ImagePage.{ImagePage}
@@ -11,10 +11,12 @@ use Rattle.mach_types.specs.declared.events.Choice.TheVariants as asked
 use Rattle.mach_types.specs.declared.events.Entry.{Entry}
 use Rattle.mach_types.specs.declared.events.Kind.{Kind}
 use Rattle.mach_types.specs.declared.events.Kind.TheVariants as kinds
+use Rattle.rv_inst.specs.declared.instruction.Inst.{Inst}
 use Rattle.block_model.specs.History.{byte}
 use Rattle.block_model.specs.Replay.{Ask, play_line}
 use Rattle.block_model.specs.Setting.{Setting}
 use Rattle.alone_laws.specs.Spans.{code_of}
+use Rattle.percpu_lib.specs.Words.{AreHeld}
 use Rattle.percpu_lib.proofs.ExampleParts.{AreThere, word_is}
 use Rattle.urcu_lib.specs.Blocks.{AreBlocks, lock_block, sync_block, unlock_block}
 use Rattle.urcu_lib.specs.Registers.{AreReadRegs, AreSyncRegs, IsRegister}
@@ -81,6 +83,18 @@ is_sound x =
     && (leb x.readers 63
     && (leb (x.slots + 64 * x.readers) (2 ^ 64) && leb (x.counter + 8) x.slots))
 
+-- a block of some registers that stands at the one place for it
+held_at : {R : Type 0} (pages : List ImagePage) (block : R → List (Option Inst)) (p : ℕ) (v : R)
+    → AreThere (code_of pages) p (block v) → (at : ℕ) (r : R) → cond (eqb at p) (Some v) None ≡ Some r
+    → AreHeld (code_of pages) at (block r)
+held_at pages block p v there at r is =
+    let its = only at p v r is in
+    record {
+      holds = λ k i here.
+          ap (λ n. code_of pages (n + 4 * k)) its.0
+          ∙ word_is (code_of pages) (block v) p there k i (ap (λ q. slice_get (block q) k) its.1 ∙ here);
+    }
+
 -- the blocks of a layout are as they should be where their words stand there
 pub blocks_so : (pages : List ImagePage) (x : Layout) → are_low pages ≡ true → is_sound x ≡ true
     → AreReadRegs x.lock → AreReadRegs x.unlock → AreSyncRegs x.sync
@@ -94,27 +108,9 @@ blocks_so pages x low sound lock_regs unlock_regs sync_regs lock_there unlock_th
     let high : x.slots + 64 * x.readers ≤ 2 ^ 64 = leb-true (x.slots + 64 * x.readers) (2 ^ 64) three.0 in
     let front : x.counter + 8 ≤ x.slots = leb-true (x.counter + 8) x.slots three.1 in
     record {
-      locks = λ at r is.
-          let its = only at x.lock_at x.lock r is in
-          record {
-            holds = λ k i there. ap (λ n. code_of pages (n + 4 * k)) its.0
-                ∙ word_is (code_of pages) (lock_block x.lock) x.lock_at lock_there k i
-                (ap (λ q. slice_get (lock_block q) k) its.1 ∙ there);
-          };
-      unlocks = λ at r is.
-          let its = only at x.unlock_at x.unlock r is in
-          record {
-            holds = λ k i there. ap (λ n. code_of pages (n + 4 * k)) its.0
-                ∙ word_is (code_of pages) (unlock_block x.unlock) x.unlock_at unlock_there k i
-                (ap (λ q. slice_get (unlock_block q) k) its.1 ∙ there);
-          };
-      syncs = λ at r is.
-          let its = only at x.sync_at x.sync r is in
-          record {
-            holds = λ k i there. ap (λ n. code_of pages (n + 4 * k)) its.0
-                ∙ word_is (code_of pages) (sync_block x.sync x.readers) x.sync_at sync_there k i
-                (ap (λ q. slice_get (sync_block q x.readers) k) its.1 ∙ there);
-          };
+      locks = held_at pages lock_block x.lock_at x.lock lock_there;
+      unlocks = held_at pages unlock_block x.unlock_at x.unlock unlock_there;
+      syncs = held_at pages (λ q. sync_block q x.readers) x.sync_at x.sync sync_there;
       low = code_low pages (low_is pages low);
       lock_regs = λ at r is. subst AreReadRegs (only at x.lock_at x.lock r is).1 lock_regs;
       unlock_regs = λ at r is. subst AreReadRegs (only at x.unlock_at x.unlock r is).1 unlock_regs;

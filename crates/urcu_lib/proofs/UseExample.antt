@@ -2,7 +2,7 @@
 -- reader's lock has stored the counter in its slot, but the store waits, when the first thread calls
 -- membarrier in a sync block. The store enters memory before the call returns; the sync block finds it there
 -- twice, then finds 0, and ends. The program uses the blocks as HoldsUrcu asks.
-use Rattle.std.proofs.Common.{◌≡◌, ℕ, List, [], ◌∷◌, ◌++◌, refl}
+use Rattle.std.proofs.Common.{◌≡◌, ℕ, ◌<◌, List, [], ◌∷◌, ◌++◌, refl, arith}
 use Rattle.std.proofs.Common.{true, Ok}
 use Rattle.std.proofs.lemmas.Bool.{eqb-false, ltb-true}
 use Rattle.mach_types.specs.Kernel.Barriers.{asked as command_asked}
@@ -165,26 +165,16 @@ sync_there = (
   ),
 )
 
-kept_8 : IsKept 8
-kept_8 = record {
-  not_5 = eqb-false 8 5 refl;
-  not_6 = eqb-false 8 6 refl;
-  not_7 = eqb-false 8 7 refl;
-  not_10 = eqb-false 8 10 refl;
-  not_11 = eqb-false 8 11 refl;
-  not_12 = eqb-false 8 12 refl;
-  not_17 = eqb-false 8 17 refl;
-}
-
-kept_9 : IsKept 9
-kept_9 = record {
-  not_5 = eqb-false 9 5 refl;
-  not_6 = eqb-false 9 6 refl;
-  not_7 = eqb-false 9 7 refl;
-  not_10 = eqb-false 9 10 refl;
-  not_11 = eqb-false 9 11 refl;
-  not_12 = eqb-false 9 12 refl;
-  not_17 = eqb-false 9 17 refl;
+-- x8 and x9 are none of the registers that the sync block changes
+kept : (r : ℕ) → 7 < r → r < 10 → IsKept r
+kept r above below = record {
+  not_5 = λ same. omega arith;
+  not_6 = λ same. omega arith;
+  not_7 = λ same. omega arith;
+  not_10 = λ same. omega arith;
+  not_11 = λ same. omega arith;
+  not_12 = λ same. omega arith;
+  not_17 = λ same. omega arith;
 }
 
 pub are_sync : AreSyncRegs sync_regs
@@ -192,8 +182,8 @@ are_sync = record {
   gp = is_register 8 refl (ltb-true 8 32 refl);
   slots = is_register 9 refl (ltb-true 9 32 refl);
   gp_slots = eqb-false 8 9 refl;
-  gp_kept = kept_8;
-  slots_kept = kept_9;
+  gp_kept = kept 8 (omega arith) (omega arith);
+  slots_kept = kept 9 (omega arith) (omega arith);
 }
 
 blocks : AreBlocks (code_of reading.program.pages) (urcu_of layout)

@@ -6,14 +6,12 @@
 //! holds a number that isn't below the new counter.
 #![tactic(auto)]
 
-mod fault;
 mod lines;
 mod reads;
 mod regs;
 mod syncs;
 mod theorems;
 
-pub use fault::RcuFault;
 pub use reads::{emit_read_lock, emit_read_unlock};
 pub use regs::{ReadRegs, SyncRegs};
 pub use syncs::emit_sync;

@@ -7,10 +7,9 @@ ghost use Rattle.percpu_lib.specs.Lines.{AreEmitted};
 ghost use Rattle.urcu_lib.specs.Lines.{AreFree, sync_lines};
 ghost use Rattle.urcu_lib.specs.Registers.{AreSyncRegs};
 
-use crate::fault::RcuFault;
 use crate::lines::{branch, inst};
 use crate::regs::SyncRegs;
-use percpu_lib::{Line, emit_lines};
+use percpu_lib::{EmitFault, Line, emit_lines};
 use rv_asm::Asm;
 use rv_inst::Inst;
 use std::alloc::Global;
@@ -68,18 +67,18 @@ pub fn emit_sync(
     base: u32,
     regs: &SyncRegs,
     readers: u8,
-) -> Result<(), RcuFault>
+) -> Result<(), EmitFault>
     requires regs { AreSyncRegs regs.now }
     requires some { 1 ≤ readers }
     requires few { readers ≤ 63 }
-    ensures room { (result ≡ Err RcuFault.Room) ↔ (AreFree asm.old.labels base → ⊥) }
-    ensures refused { result ≡ Err RcuFault.Room → asm.new ≡ asm.old }
+    ensures room { (result ≡ Err EmitFault.Room) ↔ (AreFree asm.old.labels base → ⊥) }
+    ensures refused { result ≡ Err EmitFault.Room → asm.new ≡ asm.old }
     ensures ok { OnOk result (AreEmitted (sync_lines regs.now base readers) asm.old asm.new) }
-    ensures memory { result ≡ Err RcuFault.NoMemory
+    ensures memory { result ≡ Err EmitFault.NoMemory
         → (n : ℕ) × AreEmitted (take n (sync_lines regs.now base readers)) asm.old asm.new }
 {
     if !are_free(asm, base) {
-        return Err(RcuFault::Room);
+        return Err(EmitFault::Room);
     }
     let lines = lines_of_sync(base, *regs, readers);
     emit_lines(asm, &lines)?;

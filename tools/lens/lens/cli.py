@@ -3,9 +3,10 @@ from __future__ import annotations
 
 import argparse
 import gc
-import json
+import itertools
 import sys
 from collections.abc import Iterable
+from dataclasses import replace
 from pathlib import Path
 
 from .arguments import add_program, limits_of, positive
@@ -21,15 +22,17 @@ from .program import Program
 from .races import list_races
 from .scripts import Lines, first_unreadable, read_lines
 from .sequences import list_sequences
+from .shown_memory import asked, ranges_of, with_names
 from .shrinking import shrink
 from .steering import steer
 from .subjects import SEQUENCES, WORDS, steps_about
-from .trace import make_trace
+from .trace import trace_text
 from .traced_calls import list_traced_calls
 from .values import Values, read_values
 from .watching import watch
 
 FAULT_STATUS = 2
+ROWS_AT_ONCE = 1_000
 
 
 def make_parser() -> argparse.ArgumentParser:
@@ -81,6 +84,7 @@ def add_list(commands) -> None:
 def add_trace(commands) -> None:
     command = commands.add_parser('trace', help='a trace for ui.perfetto.dev or chrome://tracing')
     add_run_and_elf(command)
+    add_values(command, 'what each step read and wrote, and which store a load saw')
     add_out(command, 'FILE.json')
     command.set_defaults(action=trace_command)
 
@@ -155,6 +159,13 @@ def add_play(commands) -> None:
 def add_inspect(commands) -> None:
     command = commands.add_parser('inspect', help='what the program\'s inspect prints, of an output text too')
     add_lines(command)
+    command.add_argument(
+        '--memory',
+        action='append',
+        default=[],
+        metavar='NAME[+OFF][:SIZE]',
+        help='what memory holds there, by name; several times for several places',
+    )
     command.set_defaults(action=inspect_command)
 
 
@@ -270,6 +281,13 @@ def write_out(path: str | None, parts: Iterable[str]) -> None:
         raise LensFault(f'{path or "standard output"}: {error.strerror}') from None
 
 
+def write_rows(rows: Iterable[str]) -> None:
+    """Writes lines, some at once."""
+    left = iter(rows)
+    pieces = iter(lambda: list(itertools.islice(left, ROWS_AT_ONCE)), [])
+    write_out(None, ('\n'.join([*piece, '']) for piece in pieces))
+
+
 def list_command(arguments: argparse.Namespace) -> None:
     history = read_history(arguments)
     for number in (arguments.around, arguments.first, arguments.last):
@@ -284,7 +302,7 @@ def list_command(arguments: argparse.Namespace) -> None:
         chosen_steps(history, arguments),
     )
     values = read_values(history, machine_of(arguments)) if arguments.values else None
-    write_out(None, (f'{line}\n' for line in list_run(history, chosen, values)))
+    write_rows(list_run(history, chosen, values))
 
 
 def chosen_steps(history: History, arguments: argparse.Namespace) -> set[int] | None:
@@ -302,7 +320,9 @@ def check_step(output: Output, number: int | None) -> None:
 
 
 def trace_command(arguments: argparse.Namespace) -> None:
-    write_out(arguments.out, [json.dumps(make_trace(read_history(arguments)), indent=1), '\n'])
+    history = read_history(arguments)
+    values = read_values(history, machine_of(arguments)) if arguments.values else None
+    write_out(arguments.out, trace_text(history, values))
 
 
 def svg_command(arguments: argparse.Namespace) -> None:
@@ -325,18 +345,29 @@ def short_line(line: str) -> str:
 
 
 def play_command(arguments: argparse.Namespace) -> int:
-    return pass_on(arguments, 'play')
+    lines = lines_of(arguments)
+    return pass_on(lines, machine_of(arguments).call('play', lines.text(), lines.name))
 
 
 def inspect_command(arguments: argparse.Namespace) -> int:
-    return pass_on(arguments, 'inspect')
+    lines, machine = lines_of(arguments), machine_of(arguments)
+    if not arguments.memory:
+        return pass_on(lines, machine.call('inspect', lines.text(), lines.name))
+    program = Program(arguments.elf)
+    ranges = ranges_of(program, arguments.memory)
+    answer = machine.call('inspect', lines.text(), lines.name, (asked(ranges),))
+    named = with_names(program, ranges, answer.text.decode('ascii', 'replace'))
+    text = ''.join(f'{line}\n' for line in named).encode()
+    return pass_on(lines, replace(answer, text=text))
 
 
-def pass_on(arguments: argparse.Namespace, command: str) -> int:
-    """Gives the program the lines of a script or of an output text, and passes on what it prints, what it
-    says and its status."""
-    lines = read_lines(arguments.run).first(arguments.last)
-    answer: Answer = machine_of(arguments).call(command, lines.text(), lines.name)
+def lines_of(arguments: argparse.Namespace) -> Lines:
+    """The lines of a script, or of the log of an output text, up to the last that is wanted."""
+    return read_lines(arguments.run).first(arguments.last)
+
+
+def pass_on(lines: Lines, answer: Answer) -> int:
+    """Passes on what the program prints of some lines, what it says, and its status."""
     sys.stdout.buffer.write(answer.text)
     sys.stdout.flush()
     unreadable = first_unreadable(lines.lines) if answer.refused_line() else None
@@ -353,12 +384,12 @@ def calls_command(arguments: argparse.Namespace) -> None:
         rows = list_traced_calls(read_values(history, machine), arguments.thread)
     else:
         rows = list_calls(history, machine, arguments.thread)
-    write_out(None, (f'{row}\n' for row in rows))
+    write_rows(rows)
 
 
 def sequences_command(arguments: argparse.Namespace) -> None:
     rows = list_sequences(values_of(arguments), arguments.thread, arguments.values)
-    write_out(None, (f'{row}\n' for row in rows))
+    write_rows(rows)
 
 
 def watch_command(arguments: argparse.Namespace) -> None:
@@ -369,16 +400,16 @@ def watch_command(arguments: argparse.Namespace) -> None:
         hart=arguments.hart, thread=arguments.thread, first=arguments.first, last=arguments.last
     )
     rows = watch(values, arguments.variable, chosen)
-    write_out(None, (f'{row}\n' for row in rows))
+    write_rows(rows)
 
 
 def races_command(arguments: argparse.Namespace) -> None:
-    write_out(None, (f'{row}\n' for row in list_races(values_of(arguments))))
+    write_rows(list_races(values_of(arguments)))
 
 
 def why_command(arguments: argparse.Namespace) -> None:
     history = read_history(arguments)
-    write_out(None, (f'{line}\n' for line in explain(history, machine_of(arguments))))
+    write_rows(explain(history, machine_of(arguments)))
 
 
 def shrink_command(arguments: argparse.Namespace) -> None:
@@ -403,7 +434,9 @@ def main() -> int:
     gc.disable()  # (a run is read as a whole, and nothing of it goes before the end)
     try:
         arguments = make_parser().parse_args()
-        return arguments.action(arguments) or 0
+        status = arguments.action(arguments) or 0
+        sys.stdout.flush()
+        return status
     except LensFault as fault:
         print(f'lens: {fault}', file=sys.stderr)
         return FAULT_STATUS

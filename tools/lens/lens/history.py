@@ -5,6 +5,7 @@ from __future__ import annotations
 from collections import defaultdict, deque
 from collections.abc import Iterator
 from dataclasses import dataclass, field
+from functools import cached_property
 
 from .calls import RT_SIGRETURN
 from .faults import LensFault
@@ -39,7 +40,10 @@ class History:
     sent: dict[int, int] = field(default_factory=dict)
     """Where a `run`, a `take` or a `signal` sent its thread, where that isn't where it stood: a restart, or a
     handler."""
-    stretches: list[Stretch] = field(default_factory=list)
+
+    @cached_property
+    def stretches(self) -> list[Stretch]:
+        return list(stretches(self.output))
 
     def store_drains(self) -> dict[int, int]:
         """The number of the drain that enters a store, by the store's number."""
@@ -55,7 +59,6 @@ def make_history(output: Output, program: Program) -> History:
     check_pcs(history, next_pcs)
     note_stores(history, next_pcs)
     note_restarts(history, next_pcs)
-    history.stretches = list(stretches(output))
     return history
 
 

@@ -133,6 +133,12 @@ class Layout:
         kind = self.kinds.get(address)
         return name_in(kind, variable, offset, size) if kind else None
 
+    def parts(self, variable: str, address: int, start: int, end: int) -> list[tuple[str, int, int]]:
+        """The numbers and pointers of a variable that have a byte from one address up to another: name,
+        address and size."""
+        kind = self.kinds.get(address)
+        return list(parts_in(kind, variable, address, start, end)) if kind else []
+
     def target(self, variable: str, address: int, offset: int) -> str | None:
         """What a pointer points to that has an address in a variable: the outermost member that begins there,
         of an array an element; None where none begins there."""
@@ -205,3 +211,17 @@ def target_in(kind: Kind, words: str, offset: int) -> str | None:
             names = (target_in(one.kind, f'{words}.{one.name}', offset - one.at) for one in inside)
             return next(filter(None, names), None)
     return words if offset == 0 else None
+
+
+def parts_in(kind: Kind, words: str, at: int, start: int, end: int) -> Iterator[tuple[str, int, int]]:
+    """The numbers and pointers of what begins at an address that have a byte from `start` up to `end`."""
+    match kind:
+        case Array(count, element) if element.size:
+            first, last = max(start - at, 0) // element.size, -(-(end - at) // element.size)
+            for index in range(first, min(last, count)):
+                yield from parts_in(element, f'{words}[{index}]', at + index * element.size, start, end)
+        case Struct(_, members):
+            for one in members:
+                yield from parts_in(one.kind, f'{words}.{one.name}', at + one.at, start, end)
+        case Scalar(size) if at < end and start < at + size:
+            yield words, at, size

@@ -8,12 +8,10 @@ from typing import NamedTuple
 
 from .calls import name_of
 from .history import History
-from .output import DRAIN, EXEC, HARTS, PREEMPT, RUN, Step, shown_console
+from .output import DRAIN, EXEC, PREEMPT, RUN, Step, shown_console
 from .values import Values
 
 CONTEXT = 12
-MEMORY = HARTS
-"""The column behind those of the harts, which says what was read and written."""
 SOURCE_SHOWN = 72
 
 
@@ -103,32 +101,48 @@ def list_run(history: History, selection: Selection, values: Values | None = Non
     left out; and with what each step read and wrote, where that is known."""
     made = Rows(history)
     rows = [made.row(step) for step in selection.steps(history.output.steps)]
-    memory = {row.step.number: values.words(row.step) for row in rows} if values else {}
-    deeds = {(row.step.hart, row.deed) for row in rows}
-    widths = {hart: len(f'hart {hart}') for hart in sorted({hart for hart, _ in deeds})}
-    heads = {hart: f'hart {hart}' for hart in widths}
-    if values:
-        heads[MEMORY], widths[MEMORY] = 'memory', len('memory')
-        deeds |= {(MEMORY, words) for words in memory.values()}
-    for column, words in deeds:
-        widths[column] = max(widths[column], len(words))
-    where = max(map(len, {row.where for row in rows}), default=0)
-
-    @cache
-    def columns(hart: int, words: str, place: str, text: str, told: str) -> str:
-        return in_columns({hart: words, MEMORY: told}, widths, place, where, text)
-
-    yield f'{"step":>7}  {"thread":>6}  {in_columns(heads, widths, "at", where, "source")}'
-    for step, *words in rows:
-        shown = columns(step.hart, *words, memory.get(step.number, ''))
-        yield f'{step.number:>7}  {step.thread or "":>6}  {shown}'
+    memory = [values.words(row.step) for row in rows] if values else [''] * len(rows)
+    columns = Columns(rows, {'memory', *memory} if values else None)
+    yield f'{"step":>7}  {"thread":>6}  {columns.heads()}'
+    yield from columns.lines(rows, memory)
     yield ''
     yield summary(history, len(rows))
 
 
-def in_columns(cells: dict[int, str], widths: dict[int, int], where: str, width: int, text: str) -> str:
-    columns = ' | '.join(cells.get(column, '').ljust(widths[column]) for column in widths)
-    return f'{columns} | {where.ljust(width)}  {text}'.rstrip()
+class Columns:
+    """The columns of a listing: one for each hart that does something, one for what was read and written
+    where that is told, and where it stands. Each is as wide as it has to be. What is the same in many lines
+    is made once."""
+
+    def __init__(self, rows: list[Row], memory: Set[str] | None):
+        self.widths = {hart: len(f'hart {hart}') for hart in sorted({row.step.hart for row in rows})}
+        for hart, words in {(row.step.hart, row.deed) for row in rows}:
+            self.widths[hart] = max(self.widths[hart], len(words))
+        self.memory = max(map(len, memory), default=0) if memory else None
+        self.where = max(map(len, {row.where for row in rows}), default=0)
+        self.of_hart, self.behind = cache(self.make_of_hart), cache(self.make_behind)
+
+    def heads(self) -> str:
+        """The line over the columns."""
+        harts = self.harts({hart: f'hart {hart}' for hart in self.widths})
+        middle = '' if self.memory is None else f'{"memory".ljust(self.memory)} | '
+        return f'{harts} | {middle}{self.make_behind("at", "source")}'
+
+    def lines(self, rows: list[Row], memory: list[str]) -> Iterator[str]:
+        of_hart, behind, width = self.of_hart, self.behind, self.memory
+        for ((number, hart, _, thread, _), words, place, text), told in zip(rows, memory):
+            middle = '' if width is None else f'{told.ljust(width)} | '
+            line = f'{number:>7}  {thread or "":>6}  {of_hart(hart, words)} | {middle}{behind(place, text)}'
+            yield line.rstrip()
+
+    def harts(self, cells: dict[int, str]) -> str:
+        return ' | '.join(cells.get(hart, '').ljust(width) for hart, width in self.widths.items())
+
+    def make_of_hart(self, hart: int, words: str) -> str:
+        return self.harts({hart: words})
+
+    def make_behind(self, place: str, text: str) -> str:
+        return f'{place.ljust(self.where)}  {text}'
 
 
 def summary(history: History, shown: int) -> str:

@@ -114,7 +114,7 @@ class Orders:
                     self.join(hart, self.posted[step.thread, number])
 
     def access(self, record: Record) -> Iterator[Access]:
-        step, facts = record
+        step, facts = record.step, record.facts
         reads = [fact for fact in facts if type(fact) is Read]
         writes = [fact for fact in facts if type(fact) is Wrote]
         if reads:

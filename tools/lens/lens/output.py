@@ -29,11 +29,17 @@ class Step(NamedTuple):
     pc: int
 
     def line(self) -> str:
-        return f'{self.hart} {self.kind} {self.thread} {self.pc:0{PC_DIGITS}x}'
+        return line_of(*self[1:])
 
     def short_line(self) -> str:
         """The same event, without the thread and the pc that the program would compare."""
         return f'{self.hart} {self.kind} {self.thread}' if self.kind == RUN else f'{self.hart} {self.kind}'
+
+
+@cache
+def line_of(hart: int, kind: str, thread: int, pc: int) -> str:
+    """A line of a log. (A log has the same line again and again.)"""
+    return f'{hart} {kind} {thread} {pc:0{PC_DIGITS}x}'
 
 
 @dataclass(frozen=True)
@@ -76,21 +82,15 @@ class Outline:
 
     def output(self) -> Output:
         """The same with each line of the log read."""
-        return Output(
-            self.name,
-            self.console,
-            [self.step(number, line) for number, line in enumerate(self.lines, 1)],
-            self.end,
-        )
-
-    def step(self, number: int, line: bytes) -> Step:
-        fields = fields_of(line)
-        if fields is None:
-            shown = line.decode('ascii', 'replace')[:40]
+        fields = [fields_of(line) for line in self.lines]
+        if None in fields:
+            number = fields.index(None) + 1
+            shown = self.lines[number - 1].decode('ascii', 'replace')[:40]
             raise LensFault(
                 f'{self.name}: line {number} of its log is {shown!r}, and "HART KIND THREAD PC" is due'
             )
-        return Step(number, *fields)
+        steps = [Step(number, *words) for number, words in enumerate(fields, 1)]
+        return Output(self.name, self.console, steps, self.end)
 
 
 class Reader:

@@ -2,9 +2,11 @@
 from __future__ import annotations
 
 import itertools
+import textwrap
 import xml.etree.ElementTree as xml
 from collections.abc import Callable, Iterator
 from dataclasses import dataclass
+from functools import cached_property
 
 from .calls import name_of
 from .faults import LensFault
@@ -20,8 +22,8 @@ CELL, BLOCK = 18, 14
 MARGIN, LABELS = 16, 52
 ARCS, NAMES, CALLS, GAP = 34, 12, 11, 8
 LANE = ARCS + BLOCK + NAMES + CALLS + GAP
-AXIS, HEAD, FOOT, LEGEND_LINE = 22, 62, 24, 20
-LETTER, FEWEST_LETTERS = 6.1, 4
+AXIS, HEAD, FOOT, LEGEND_LINE, FOOT_LINE = 22, 62, 10, 20, 14
+LETTER, FEWEST_LETTERS, FOOT_LETTERS = 6.1, 4, 150
 TICK = 10
 
 # The colours of Okabe and Ito, which people see apart who see red and green alike.
@@ -96,7 +98,8 @@ class Picture:
         self.steps = [step for step in history.output.steps if span.has(step.number)]
         self.width = 2 * MARGIN + LABELS + CELL * PER_ROW
         self.head_height = HEAD + LEGEND_LINE * max(line for _, line in self.legend_places())
-        self.height = self.head_height + self.row_height * span.rows + FOOT
+        self.foot_height = FOOT + FOOT_LINE * len(self.foot_lines())
+        self.height = self.head_height + self.row_height * span.rows + self.foot_height
         self.root = xml.Element(
             'svg',
             xmlns=NAMESPACE,
@@ -310,13 +313,23 @@ class Picture:
     def arcs(self) -> None:
         """An arc from each store to its drain; where one of them isn't in the picture, or in another row,
         it goes to the edge."""
-        for drain, store in self.history.drained.items():
-            first, last = max(store.number, self.span.first), min(drain, self.span.last)
-            for begin, end in self.row_parts(first, last):
-                self.arc(store, begin, end, begin == store.number, end == drain, 'arc')
-        for store in self.history.waiting:
-            for begin, end in self.row_parts(max(store.number, self.span.first), self.span.last):
-                self.arc(store, begin, end, begin == store.number, False, 'arc waits')
+        for store, begin, end, has_begin, has_end in self.arc_parts:
+            kind = 'arc waits' if store in self.history.waiting else 'arc'
+            self.arc(store, begin, end, has_begin, has_end, kind)
+
+    @cached_property
+    def arc_parts(self) -> list[tuple[Step, int, int, bool, bool]]:
+        """The parts of arcs in each row: the store, from which step to which, and whether the store and the
+        drain are these."""
+        drains = [(store, drain) for drain, store in self.history.drained.items()]
+        drains += [(store, None) for store in self.history.waiting]
+        return [
+            (store, begin, end, begin == store.number, end == drain)
+            for store, drain in drains
+            for begin, end in self.row_parts(
+                max(store.number, self.span.first), min(drain or self.span.last, self.span.last)
+            )
+        ]
 
     def arc(self, store: Step, begin: int, end: int, has_begin: bool, has_end: bool, kind: str) -> None:
         base = self.top(self.row_of(begin), store.hart) - 1
@@ -365,20 +378,26 @@ class Picture:
             self.add('text', shown, x=left, y=self.block_top(step) + BLOCK + NAMES - 2)
 
     def foot(self) -> None:
-        output = self.history.output
-        has_end = self.span.last == len(output.steps)
-        words = f'end {output.end}; console {shown_console(output.console)}'
-        labels = (
-            'The number over an arc is the line of its store in the source.'
-            if self.history.program.lines.rows
-            else ''
+        top = self.height - self.foot_height
+        for line, words in enumerate(self.foot_lines(), 1):
+            self.add('text', words, x=MARGIN, y=top + FOOT_LINE * line)
+
+    def foot_lines(self) -> list[str]:
+        """How the run ends, and what of the picture the legend doesn't say, where it has it."""
+        output, last = self.history.output, self.span.last
+        end = f'end {output.end}; console {shown_console(output.console)}'
+        waiting = [part for part in self.arc_parts if part[0] in self.history.waiting]
+        is_cut = any(not (has_begin and has_end) for _, _, _, has_begin, has_end in self.arc_parts)
+        has_numbers = self.arc_parts and self.history.program.lines.rows
+        said = (
+            (True, f'{end if last == len(output.steps) else "The run goes on"}.'),
+            (self.steps, 'Below the steps stand their functions.'),
+            (self.arc_parts, 'An arc goes from a store to where it enters memory.'),
+            (has_numbers, 'The number over it is the line of the store in the source.'),
+            (is_cut, 'At the edge it goes on in another row, or outside of the picture.'),
+            (waiting, 'A dashed one is of a store that still waits at the end of the run.'),
         )
-        self.add(
-            'text',
-            f'{words if has_end else "the run goes on"}. {labels}'.strip(),
-            x=MARGIN,
-            y=self.height - 10,
-        )
+        return textwrap.wrap(' '.join(words for applies, words in said if applies), FOOT_LETTERS)
 
 
 def number(value: object) -> str:

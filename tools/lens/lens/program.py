@@ -4,6 +4,7 @@ from __future__ import annotations
 import re
 import struct
 from bisect import bisect_right
+from collections.abc import Iterator
 from dataclasses import dataclass
 from functools import cache, cached_property
 
@@ -23,6 +24,7 @@ SYMBOL_AND_OFFSET = re.compile(r'(?P<symbol>[^+]+?)(\+(?P<offset>0x[0-9a-fA-F]+|
 SOURCE_LINE = re.compile(r'(?P<file>[^:]+):(?P<line>[0-9]+)')
 ADDRESS = re.compile(r'0x[0-9a-fA-F]+')
 HANDLER_RETURN = 0x3F_FFFF_0000
+SMALL, WORD = 4_096, 8
 DESCRIPTOR, DESCRIPTORS = struct.Struct('<IIQQQ'), '__rseq_cs'
 RETURNING = {
     address: Instruction(address, word, text)
@@ -129,6 +131,7 @@ class Program:
             )
         self.starts = [symbol.address for symbol in self.symbols]
         self.variables = sorted(variables(elf), key=lambda variable: variable.address)
+        self.variable_starts = [variable.address for variable in self.variables]
         self.lines = Lines(elf, self.path)
         # (a log comes by the same few addresses again and again)
         self.instruction = cache(self.find_instruction)
@@ -137,6 +140,7 @@ class Program:
         self.variable = cache(self.find_variable)
         self.target = cache(self.find_target)
         self.bytes_of = cache(self.find_bytes)
+        self.number = cache(self.find_number)
 
     def has(self, address: int) -> bool:
         return any(code.has(address) for code in self.code)
@@ -178,7 +182,7 @@ class Program:
 
     def variable_at(self, address: int) -> Variable | None:
         """The variable that has the byte at an address."""
-        index = bisect_right([variable.address for variable in self.variables], address)
+        index = bisect_right(self.variable_starts, address)
         found = self.variables[index - 1] if index else None
         return found if found and address < found.address + found.size else None
 
@@ -202,6 +206,33 @@ class Program:
         name = found and self.layout.name(found.name, found.address, address - found.address, size)
         is_all = found and (found.address, found.size) == (address, size)
         return name or f'{self.variable(address)}{"" if is_all else f":{size}"}'
+
+    def find_number(self, value: int, size: int) -> str:
+        """A value of so many bytes in words: a small one in decimal, with a sign where that makes it small;
+        else in hexadecimal, or the variable or the function whose address it is."""
+        if value < SMALL:
+            return str(value)
+        if size > 1 and value >= (1 << 8 * size) - SMALL:
+            return str(value - (1 << 8 * size))
+        shown = f'{value:#x}'
+        name = self.target(value) if size == WORD else ''
+        return shown if name in ('', shown) else f'&{name}'
+
+    def parts(self, start: int, end: int) -> Iterator[tuple[str, int, int]]:
+        """What the bytes from one address up to another belong to: each variable, or of one with members each
+        member that is a number or a pointer, by its name, its address and its size. Bytes of which none is
+        known have the name of their place."""
+        while start < end:
+            found = self.variable_at(start)
+            last = min(end, found.address + found.size if found else self.next_variable(start, end))
+            known = self.layout.parts(found.name, found.address, start, last) if found else []
+            yield from known or [(self.bytes_of(start, last - start), start, last - start)]
+            start = last
+
+    def next_variable(self, start: int, end: int) -> int:
+        """Where the first variable behind an address begins; `end` where none does."""
+        index = bisect_right(self.variable_starts, start)
+        return self.variable_starts[index] if index < len(self.variables) else end
 
     def word(self, address: int) -> int | None:
         """The word of the code at an address."""

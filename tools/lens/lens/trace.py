@@ -1,52 +1,53 @@
 """A run in the trace-event format, which Perfetto (ui.perfetto.dev) and chrome://tracing open.
 
 One step is one microsecond of the trace. Every hart and every thread has a lane; on the harts' lanes the
-functions stand inside the stretches. An arrow goes from a store to its drain, and from a call of
-membarrier to the `take` of each hart that it asked and to its `done`.
+functions stand inside the stretches, and inside of these the steps that are told one by one. A viewer hangs
+an arrow on the innermost slice at its time, which begins in the text before it.
 """
 from __future__ import annotations
 
 import itertools
+import json
 from collections.abc import Iterator
-from typing import Any
 
-from .calls import MEMBARRIER, name_of
+from .arrows import HARTS_LANE, Event, arrow_events, on_hart
+from .calls import name_of
 from .history import History, Stretch
 from .listing import deed, source
-from .output import DONE, DRAIN, EXEC, PREEMPT, RUN, SIGNAL, TAKE, Step
+from .output import DRAIN, EXEC, PREEMPT, RUN, SIGNAL, Step
+from .values import Values
+from .watching import Access, Range, accesses
 
-Event = dict[str, Any]
-
-HARTS_LANE, THREADS_LANE = 1, 2
-COMPLETE, INSTANT, META, ARROW_START, ARROW_END = 'X', 'i', 'M', 's', 'f'
-
-
-def trace_events(history: History) -> list[Event]:
-    return [
-        *names(history),
-        *stretch_slices(history),
-        *function_slices(history),
-        *marks(history),
-        *store_arrows(history),
-        *barrier_arrows(history),
-    ]
+THREADS_LANE = 2
+COMPLETE, META = 'X', 'M'
+EVERYWHERE = Range(0, 1 << 64)
 
 
-def make_trace(history: History) -> Event:
-    """The whole trace, to be written as JSON."""
+def trace_events(history: History, values: Values | None = None) -> Iterator[Event]:
+    yield from names(history)
+    yield from stretch_slices(history)
+    yield from function_slices(history)
+    yield from step_slices(history, values)
+    yield from arrow_events(history, values)
+
+
+def trace_text(history: History, values: Values | None = None) -> Iterator[str]:
+    """The whole trace as JSON, an event a line; with what each step read and wrote, where that is known."""
+    yield '{"traceEvents": [\n'
+    yield ',\n'.join(map(json.dumps, trace_events(history, values)))
+    yield f'\n], "displayTimeUnit": "ns", "otherData": {json.dumps(about(history))}}}\n'
+
+
+def about(history: History) -> Event:
+    """What the run is of."""
     output = history.output
-    about = {
+    return {
         'run': output.name,
         'program': history.program.path,
         'end': output.end,
         'console': output.console.decode(errors='backslashreplace'),
         'unit': '1 step = 1 us',
     }
-    return {'traceEvents': trace_events(history), 'displayTimeUnit': 'ns', 'otherData': about}
-
-
-def on_hart(step: Step) -> Event:
-    return {'pid': HARTS_LANE, 'tid': step.hart, 'ts': step.number}
 
 
 def names(history: History) -> Iterator[Event]:
@@ -116,49 +117,52 @@ def function_slices(history: History) -> Iterator[Event]:
                 }
 
 
-def marks(history: History) -> Iterator[Event]:
-    """One mark for each event that isn't a plain instruction: calls, drains and what the kernel does."""
+def step_slices(history: History, values: Values | None) -> Iterator[Event]:
+    """A slice of one step for each event that isn't a plain instruction (calls, drains and what the kernel
+    does), for each store that enters memory, and for all that read or write, where that is known."""
+    told = accesses(values, EVERYWHERE) if values else ()
+    by_step = {number: list(group) for number, group in itertools.groupby(told, lambda one: one.step.number)}
+    chosen = {*by_step, *history.calls, *(store.number for store in history.drained.values())}
     for step in history.output.steps:
-        if step.kind == EXEC and step.number not in history.calls:
-            continue
-        store = history.drained.get(step.number)
-        name = f'call {name_of(history.calls[step.number])}' if step.kind == EXEC else deed(history, step)
-        place = source(history, store.pc if store else step.pc)
-        about = {'thread': step.thread, 'pc': f'{step.pc:#x}', 'source': place}
-        if store:
-            about['store'] = store.number
-        if step.number in history.sent:
-            words = 'handler' if step.kind == SIGNAL else 'restarted at'
-            about[words] = history.program.where(history.sent[step.number])
-        yield {'ph': INSTANT, 'name': name, 'cat': step.kind, 's': 't', **on_hart(step), 'args': about}
+        if step.kind != EXEC or step.number in chosen:
+            own, slice_ = by_step.get(step.number), step_slice(history, step)
+            if own:
+                tell_accesses(slice_, values, step, own)
+            yield slice_
 
 
-def arrow(number: str, name: str, begin: Step, end: Step) -> Iterator[Event]:
-    yield {'ph': ARROW_START, 'name': name, 'cat': name, 'id': number, **on_hart(begin)}
-    yield {'ph': ARROW_END, 'name': name, 'cat': name, 'id': number, 'bp': 'e', **on_hart(end)}
+def step_slice(history: History, step: Step) -> Event:
+    """The slice of a step, with its thread and where it stands: of a drain that is where its store does."""
+    store, name = history.drained.get(step.number), deed(history, step)
+    pc = store.pc if store else step.pc
+    about = {'thread': step.thread, 'pc': f'{step.pc:#x}', 'at': history.program.where(pc)}
+    about['source'] = source(history, pc)
+    if store:
+        about['store'] = store.number
+    if step.number in history.sent:
+        words = 'handler' if step.kind == SIGNAL else 'restarted at'
+        about[words] = history.program.where(history.sent[step.number])
+    is_call = step.number in history.calls
+    name = f'call {name_of(history.calls[step.number])}' if is_call else name
+    return {'ph': COMPLETE, 'name': name, 'cat': step.kind, **on_hart(step), 'dur': 1, 'args': about}
 
 
-def store_arrows(history: History) -> Iterator[Event]:
-    for step in history.output.steps:
-        if step.kind == DRAIN:
-            yield from arrow(
-                f'store {step.number}', 'store enters memory', history.drained[step.number], step
-            )
+def tell_accesses(slice_: Event, values: Values, step: Step, own: list[Access]) -> None:
+    """Adds what a step read and wrote. Of an instruction or a drain that is the slice's name too."""
+    if values.is_own(step):
+        slice_['args']['instruction'] = slice_['name']
+        slice_['name'] = f'{DRAIN} {values.words(step)}' if step.kind == DRAIN else values.words(step)
+    slice_['args']['accesses'] = [access_words(values, access) for access in own]
 
 
-def barrier_arrows(history: History) -> Iterator[Event]:
-    """A `take` of another hart answers every call of membarrier that waits, and a `done` ends the one of
-    its hart."""
-    waiting: dict[int, Step] = {}
-    for step in history.output.steps:
-        if history.calls.get(step.number) == MEMBARRIER:
-            waiting[step.hart] = step
-        elif step.kind == TAKE:
-            for hart, call in waiting.items():
-                if hart != step.hart:
-                    yield from arrow(f'take {call.number} {step.number}', 'membarrier asks', call, step)
-        elif step.kind == DONE and step.hart in waiting:
-            call = waiting.pop(step.hart)
-            yield from arrow(f'done {call.number} {step.number}', 'membarrier done', call, step)
-        elif step.hart in waiting and step.kind == EXEC:
-            del waiting[step.hart]
+def access_words(values: Values, access: Access) -> Event:
+    """An access: what it is, the variable or its member, the address, how many bytes, their value, and where
+    that came from."""
+    words = {
+        'access': access.kind,
+        'place': values.place(access.at, access.size),
+        'address': f'{access.at:#x}',
+        'size': access.size,
+        'value': values.number(access.value, access.size),
+    }
+    return {**words, 'from': access.source} if access.source else words

@@ -1,16 +1,21 @@
 """Reads what `trace` prints: each line of a log, and below it the facts of its event."""
 from __future__ import annotations
 
+import re
 from collections.abc import Iterator
 from dataclasses import dataclass
+from functools import cache
 from typing import NamedTuple
 
 from .facts import Fact, fact_of
 from .faults import LensFault
 from .output import Step, fields_of
 
-FACT, NUMBER = '  ', '  line '
 END = 'end '
+BETWEEN = '\n  line \n'
+RECORD = re.compile(r'(.*)\n  line ([0-9]+)\n((?:  .*\n)*)')
+"""A log line, its number, and the lines below that, with BETWEEN between them."""
+SLEEPER = re.compile(r'thread (?P<thread>[0-9]+) waiting (?P<at>[0-9a-f]{16})')
 
 
 class NotATrace(LensFault):
@@ -18,10 +23,15 @@ class NotATrace(LensFault):
 
 
 class Record(NamedTuple):
-    """A line of the log and the facts of its event, in their order."""
+    """A line of the log, and the lines below it but for the first, which tell the facts of its event."""
 
     step: Step
-    facts: tuple[Fact, ...]
+    lines: str
+
+    @property
+    def facts(self) -> tuple[Fact, ...]:
+        """The facts in their order, read when they are first asked for."""
+        return facts_of(self.lines)
 
     def of_kind(self, kind: type) -> Iterator:
         """Its facts of one kind."""
@@ -43,39 +53,58 @@ class Trace:
 
 def parse_trace(name: str, text: bytes) -> Trace:
     """The records of a text; a fault that names it where it is no whole text of `trace`."""
-    lines = text.decode('ascii', 'replace').split('\n')
-    if lines.pop() or not lines or not lines[-1].startswith(END):
+    shown = text.decode('ascii', 'replace')
+    lines, _, last = shown[:-1].rpartition('\n')
+    if not shown.endswith('\n') or not last.startswith(END):
         raise NotATrace(f'{name}: it is no whole text of `trace`: a line "end REASON" is due where it ends')
-    end = lines.pop().removeprefix(END)
-    waiting = dict(reversed(list(sleepers(lines))))
-    return Trace(list(records(name, lines)), waiting, end)
+    told, waiting = without_sleepers(lines)
+    return Trace(records(name, told), waiting, last.removeprefix(END))
 
 
-def sleepers(lines: list[str]) -> Iterator[tuple[int, int]]:
+def without_sleepers(lines: str) -> tuple[str, dict[int, int]]:
     """Takes the lines `thread T waiting AT` from the end, and says what they say."""
-    while lines and lines[-1].startswith('thread '):
-        match lines.pop().split(' '):
-            case [_, thread, 'waiting', at] if thread.isdecimal():
-                yield int(thread), int(at, 16)
+    waiting = {}
+    before, _, last = lines.rpartition('\n')
+    while found := SLEEPER.fullmatch(last):
+        waiting[int(found['thread'])] = int(found['at'], 16)
+        lines = before
+        before, _, last = lines.rpartition('\n')
+    return lines, dict(reversed(waiting.items()))
 
 
-def records(name: str, lines: list[str]) -> Iterator[Record]:
-    """One for each log line, with the lines up to the next."""
-    starts = [at for at, line in enumerate(lines) if line[:2] != FACT]
-    if lines and starts[:1] != [0]:
-        raise fault(name, 1, lines[0], 'a log line "HART KIND THREAD PC"')
-    for at, behind in zip(starts, [*starts[1:], len(lines)]):
-        fields = fields_of(lines[at].encode())
-        if fields is None:
-            raise fault(name, at + 1, lines[at], 'a log line "HART KIND THREAD PC"')
-        told = lines[at + 1] if at + 1 < behind else ''
-        if not (told.startswith(NUMBER) and told[len(NUMBER) :].isdecimal()):
-            raise fault(name, at + 2, told, 'a line "  line N"')
-        step = Step(int(told[len(NUMBER) :]), *fields)
-        yield Record(step, tuple([fact_of(line[2:]) for line in lines[at + 2 : behind]]))
+def records(name: str, text: str) -> list[Record]:
+    """One for each log line, with the lines up to the next. The last has no newline."""
+    whole = f'{text}\n' if text else ''
+    found = RECORD.findall(whole)
+    fields = [of_line(line) for line, _, _ in found]
+    told = sum([len(line) + len(number) + len(lines) for line, number, lines in found])
+    if None in fields or told + len(BETWEEN) * len(found) < len(whole):
+        raise fault(name, whole)
+    steps = [Step(int(number), *words) for (_, number, _), words in zip(found, fields)]
+    return [Record(step, lines) for step, (_, _, lines) in zip(steps, found)]
 
 
-def fault(name: str, number: int, line: str, due: str) -> NotATrace:
+@cache
+def of_line(line: str) -> tuple[int, str, int, int] | None:
+    """What a log line says; None where it is none."""
+    return fields_of(line.encode())
+
+
+@cache
+def facts_of(lines: str) -> tuple[Fact, ...]:
+    """What the lines below a log line say. (A run tells the same again and again.)"""
+    return tuple([fact_of(line[2:]) for line in lines.splitlines()])
+
+
+def fault(name: str, text: str) -> NotATrace:
+    """What is wrong behind the records that can be read."""
+    end = 0
+    while (found := RECORD.match(text, end)) and of_line(found[1]):
+        end = found.end()
+    number, lines = text.count('\n', 0, end) + 1, text[end:].split('\n')
+    due = 'a log line "HART KIND THREAD PC"'
+    if of_line(lines[0]):
+        number, lines, due = number + 1, lines[1:], 'a line "  line N"'
     return NotATrace(
-        f'{name}: it is no text of `trace`: {due} is due in line {number}, and {line[:40]!r} came'
+        f'{name}: it is no text of `trace`: {due} is due in line {number}, and {lines[0][:40]!r} came'
     )

@@ -2,8 +2,7 @@
 """
 from __future__ import annotations
 
-from collections.abc import Iterator
-from dataclasses import dataclass
+from functools import cache
 
 from .calls import name_of
 from .facts import MEMORY, START, Called, Fact, Read, Reservation, Waits, Wrote, Zeroed
@@ -11,37 +10,38 @@ from .faults import LensFault
 from .history import History
 from .machine import Machine
 from .output import DRAIN, EXEC, Step
+from .program import Program
 from .trace_text import Record, Trace
 
-PAGE, WORD = 4_096, 8
+TOLD = {Waits, Wrote, Zeroed, Reservation}
+"""The facts beside reads of which a listing says something."""
+BEHIND = '  x'
+"""How the line of a register begins. Accesses are told before registers, so an event that begins with one has
+none."""
 
 
-@dataclass(frozen=True)
 class Values:
     """A run, and what its events read and wrote."""
 
-    history: History
-    trace: Trace
+    def __init__(self, history: History, trace: Trace):
+        self.history = history
+        self.trace = trace
+        # (loads see the same write again and again)
+        self.writer = cache(self.find_writer)
 
     def record(self, step: Step) -> Record:
         return self.trace.records[step.number - 1]
 
     def number(self, value: int, size: int) -> str:
-        """A value of so many bytes: a small one in decimal, with a sign where that makes it small; else in
-        hexadecimal, with the variable or the function whose address it is."""
-        if value < PAGE:
-            return str(value)
-        if value >= (1 << 8 * size) - PAGE and size > 1:
-            return str(value - (1 << 8 * size))
-        name = self.history.program.target(value) if size == WORD else ''
-        return f'{value:#x}' if name in ('', f'{value:#x}') else f'&{name}'
+        """A value of so many bytes, in words."""
+        return self.history.program.number(value, size)
 
     def place(self, at: int, size: int) -> str:
         """The variable, or the member of one, that has so many bytes: where none has just these, the bytes
         of a variable."""
         return self.history.program.bytes_of(at, size)
 
-    def writer(self, line: int) -> str:
+    def find_writer(self, line: int) -> str:
         """The event of a line that wrote into memory."""
         step = self.history.output.steps[line - 1]
         if step.kind == DRAIN:
@@ -72,30 +72,47 @@ class Values:
             return 'since the start'
         return self.writer(read.line) if read.source == MEMORY else f'own store of step {read.line}'
 
+    def sources(self, reads: list[Read]) -> str:
+        """Where the bytes of one access came from."""
+        if len(reads) == 1:
+            return self.source(reads[0])
+        return ' and '.join(dict.fromkeys(map(self.source, reads)))
+
     def words(self, step: Step) -> str:
         """What a step read and wrote, in a few words; empty where that is nothing."""
-        return '; '.join(self.parts(step))
+        record = self.trace.records[step.number - 1]
+        if record.lines.startswith(BEHIND) or not record.lines:
+            return ''
+        facts = record.facts
+        reads = [fact for fact in facts if type(fact) is Read]
+        others = [fact for fact in facts if type(fact) in TOLD]
+        written = [words for fact in others if (words := self.of_fact(fact, bool(reads)))]
+        read = self.of_reads(reads) if reads else ''
+        if not written:
+            return read
+        put = ('' if self.is_own(step) else 'kernel: ') + ', '.join(written)
+        return f'{read}; {put}' if read else put
 
-    def parts(self, step: Step) -> Iterator[str]:
-        record = self.record(step)
-        reads = list(record.of_kind(Read))
-        if reads:
-            whole = joined(reads)
-            sources = ' and '.join(dict.fromkeys(map(self.source, reads)))
-            yield f'{self.place(whole.at, whole.size)} = {self.number(whole.value, whole.size)}, {sources}'
-        written = [words for fact in record.facts if (words := self.of_fact(fact, bool(reads)))]
-        if written:
-            yield ('' if self.is_own(step) else 'kernel: ') + ', '.join(written)
+    def of_reads(self, reads: list[Read]) -> str:
+        """What one access read, which may be bytes from several places."""
+        whole = joined(reads)
+        return f'{self.put(whole.at, whole.size, whole.value)}, {self.sources(reads)}'
+
+    def put(self, at: int, size: int, value: int) -> str:
+        """What stands in some bytes."""
+        program = self.history.program
+        return f'{program.bytes_of(at, size)} = {program.number(value, size)}'
 
     def of_fact(self, fact: Fact, is_read: bool) -> str:
         """A write, or an SC that failed. Behind a read the place of a write isn't named again."""
         match fact:
-            case Waits(at, size, value):
-                return f'{self.place(at, size)} = {self.number(value, size)}, waits'
-            case Wrote(at, size, value, old, _):
-                put = f'{self.place(at, size)} = {self.number(value, size)}'
+            case Waits():
+                return f'{self.put(*fact)}, waits'
+            case Wrote():
+                at, size, value, old, _ = fact
                 if is_read:
                     return f'then {self.number(value, size)}'
+                put = self.put(at, size, value)
                 return put if old is None else f'{put} in place of {self.number(old, size)}'
             case Zeroed(at, length):
                 return f'{length} bytes of 0 at {self.history.program.variable(at)}'
@@ -107,6 +124,8 @@ class Values:
 def joined(reads: list[Read]) -> Read:
     """The facts of one read as one, which are bytes that stand side by side."""
     first = reads[0]
+    if len(reads) == 1:
+        return first
     value = sum(read.value << 8 * (read.at - first.at) for read in reads)
     return first._replace(size=sum(read.size for read in reads), value=value)
 

@@ -76,14 +76,14 @@ def place_of(program: Program, name: str) -> tuple[int, int]:
 
 def accesses(values: Values, range_: Range) -> Iterator[Access]:
     """Each access to one of the bytes, in order."""
-    for step, facts in values.trace.records:
+    for record in values.trace.records:
+        step, facts = record.step, record.facts
         reads = [fact for fact in facts if type(fact) is Read]
         if reads:
             whole = joined(reads)
             if range_.has(whole.at, whole.size):
                 own = [read for read in reads if range_.has(read.at, read.size)]
-                sources = ' and '.join(dict.fromkeys(map(values.source, own)))
-                yield Access(step, READS, whole.at, whole.size, whole.value, sources)
+                yield Access(step, READS, whole.at, whole.size, whole.value, values.sources(own))
         for fact in facts:
             if type(fact) in (Waits, Wrote, Zeroed) and range_.has(fact.at, fact[1]):
                 yield written(values, step, fact)

@@ -85,6 +85,9 @@ NONE = {
     'fault script 3\n': 'it is no whole text of `trace`: a line "end REASON" is due where it ends',
     'console 0\n\nlog 0\nend open\n': f"{NO_LOG_LINE}, and 'console 0' came",
     '  line 1\nend open\n': f"{NO_LOG_LINE}, and '  line 1' came",
+    f'0 run 1 {A}\n  line 1\n  warmed 3\nrubbish\n  line 2\nend open\n': (
+        'it is no text of `trace`: a log line "HART KIND THREAD PC" is due in line 4, and \'rubbish\' came'
+    ),
     f'0 run 1 {A}\nend open\n': 'it is no text of `trace`: a line "  line N" is due in line 2, and \'\' came',
 }
 
@@ -108,7 +111,8 @@ class Texts(unittest.TestCase):
     def test_a_span_and_sleepers(self):
         text = f'0 run 1 {A}\n  line 7\n  warmed 3\nthread 1 waiting {A}\nthread 2 waiting {V}\nend stuck\n'
         trace = parse_trace('span', text.encode())
-        self.assertEqual(trace.records, [(Step(7, 0, 'run', 1, AT), (Other('warmed 3'),))])
+        self.assertEqual(trace.records, [(Step(7, 0, 'run', 1, AT), '  warmed 3\n')])
+        self.assertEqual(trace.records[0].facts, (Other('warmed 3'),))
         self.assertEqual((trace.end, trace.waiting), ('stuck', {1: AT, 2: VALUE}))
         self.assertEqual(parse_trace('none', b'end open\n').records, [])
 

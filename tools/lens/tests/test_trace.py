@@ -7,18 +7,29 @@ import unittest
 from pathlib import Path
 
 from lens.program import HANDLER_RETURN
-from lens.trace import make_trace
+from lens.trace import trace_text
+from lens.trace_text import parse_trace
+from lens.values import Values
 
-from .common import FOUND, PETERSON, START, assemble, found, history, kept_runs, lens, output_text
+from .common import (
+    FOUND,
+    GOLDEN,
+    PETERSON,
+    START,
+    TRACES,
+    assemble,
+    found,
+    history,
+    kept_runs,
+    lens,
+    needs_objdump,
+    needs_program,
+    output_text,
+    values,
+)
+from .trace_format import FLOW, wrongs
 
-REQUIRED = {
-    'X': {'name', 'cat', 'pid', 'tid', 'ts', 'dur'},
-    'i': {'name', 'cat', 'pid', 'tid', 'ts', 's'},
-    'M': {'name', 'pid', 'tid', 'args'},
-    's': {'name', 'cat', 'id', 'pid', 'tid', 'ts'},
-    'f': {'name', 'cat', 'id', 'pid', 'tid', 'ts', 'bp'},
-}
-
+COUNTER = FOUND.parents[1] / 'percpu_counter' / 'percpu_counter.elf'
 BARRIER = """
     li a7, 283
     ecall
@@ -26,38 +37,31 @@ BARRIER = """
 """
 
 
+def slices(events, *categories):
+    """The slices of single steps of some kinds."""
+    return [event for event in events if event['ph'] == 'X' and event['cat'] in categories]
+
+
+def arrows(events):
+    """Each flow: its name, and where it starts, steps and ends, as hart and step."""
+    flows = collections.defaultdict(list)
+    for event in events:
+        if event['ph'] in FLOW:
+            flows[event['name'], event['id']].append((event['tid'], event['ts']))
+    return [(name, *points) for (name, _), points in flows.items()]
+
+
 class Traces(unittest.TestCase):
-    def check(self, trace):
-        """Reads a trace as a viewer does."""
-        events = json.loads(json.dumps(trace))['traceEvents']
-        for event in events:
-            self.assertLessEqual(REQUIRED[event['ph']], event.keys())
-        self.check_slices([event for event in events if event['ph'] == 'X'])
-        self.check_arrows(events)
-        return events
+    maxDiff = None
 
-    def check_slices(self, slices):
-        """On a lane a slice lies in another or beside it."""
-        lanes = collections.defaultdict(list)
-        for event in slices:
-            self.assertGreater(event['dur'], 0)
-            lanes[event['pid'], event['tid']].append((event['ts'], -event['dur']))
-        for lane in lanes.values():
-            open_ends = []
-            for start, length in sorted(lane):
-                while open_ends and open_ends[-1] <= start:
-                    open_ends.pop()
-                self.assertTrue(not open_ends or start - length <= open_ends[-1])
-                open_ends.append(start - length)
-
-    def check_arrows(self, events):
-        begins = {event['id']: event['ts'] for event in events if event['ph'] == 's'}
-        ends = {event['id']: event['ts'] for event in events if event['ph'] == 'f'}
-        self.assertEqual(begins.keys(), ends.keys())
-        self.assertTrue(all(begins[arrow] < ends[arrow] for arrow in begins))
+    def check(self, made, told=None):
+        """The events of a trace, in which nothing is wrong."""
+        text = ''.join(trace_text(made, told))
+        self.assertEqual(wrongs(text), [])
+        return json.loads(text)['traceEvents']
 
     def test_found_run(self):
-        events = self.check(make_trace(found()))
+        events = self.check(found())
         names = collections.Counter(event['name'] for event in events)
         self.assertEqual(names['call clone'] + names['call exit'], 2 + 1)
         self.assertEqual(names['store enters memory'], 2 * len(found().drained))
@@ -73,14 +77,82 @@ class Traces(unittest.TestCase):
     def test_every_example(self):
         for run, elf in kept_runs():
             with self.subTest(run=run.name):
-                self.check(make_trace(history(run, elf)))
+                self.check(history(run, elf))
+
+    def test_what_was_read_and_written(self):
+        """An addition that is lost: both threads read 0, and main sees the second store alone."""
+        events = self.check(found(), values(FOUND, PETERSON, 'found.trace'))
+        names = {one['ts']: one['name'] for one in slices(events, 'exec', 'drain') if 'count' in one['name']}
+        due = {
+            75: 'count = 0, since the start',
+            78: 'count = 1, waits',
+            87: 'count = 0, since the start',
+            94: 'drain count = 1 in place of 0',
+            96: 'count = 1, waits',
+            121: 'drain count = 1 in place of 1',
+            126: 'count = 1, store of step 96 by thread 1',
+            267: 'count = 1, store of step 96 by thread 1',
+        }
+        self.assertEqual(names, due)
+        self.assertEqual(
+            [arrow for arrow in arrows(events) if any(point[1] in due for point in arrow[1:])],
+            [
+                ('store enters memory', (0, 78), (0, 94)),
+                ('store enters memory', (1, 96), (1, 121), (1, 126)),
+                ('seen by a load', (1, 121), (0, 267)),
+            ],
+        )
+
+    @needs_objdump
+    def test_golden(self):
+        """All but the line that says the names of the files."""
+        told = values(TRACES / 'restarted.output', COUNTER, 'restarted.trace')
+        made = ''.join(trace_text(told.history, told)).splitlines()[:-1]
+        self.assertEqual(made, (GOLDEN / 'restarted.json').read_text().splitlines())
+
+    def test_a_store_that_is_seen_while_it_waits(self):
+        """A load of the same hart, and behind the drain one of another."""
+        with tempfile.TemporaryDirectory() as name:
+            folder = Path(name)
+            elf = assemble(folder, 'sd a0,0(sp)\nld a1,0(sp)\nld a2,0(sp)\nnop')
+            records = [
+                ('0 run 1', START, ''),
+                ('0 exec 1', START, 'waits 0000000000020000 8 0000000000000001'),
+                ('0 exec 1', START + 4, 'read 0000000000020000 8 0000000000000001 store 2'),
+                ('0 drain 1', START + 8, f'wrote {0x20000:016x} 8 {1:016x} old {0:016x} line 2'),
+                ('1 run 2', START + 8, ''),
+                ('1 exec 2', START + 8, 'read 0000000000020000 8 0000000000000001 memory 4'),
+            ]
+            run = folder / 'run'
+            run.write_text(output_text([f'{words} {pc:016x}' for words, pc, _ in records]))
+            told = [
+                f'{words} {pc:016x}\n  line {number}\n' + (f'  {fact}\n' if fact else '')
+                for number, (words, pc, fact) in enumerate(records, 1)
+            ]
+            made = history(run, elf)
+            trace = parse_trace('made', f'{"".join(told)}end open\n'.encode())
+        self.assertEqual(
+            arrows(self.check(made, Values(made, trace))),
+            [
+                ('seen by a load of its hart', (0, 2), (0, 3)),
+                ('store enters memory', (0, 2), (0, 4), (1, 6)),
+            ],
+        )
 
     def test_command(self):
         with tempfile.TemporaryDirectory() as folder:
             made = Path(folder) / 'made.json'
             answer = lens('trace', FOUND, PETERSON, '-o', made)
             self.assertEqual((answer.returncode, answer.stdout, answer.stderr), (0, b'', b''))
-            self.check(json.loads(made.read_text()))
+            self.assertEqual(wrongs(made.read_text()), [])
+
+    @needs_program
+    def test_every_example_with_values(self):
+        for run, elf in kept_runs():
+            with self.subTest(run=run.name):
+                answer = lens('trace', run, elf, '--values')
+                self.assertEqual((answer.returncode, answer.stderr), (0, b''))
+                self.assertEqual(wrongs(answer.stdout.decode()), [])
 
     def test_arrows_of_a_barrier(self):
         """A call of membarrier on hart 0, a `take` of hart 1, and the `done`."""
@@ -100,16 +172,11 @@ class Traces(unittest.TestCase):
             ]
             run = folder / 'run'
             run.write_text(output_text([f'{words} {pc:016x}' for words, pc in steps]))
-            events = self.check(make_trace(history(run, elf)))
-        arrows = {
-            event['id']: (event['name'], event['tid'], event['ts'])
-            for event in events
-            if event['ph'] == 'f'
-        }
+            events = self.check(history(run, elf))
         self.assertEqual(
-            arrows, {'take 4 6': ('membarrier asks', 1, 6), 'done 4 7': ('membarrier done', 0, 7)}
+            arrows(events), [('membarrier asks', (0, 4), (1, 6)), ('membarrier done', (0, 4), (0, 7))]
         )
-        marks = [event['name'] for event in events if event['ph'] == 'i']
+        marks = [event['name'] for event in slices(events, 'run', 'exec', 'take', 'done')]
         self.assertEqual(marks, ['run 1', 'run 2', 'call membarrier', 'take', 'done'])
 
     def test_a_restart(self):
@@ -128,7 +195,7 @@ class Traces(unittest.TestCase):
             run.write_text(output_text(lines))
             made = history(run, elf)
         self.assertEqual(made.sent, {4: START + 8})
-        marks = [event for event in self.check(make_trace(made)) if event['ph'] == 'i']
+        marks = slices(self.check(made), 'run', 'preempt')
         self.assertEqual([event['name'] for event in marks], ['run 1', 'preempt 1', 'run 1, to again'])
         self.assertEqual(marks[2]['args']['restarted at'], 'again')
 
@@ -153,7 +220,7 @@ class Traces(unittest.TestCase):
             run.write_text(output_text([f'{words} {pc:016x}' for words, pc in steps]))
             made = history(run, elf)
         self.assertEqual(made.sent, {3: START + 12})
-        marks = [event for event in self.check(make_trace(made)) if event['ph'] == 'i']
+        marks = slices(self.check(made), 'run', 'signal', 'exec')
         self.assertEqual(
             [event['name'] for event in marks],
             ['run 1', 'signal, to handler', 'call rt_sigreturn', 'call gettid'],

@@ -37,6 +37,24 @@ impl Machine {
         if hart.0 >= self.limits.harts {
             return Advance::NoneNow;
         }
+        if let Some(entry) = self.execute_on_credit(hart) {
+            return Advance::Made(entry);
+        }
+        self.advance_picked(hart)
+    }
+
+    /// [`Machine::advance`] of a hart of the machine, where the run goes on: by what is seen of the hart.
+    #[inline(never)]
+    fn advance_picked(&mut self, hart: Hart) -> Advance
+        requires chosen { IsChosen self.old.setting self.old.seed self.old.log }
+        requires goes { has_ended self.old.setting (history self.old.setting self.old.log) ≡ false }
+        requires hart { hart.0 < self.old.setting.limits.harts }
+        ensures answer { result
+            ≡ advance_at self.old.setting self.old.seed hart.0 (history self.old.setting self.old.log) }
+        ensures log { self.new ≡ record self.old { log = self.old.log ++ made_in result } }
+        ensures chosen { IsChosen self.new.setting self.new.seed self.new.log }
+        ensures block_run { IsBlockRun self.new.setting self.new.log }
+    {
         let sight = self.sight(hart);
         let Some(pick) = self.chooser.peek(hart, &sight) else {
             return Advance::NoneNow;

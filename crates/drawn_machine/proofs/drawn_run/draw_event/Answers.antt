@@ -2,7 +2,13 @@ use Rattle.std.proofs.Common.{◌∙◌, sym, subst}
 use Rattle.block_model.specs.Setting.{Seen}
 use Rattle.drawn_machine.specs.OnTheWay.{IsOnItsWay}
 use Rattle.drawn_machine.proofs.DrawnSteps.{IsDrawnNext, is_for, never_refused, of_its_machine, some_event, way_more}
+use Rattle.drawn_machine.proofs.SeenScenes.{none_begins}
 use Rattle.drawn_machine.proofs.drawn_run.draw_event.Goals as goal
+
+pub invariant_of-next : goal.invariant_of-next
+invariant_of-next c =
+    let way = c.requires.drawn in
+    record { few = c.requires.limits.eight_harts; starts = none_begins c.args.machine.now way.1.block_run }
 
 pub next-requires : goal.next-requires
 next-requires c =

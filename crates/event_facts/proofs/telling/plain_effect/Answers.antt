@@ -12,10 +12,10 @@ pub returns : goal.returns
 returns c =
     let here = here_on c.args.machine.now c.args.hart.0 in
     let e = c.in_ok-effect.effect in
-    let is : effect_here here ≡ Some e = sym c.next.ensures.effect ∙ c.in_ok-effect.was in
+    let is : effect_here here ≡ Some e = sym c.next-next.ensures.effect ∙ c.in_ok-effect.was in
     record {
       effect = c.unless_fault_or_call.ensures
-          ∙ ap (λ (f : Option ℕ). let o : Option Effect = cond (is_none f && not (is_call e)) (Some e) None in o) c.next.ensures.fault
+          ∙ ap (λ (f : Option ℕ). let o : Option Effect = cond (is_none f && not (is_call e)) (Some e) None in o) c.next-next.ensures.fault
           ∙ sym (effect_is here e _ is refl);
       sizes = subst (λ (o : Option Effect). IfSome o HasAccessSizes) (sym c.unless_fault_or_call.ensures) (sized_if _ e (effect_sized here e is));
     }

@@ -1,4 +1,4 @@
-use Rattle.std.proofs.Common.{refl}
+use Rattle.std.proofs.Common.{refl, take}
 use Rattle.percpu_lib.specs.Adds.{cell_seen}
 use Rattle.percpu_lib.specs.Uses.{cells_of}
 use Rattle.percpu_lib.proofs.UseTests.{just_is}
@@ -13,9 +13,9 @@ returns c =
       assembler_of Counter counter_words,
       code_of_words counter_words,
       example.counting,
-      example.log,
+      take 66 example.log,
       example.slots,
-      example.at,
+      example.add.at,
       example.area,
       0,
       its.sequence,

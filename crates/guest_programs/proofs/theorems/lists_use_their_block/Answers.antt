@@ -1,4 +1,4 @@
-use Rattle.std.proofs.Common.{[], ◌∷◌, eqb, refl}
+use Rattle.std.proofs.Common.{[], ◌∷◌, eqb, refl, take}
 use Rattle.std.proofs.lemmas.Bool.{and_parts, eqb-true}
 use Rattle.percpu_lib.specs.Adds.{cell_seen}
 use Rattle.percpu_lib.specs.Pushes.{node_of}
@@ -17,9 +17,9 @@ returns c = record {
         assembler_of Lists list_words,
         code_of_words list_words,
         example.listing,
-        example.push_log,
+        take 62 example.log,
         example.push_slots,
-        example.push_at,
+        example.push.at,
         example.push_area,
         example.the_pop ∷ [],
         q,
@@ -39,9 +39,9 @@ returns c = record {
         assembler_of Lists list_words,
         code_of_words list_words,
         example.listing,
-        example.log,
+        take 137 example.log,
         example.pop_slots,
-        example.pop_at,
+        example.pop.at,
         example.pop_area,
         example.the_push ∷ [],
         q,

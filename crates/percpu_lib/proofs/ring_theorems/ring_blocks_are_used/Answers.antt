@@ -1,10 +1,11 @@
-use Rattle.std.proofs.Common.{◌+◌, ◌-◌, ◌^◌, [], ◌∷◌, ◌∙◌, sym, eqb, refl, length}
+use Rattle.std.proofs.Common.{◌+◌, ◌-◌, ◌^◌, [], ◌∷◌, ◌∙◌, sym, eqb, refl, length, take}
 use Rattle.std.proofs.lemmas.Bool.{and_parts, eqb-true}
 use Rattle.mach_types.specs.Kernel.Areas.{is_inside}
 use Rattle.block_model.specs.History.{file, stores}
 use Rattle.percpu_lib.specs.Frees.{value_of}
 use Rattle.percpu_lib.specs.Pushes.{word_seen}
 use Rattle.percpu_lib.specs.RingForms.{slot_of}
+use Rattle.percpu_lib.proofs.ExampleParts.{place_of}
 use Rattle.percpu_lib.proofs.RingExample as example
 use Rattle.percpu_lib.proofs.RingExample.{ring_of}
 use Rattle.percpu_lib.proofs.UseTests.{is_just, just_is}
@@ -23,9 +24,9 @@ returns c = record {
       let torn = was.sequence in
       let place = ring_of example.setting example.put_slots torn in
       let four = and_parts (eqb torn.thread 1) _ was.passes in
-      let five = and_parts (is_inside example.the_put.range (file example.setting torn.thread torn.begun).pc) _
+      let five = and_parts (is_inside (place_of example.put).range (file example.setting torn.thread torn.begun).pc) _
       four.1 in
-      let six = and_parts (eqb (file example.setting torn.thread torn.reached).pc (example.put_at + 88)) _
+      let six = and_parts (eqb (file example.setting torn.thread torn.reached).pc (example.put.at + 88)) _
       five.1 in
       let seven = and_parts (is_just (word_seen example.setting 0 (slot_of place 511) torn.reached) 7) _
       six.1 in (
@@ -33,9 +34,9 @@ returns c = record {
         example.cut,
         example.cut_rest,
         example.put_slots,
-        example.put_at,
+        example.put.at,
         example.area,
-        example.the_get ∷ [],
+        place_of example.get ∷ [],
         torn,
         q,
         its.used,
@@ -43,7 +44,7 @@ returns c = record {
         was.is,
         eqb-true torn.thread 1 four.0 ∙ sym (eqb-true q.thread 1 one.0),
         five.0,
-        eqb-true (file example.setting torn.thread torn.reached).pc (example.put_at + 88) six.0,
+        eqb-true (file example.setting torn.thread torn.reached).pc (example.put.at + 88) six.0,
         just_is (word_seen example.setting 0 (slot_of place 511) torn.reached) 7 seven.0,
         just_is (word_seen example.setting 0 (place + 8) torn.reached) (2 ^ 64 - 1) seven.1,
         just_is (word_seen example.setting 0 (slot_of ring 511) q.reached) 7 two.0,
@@ -57,11 +58,11 @@ returns c = record {
       let one = and_parts (is_just (word_seen example.setting 0 at q.reached) 7) _ its.passes in
       let two = and_parts (is_just (word_seen example.setting 0 (at + 8) q.reached) 9) _ one.1 in (
         example.setting,
-        example.get_log,
+        take 105 example.log,
         example.get_slots,
-        example.get_at,
+        example.get.at,
         example.area,
-        example.the_put ∷ [],
+        place_of example.put ∷ [],
         q,
         its.used,
         refl,
@@ -75,11 +76,11 @@ returns c = record {
       let one = and_parts (eqb (value_of example.setting example.get_slots q.thread q.reached) 0) _
       its.passes in (
         example.setting,
-        example.none_log,
+        take 127 example.log,
         example.get_slots,
-        example.get_at,
+        example.get.at,
         example.area,
-        example.the_put ∷ [],
+        place_of example.put ∷ [],
         q,
         its.used,
         refl,
@@ -96,9 +97,9 @@ returns c = record {
       let three = and_parts (is_just (word_seen example.full_setting 0 (ring + 8) q.reached) 511) _
       two.1 in (
         example.full_setting,
-        example.full_log,
+        take 27 example.full_log,
         example.full_slots,
-        example.full_at,
+        example.full.at,
         example.area,
         [],
         q,
@@ -115,10 +116,10 @@ returns c = record {
         example.anew,
         example.rest,
         example.put_slots,
-        example.put_at,
+        example.put.at,
         example.area,
         1,
-        example.the_get ∷ [],
+        place_of example.get ∷ [],
         its.run,
         its.holds,
         its.begins,

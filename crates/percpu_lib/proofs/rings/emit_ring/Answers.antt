@@ -7,16 +7,16 @@ use Rattle.percpu_lib.proofs.rings.emit_ring.Goals as goal
 
 pub emit_lines-requires : goal.emit_lines-requires
 emit_lines-requires c =
-    let lines = way_made (ring_kind_of c.args.way) c.args.count c.args.slots c.args.base c.deref-2.result.now
+    let lines = way_made (ring_kind_of c.args.way) c.args.count c.args.slots.now c.args.base c.deref-2.result.now
     c.deref.result.now (c.deref-2.ensures.value ∙ c.in_ok-lines.ensures)
     (c.deref.ensures.value ∙ c.in_ok-steps.ensures) in
     subst (λ (xs : List Line). All (IsEmittable (length c.args.asm.now.labels)) xs) (sym lines)
-    (ring_emittable (ring_kind_of c.args.way) c.args.slots c.args.base (length c.args.asm.now.labels)
+    (ring_emittable (ring_kind_of c.args.way) c.args.slots.now c.args.base (length c.args.asm.now.labels)
     c.requires.slots c.requires.low c.if-not-has_room.ensures.within c.args.count c.requires.few)
 
 pub returns-clause-ok : goal.returns-clause-ok
 returns-clause-ok c =
-    let lines = way_made (ring_kind_of c.args.way) c.args.count c.args.slots c.args.base c.deref-2.result.now
+    let lines = way_made (ring_kind_of c.args.way) c.args.count c.args.slots.now c.args.base c.deref-2.result.now
     c.deref.result.now (c.deref-2.ensures.value ∙ c.in_ok-lines.ensures)
     (c.deref.ensures.value ∙ c.in_ok-steps.ensures) in
     subst (λ (xs : List Line). AreEmitted xs c.args.asm.now c.emit_lines.new.asm) lines
@@ -24,10 +24,10 @@ returns-clause-ok c =
 
 pub returns-clause-labelled : goal.returns-clause-labelled
 returns-clause-labelled c =
-    let lines = way_made (ring_kind_of c.args.way) c.args.count c.args.slots c.args.base c.deref-2.result.now
+    let lines = way_made (ring_kind_of c.args.way) c.args.count c.args.slots.now c.args.base c.deref-2.result.now
     c.deref.result.now (c.deref-2.ensures.value ∙ c.in_ok-lines.ensures)
     (c.deref.ensures.value ∙ c.in_ok-steps.ensures) in
-    ring_labelled (ring_kind_of c.args.way) c.args.count c.args.slots c.args.base c.args.asm.now
+    ring_labelled (ring_kind_of c.args.way) c.args.count c.args.slots.now c.args.base c.args.asm.now
     c.emit_lines.new.asm
     (subst (λ (xs : List Line). AreEmitted xs c.args.asm.now c.emit_lines.new.asm) lines
     c.in_ok-emit_lines.ensures.ok)

@@ -1,51 +1,30 @@
-use Rattle.std.proofs.Common.{[], ◌∷◌}
+use Rattle.std.proofs.Common.{◌≡◌, [], ◌∷◌, Some}
 use Rattle.std.proofs.lemmas.Bool.{eqb-true}
 use Rattle.mach_types.specs.Registers.{register}
 use Rattle.block_model.specs.History.{file}
 use Rattle.percpu_lib.specs.Adds.{cell_seen}
+use Rattle.percpu_lib.specs.Pops.{pop_form}
+use Rattle.percpu_lib.specs.Pushes.{push_form}
 use Rattle.percpu_lib.specs.Uses.{cells_of}
+use Rattle.percpu_lib.proofs.ExampleParts.{is_shown, place_of}
+use Rattle.percpu_lib.proofs.FormTests.{pop_tested, push_tested}
 use Rattle.percpu_lib.proofs.ListExample as example
+use Rattle.percpu_lib.proofs.ListExample.{has_popped, is_pushed, log, pop, push, setting}
 use Rattle.percpu_lib.proofs.UseTests.{just_is}
 use Rattle.percpu_lib.proofs.theorems.list_blocks_are_used.Goals as goal
 
 pub returns : goal.returns
 returns c = record {
-  push = (
-    example.setting,
-    example.push_log,
-    example.push_slots,
-    example.push_at,
-    example.area,
-    example.the_pop ∷ [],
-    example.push_used.sequence,
-    example.push_used.used,
-    just_is (cell_seen example.setting 0
-        (cells_of example.setting example.push_slots example.push_used.sequence.thread example.push_used.sequence.begun)
-        example.push_used.sequence.reached) 0x20100 example.push_used.passes,
-  );
-  pop = (
-    example.setting,
-    example.pop_log,
-    example.pop_slots,
-    example.pop_at,
-    example.area,
-    example.the_push ∷ [],
-    example.pop_used.sequence,
-    example.pop_used.used,
-    eqb-true (register (file example.setting example.pop_used.sequence.thread example.pop_used.sequence.reached).file 19)
-        0x20100 example.pop_used.passes,
-  );
-  empty = (
-    example.setting,
-    example.empty_log,
-    example.pop_slots,
-    example.pop_at,
-    example.area,
-    example.the_push ∷ [],
-    example.empty_used.sequence,
-    example.empty_used.used,
-    eqb-true
-        (register (file example.setting example.empty_used.sequence.thread example.empty_used.sequence.reached).file 19)
-        0 example.empty_used.passes,
-  );
+  push =
+      is_shown push_form push_tested (λ s p q. cell_seen s 0 (cells_of s p q.thread q.begun) q.reached ≡ Some 0x20100)
+      setting log 36 push.form.slots push.at (place_of pop ∷ []) is_pushed example.push_used
+      (λ q is. just_is (cell_seen setting 0 (cells_of setting push.form.slots q.thread q.begun) q.reached) 0x20100 is);
+  pop =
+      is_shown pop_form pop_tested (λ s p q. register (file s q.thread q.reached).file p.value ≡ 0x20100) setting log
+      49 pop.form.slots pop.at (place_of push ∷ []) (has_popped 0x20100) example.pop_used
+      (λ q is. eqb-true (register (file setting q.thread q.reached).file 19) 0x20100 is);
+  empty =
+      is_shown pop_form pop_tested (λ s p q. register (file s q.thread q.reached).file p.value ≡ 0) setting log
+      61 pop.form.slots pop.at (place_of push ∷ []) (has_popped 0) example.empty_used
+      (λ q is. eqb-true (register (file setting q.thread q.reached).file 19) 0 is);
 }

@@ -1,80 +1,59 @@
-use Rattle.std.proofs.Common.{[], ◌∷◌, eqb}
+use Rattle.std.proofs.Common.{◌≡◌, [], ◌∷◌, Some, take, eqb}
 use Rattle.std.proofs.lemmas.Bool.{and_parts, eqb-true}
 use Rattle.mach_types.specs.Registers.{register}
 use Rattle.block_model.specs.History.{file}
+use Rattle.percpu_lib.specs.Allocs.{alloc_form}
+use Rattle.percpu_lib.specs.Frees.{free_form}
 use Rattle.percpu_lib.specs.Pools.{count_seen, pool_at, slot_at}
 use Rattle.percpu_lib.specs.Pushes.{word_seen}
 use Rattle.percpu_lib.specs.Uses.{cells_of}
+use Rattle.percpu_lib.proofs.ExampleParts.{is_shown, place_of}
+use Rattle.percpu_lib.proofs.FormTests.{alloc_tested, free_tested}
 use Rattle.percpu_lib.proofs.PoolExample as example
+use Rattle.percpu_lib.proofs.PoolExample.{alloc, free, full_setting, has_taken, is_freed, log, setting}
 use Rattle.percpu_lib.proofs.UseTests.{just_is}
 use Rattle.percpu_lib.proofs.theorems.pool_blocks_are_used.Goals as goal
 
 pub returns : goal.returns
 returns c = record {
-  free = (
-    example.setting,
-    example.free_log,
-    example.free_slots,
-    example.free_at,
-    example.area,
-    example.the_alloc ∷ [],
-    example.free_used.sequence,
-    example.free_used.used,
-    just_is (word_seen example.setting 0
-        (slot_at (pool_at
-        (cells_of example.setting example.free_slots example.free_used.sequence.thread example.free_used.sequence.begun) 0) 0)
-        example.free_used.sequence.reached) 42 example.free_used.passes,
-  );
-  alloc = (
-    example.setting,
-    example.alloc_log,
-    example.alloc_slots,
-    example.alloc_at,
-    example.area,
-    example.the_free ∷ [],
-    example.alloc_used.sequence,
-    example.alloc_used.used,
-    eqb-true (register (file example.setting example.alloc_used.sequence.thread example.alloc_used.sequence.reached).file 19)
-        42 example.alloc_used.passes,
-  );
-  none = (
-    example.setting,
-    example.none_log,
-    example.alloc_slots,
-    example.alloc_at,
-    example.area,
-    example.the_free ∷ [],
-    example.none_used.sequence,
-    example.none_used.used,
-    eqb-true
-        (register (file example.setting example.none_used.sequence.thread example.none_used.sequence.reached).file 19)
-        0 example.none_used.passes,
-  );
+  free =
+      is_shown free_form free_tested
+      (λ s p q. word_seen s 0 (slot_at (pool_at (cells_of s p q.thread q.begun) 0) 0) q.reached ≡ Some 42) setting log
+      51 free.form.slots free.at (place_of alloc ∷ []) is_freed example.free_used
+      (λ q is. just_is (word_seen setting 0 (slot_at (pool_at (cells_of setting free.form.slots q.thread q.begun) 0) 0)
+      q.reached) 42 is);
+  alloc =
+      is_shown alloc_form alloc_tested (λ s p q. register (file s q.thread q.reached).file p.value ≡ 42) setting log
+      68 alloc.form.slots alloc.at (place_of free ∷ []) (has_taken 42) example.alloc_used
+      (λ q is. eqb-true (register (file setting q.thread q.reached).file 19) 42 is);
+  none =
+      is_shown alloc_form alloc_tested (λ s p q. register (file s q.thread q.reached).file p.value ≡ 0) setting log
+      81 alloc.form.slots alloc.at (place_of free ∷ []) (has_taken 0) example.none_used
+      (λ q is. eqb-true (register (file setting q.thread q.reached).file 19) 0 is);
   full =
       let its = example.full_used in
-      let both = and_parts (eqb (register (file example.full_setting its.sequence.thread its.sequence.reached).file 18) 42) _
-      its.passes in (
-        example.full_setting,
-        example.full_log,
-        example.free_slots,
-        example.free_at,
-        example.area,
-        example.the_alloc ∷ [],
-        its.sequence,
+      let q = its.sequence in
+      let both = and_parts (eqb (register (file full_setting q.thread q.reached).file 18) 42) _ its.passes in (
+        full_setting,
+        take 22 example.full_log,
+        free.form.slots,
+        free.at,
+        free.area,
+        place_of alloc ∷ [],
+        q,
         its.used,
-        eqb-true (register (file example.full_setting its.sequence.thread its.sequence.reached).file 18) 42 both.0,
-        just_is (count_seen example.full_setting 0
-            (cells_of example.full_setting example.free_slots its.sequence.thread its.sequence.begun)
-            its.sequence.reached) 512 both.1,
+        eqb-true (register (file full_setting q.thread q.reached).file 18) 42 both.0,
+        just_is (count_seen full_setting 0 (cells_of full_setting free.form.slots q.thread q.begun) q.reached) 512
+            both.1,
       );
   retried = (
     example.setting,
     example.first_time,
     example.anew,
     example.rest,
-    example.free_slots,
-    example.free_at,
-    example.area,
+    free.form.slots,
+    free.at,
+    free.area,
     1,
     example.used_again.run,
     example.used_again.holds,

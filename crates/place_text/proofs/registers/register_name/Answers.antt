@@ -3,6 +3,6 @@ use Rattle.std.proofs.lemmas.List.{get_or_past}
 use Rattle.place_text.specs.Registers.{register_names}
 use Rattle.place_text.proofs.registers.register_name.Goals as goal
 
-pub returns-then-number-gt31 : goal.returns-then-number-gt31
+pub returns-then-number-gt31-clause-name : goal.returns-then-number-gt31-clause-name
 unfolding register_names
-returns-then-number-gt31 c = sym (get_or_past register_names c.args.number [] (omega arith))
+returns-then-number-gt31-clause-name c = sym (get_or_past register_names c.args.number [] (omega arith))

@@ -1,5 +1,5 @@
-use Rattle.machine_core.proofs.Common.{◌≡◌, ◌++◌, [], ◌∷◌, ap, sym, ◌∙◌, None, subst, IfOk-at_ok, IsChosen, Seen, entry_in, here_in_history, past_of, seen, setting_of, chosen_more}
-use Rattle.machine_core.proofs.AdvanceAnswers.{answers_ended, answers_made, answers_none, answers_past, machine_picks, all_of, never_err, same_entry, turn_picks}
+use Rattle.machine_core.proofs.Common.{◌≡◌, ◌++◌, [], ◌∷◌, sym, ◌∙◌, IsChosen, Seen, past_of, seen, setting_of, chosen_more, subst}
+use Rattle.machine_core.proofs.AdvanceAnswers.{answers_ended, answers_next, answers_past}
 use Rattle.machine_core.proofs.machine.Machine.advance.Goals as goal
 
 pub returns-then-has_ended-clause-answer : goal.returns-then-has_ended-clause-answer
@@ -12,45 +12,16 @@ returns-then-hart-self-clause-answer c =
     let m = c.self.inside in
     rw (← c.self.view_is) (answers_past (setting_of m) m.seed c.args.hart.0 (past_of m) (rw (← c.self.view_is) at (sym c.has_ended.ensures.answer ∙ c.if-has_ended.false)) c.if-hart-self.true)
 
-pub returns-in_default-clause-answer : goal.returns-in_default-clause-answer
-returns-in_default-clause-answer c =
+pub returns-in-Some-clause-answer : goal.returns-in-Some-clause-answer
+returns-in-Some-clause-answer c =
     let m = c.self.inside in
-    let h = c.args.hart.0 in
-    let chosen : IsChosen (setting_of m) m.seed m.log.items = rw (← c.self.view_is) at c.requires.chosen in
-    let going = rw (← c.self.view_is) at (sym c.has_ended.ensures.answer ∙ c.if-has_ended.false) in
-    let picked = machine_picks m h c.sight-sight.result None c.self.invariant (all_of (setting_of m) m.seed m.log.items chosen) c.if-hart-self.false
-    (rw (← c.self.view_is) at c.sight-sight.ensures) (sym c.in_default.is ∙ c.peek.ensures) in
-    rw (← c.self.view_is) (answers_none (setting_of m) m.seed h (past_of m) going c.if-hart-self.false picked)
+    rw (← c.self.view_is) (answers_next (setting_of m) m.seed c.args.hart.0 (past_of m) c.in-Some.entry
+    (rw (← c.self.view_is) at (sym c.has_ended.ensures.answer ∙ c.if-has_ended.false)) (rw (← c.self.view_is) at c.in-Some.ensures.next))
 
-pub unreachable-requires : goal.unreachable-requires
-unreachable-requires c =
+pub returns-in-Some-clause-chosen : goal.returns-in-Some-clause-chosen
+returns-in-Some-clause-chosen c =
     let m = c.self.inside in
-    let h = c.args.hart.0 in
-    let is = turn_picks m h c.sight-sight.result c.in-Some.pick c.self.invariant (rw (← c.self.view_is) at c.requires.chosen)
-    (rw (← c.self.view_is) at (sym c.has_ended.ensures.answer ∙ c.if-has_ended.false)) c.if-hart-self.false
-    (rw (← c.self.view_is) at c.sight-sight.ensures) (sym c.in-Some.is ∙ c.peek.ensures) in
-    never_err _ _ (sym c.in-Err.is ∙ ((rw (← c.self.view_is) at c.step_seen.ensures.answer) ∙ is.decided))
-
-pub returns-clause-answer : goal.returns-clause-answer
-returns-clause-answer c =
-    let m = c.self.inside in
-    let h = c.args.hart.0 in
-    let going = rw (← c.self.view_is) at (sym c.has_ended.ensures.answer ∙ c.if-has_ended.false) in
-    let is = turn_picks m h c.sight-sight.result c.in-Some.pick c.self.invariant (rw (← c.self.view_is) at c.requires.chosen) going c.if-hart-self.false
-    (rw (← c.self.view_is) at c.sight-sight.ensures) (sym c.in-Some.is ∙ c.peek.ensures) in
-    rw (← c.self.view_is) (answers_made (setting_of m) m.seed h (past_of m) c.in-Some.pick c.in-Ok.entry going c.if-hart-self.false is.picked
-    (same_entry _ _ (sym c.in-Ok.is ∙ ((rw (← c.self.view_is) at c.step_seen.ensures.answer) ∙ is.decided))))
-
-pub returns-clause-chosen : goal.returns-clause-chosen
-returns-clause-chosen c =
-    let m = c.self.inside in
-    let h = c.args.hart.0 in
-    let chosen : IsChosen (setting_of m) m.seed m.log.items = rw (← c.self.view_is) at c.requires.chosen in
-    let going = rw (← c.self.view_is) at (sym c.has_ended.ensures.answer ∙ c.if-has_ended.false) in
-    let is = turn_picks m h c.sight-sight.result c.in-Some.pick c.self.invariant chosen going c.if-hart-self.false
-    (rw (← c.self.view_is) at c.sight-sight.ensures) (sym c.in-Some.is ∙ c.peek.ensures) in
-    let e = entry_in c.in-Some.pick.choice (here_in_history (setting_of m) (past_of m) h) in
-    let same = same_entry _ _ (sym c.in-Ok.is ∙ ((rw (← c.self.view_is) at c.step_seen.ensures.answer) ∙ is.decided)) in
-    let new = IfOk-at_ok (λ f. c.step_seen.new.self ≡ record (seen m) { log = m.log.items ++ f ∷ [] }) c.in-Ok.is (rw (← c.self.view_is) at c.step_seen.ensures.ok) in
-    let whole : c.step_seen.new.self ≡ record (seen m) { log = m.log.items ++ e ∷ [] } = new ∙ ap (λ f. let v : Seen = record (seen m) { log = m.log.items ++ f ∷ [] } in v) same in
-    subst (λ (v : Seen). IsChosen v.setting v.seed v.log) (sym whole) (chosen_more (setting_of m) m.seed m.log.items h e c.self.invariant.run chosen is.next).1
+    let e = c.in-Some.entry in
+    let whole : c.execute_on_credit.new.self ≡ record (seen m) { log = m.log.items ++ e ∷ [] } = rw (← c.self.view_is) at c.in-Some.ensures.log in
+    subst (λ (v : Seen). IsChosen v.setting v.seed v.log) (sym whole)
+    (chosen_more (setting_of m) m.seed m.log.items c.args.hart.0 e c.self.invariant.run (rw (← c.self.view_is) at c.requires.chosen) (rw (← c.self.view_is) at c.in-Some.ensures.next)).1

@@ -1,4 +1,4 @@
-use Rattle.machine_core.proofs.Common.{◌++◌, map, ◌≡◌, refl, sym, ap, ◌∙◌, subst, arith, Some, true, executed, setting_of, stretch_of, Bool, HartState}
+use Rattle.machine_core.proofs.Common.{◌++◌, length, map, ◌≡◌, refl, sym, ap, ◌∙◌, subst, arith, Some, true, executed, setting_of, stretch_of, Bool, HartState}
 use Rattle.machine_core.proofs.AdvanceAnswers.{all_of, chosen_of}
 use Rattle.machine_core.proofs.StretchAppends.{counts_fit, of_machine, ready, taken_ready, with_hart}
 use Rattle.machine_core.proofs.MachineCredits.{IsSettled, machine_so}
@@ -23,9 +23,8 @@ pub take_in-requires : goal.take_in-requires
 take_in-requires c =
     let m = c.self.inside in
     let l = stretch_of c.args.stretch in
-    let is = ready m c.args.hart l c.index_mut-state.result.now c.self.invariant (rw (← c.self.view_is) at c.requires.chosen) (rw (← c.self.view_is) at c.requires.fits)
-    (rw (← c.self.view_is) at c.requires.goes) (rw (← c.self.view_is) at c.requires.events) c.index_mut-state.ensures.value in
-    let fit = counts_fit m c.args.hart l c.index_mut-state.result.now is (rw (← c.self.view_is) at c.requires.room) in
+    let lt = of_machine m c.args.hart l (rw (← c.self.view_is) at c.requires.fits) in
+    let fit = counts_fit m c.args.hart c.index_mut-state.result.now (length l.pcs) c.self.invariant lt c.index_mut-state.ensures.value (rw (← c.self.view_is) at c.requires.room) in
     record { ran = fit.0; events = fit.1 }
 
 pub invariant_of-self : goal.invariant_of-self
