@@ -12,7 +12,7 @@ mod Counts
 mod Entries
 mod ErrorCalls
 pub mod EventEffects
-mod ExamplePrograms
+pub mod ExamplePrograms
 mod Examples
 mod FileSteps
 mod FixedRule
