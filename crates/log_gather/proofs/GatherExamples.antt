@@ -6,9 +6,7 @@ use Rattle.mach_types.specs.declared.events.Kind.{Kind}
 use Rattle.mach_types.specs.declared.events.Kind.TheVariants as kind
 use Rattle.mach_types.specs.Kernel.Areas.{are_readable, number_at}
 use Rattle.rv_inst.specs.Meaning.{meaning}
-use Rattle.rv_inst.specs.Table.{row_of, rows, lui_rows, auipc_rows, jal_rows, jalr_rows, branch_rows}
-use Rattle.rv_inst.specs.Table.{load_rows, store_rows, op_imm_rows, op_imm_32_rows, op_rows, op_32_rows}
-use Rattle.rv_inst.specs.Table.{misc_mem_rows, amo_rows, system_rows}
+use Rattle.rv_inst.specs.Table.{row_of, rows}
 use Rattle.block_model.specs.Deciding.{decide, done, history}
 use Rattle.block_model.specs.Setting.{Setting}
 use Rattle.log_gather.specs.Facts.{place_after}
@@ -114,7 +112,7 @@ reserving_log = by_turns (x 1 2 0x10114) (d 1 2 0x10118) (x 1 2 0x10118)
 
 -- what the proofs open
 gathers : ℕ
-unfolding place_after gather_span gathered_by_spans decide history done meaning row_of rows lui_rows auipc_rows jal_rows jalr_rows branch_rows load_rows store_rows op_imm_rows op_imm_32_rows op_rows op_32_rows misc_mem_rows amo_rows system_rows are_readable number_at
+unfolding place_after gather_span gathered_by_spans decide history done meaning row_of rows are_readable number_at
 gathers = zero
 
 one_sequence : names_of counting log ≡ record { hart = 0; number = 18 } ∷ []
