@@ -3,10 +3,8 @@
 ghost use Rattle.std.specs.Prelude.{◌≡◌, ◌<◌, ◌≤◌, ◌↔◌, false, Ok, Err, IfOk, IfErr, OnErr, IfSome, IfNone, IsTrue, is_none};
 ghost use Rattle.std.specs.Option.{option_map};
 ghost use Rattle.mach_types.specs.Limits.{InRange};
-ghost use Rattle.block_model.specs.Deciding.{decide, history};
-ghost use Rattle.block_model.specs.History.{restart, running};
-ghost use Rattle.block_model.specs.Acts.{is_instruction, named_at};
-ghost use Rattle.block_model.specs.Setting.{Seen};
+ghost use Rattle.block_model.specs.{Deciding.decide, Deciding.history, History.restart, History.running};
+ghost use Rattle.block_model.specs.{Acts.is_instruction, Acts.named_at, Setting.Seen};
 ghost use Rattle.block_view.specs.Acts.{form_alone, is_run};
 ghost use Rattle.block_view.specs.Ledgers.{begins, is_fatal, is_more, leaves_inside, moves_out, takes, verdict_by};
 ghost use Rattle.block_view.specs.Passing.{IsAhead, IsAheadOf, IsDecided, IsMadeAgain, IsMadeBy, inside_at, is_by_signal, would_interrupt};

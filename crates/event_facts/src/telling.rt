@@ -1,21 +1,13 @@
 //! A plain event is made, and what came of it is told.
 
 ghost use Rattle.std.specs.Prelude.{◌≡◌, ◌<◌, ◌++◌, ◌&&◌, ◌∷◌, [], Some, None, IfSome, OnOk, if◌then◌else◌, is_none, length, map, not, option_to_list, true};
-ghost use Rattle.mach_types.specs.Bytes.{IsAccessSize};
-ghost use Rattle.mach_types.specs.Events.{choice_of};
-ghost use Rattle.mach_types.specs.Limits.{InRange};
-ghost use Rattle.mach_types.specs.Registers.{register};
+ghost use Rattle.mach_types.specs.{Bytes.IsAccessSize, Events.choice_of, Limits.InRange, Registers.register};
 ghost use Rattle.mach_types.specs.declared.events.Choice.TheVariants as asked;
-ghost use Rattle.rv_inst.specs.Class.{is_call};
-ghost use Rattle.rv_inst.specs.Execution.{word_seen};
-ghost use Rattle.rv_inst.specs.Sizes.{HasAccessSizes};
-ghost use Rattle.block_model.specs.Events.{done_of};
-ghost use Rattle.block_model.specs.Here.{memory, view};
-ghost use Rattle.block_model.specs.Run.{IsBlockRun};
+ghost use Rattle.rv_inst.specs.{Class.is_call, Execution.word_seen, Sizes.HasAccessSizes};
+ghost use Rattle.block_model.specs.{Events.done_of, Here.memory, Here.view, Run.IsBlockRun};
 ghost use Rattle.event_facts.specs.Deeds.{IsDeedOf, drained_in, entered_in, executed_in};
 ghost use Rattle.event_facts.specs.Facts.{entered_facts, executed_by, facts_of, loaded_by, memory_facts, reading_facts};
-ghost use Rattle.event_facts.specs.Reservations.{own_facts};
-ghost use Rattle.event_facts.specs.Lines.{line_behind, next_line};
+ghost use Rattle.event_facts.specs.{Reservations.own_facts, Lines.line_behind, Lines.next_line};
 ghost use Rattle.event_facts.specs.Telling.{HasSizes, IsDecided, effect_in, here_on, past_of, plain_event_of, register_by, registers_on};
 ghost use Rattle.event_facts.specs.Tied.{AreLinesOf, kept_on, kept_source};
 

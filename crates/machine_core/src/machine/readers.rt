@@ -3,21 +3,15 @@
 ghost use Rattle.std.specs.Prelude.{◌≡◌, ◌<◌, ℕ, [], None, Ok, Err};
 ghost use Rattle.mach_types.specs.Bytes.{IsAccessSize, word_at};
 ghost use Rattle.mach_types.specs.Kernel.Signals as signals;
-ghost use Rattle.mach_types.specs.Kernel.Threads.{is_live};
-ghost use Rattle.mach_types.specs.declared.events.Entry.{Entry};
+ghost use Rattle.mach_types.specs.{Kernel.Threads.is_live, declared.events.Entry.Entry};
 ghost use Rattle.scheduler.specs.Holding as scheduling;
-ghost use Rattle.sys_calls.specs.Made.{AreSaved};
-ghost use Rattle.sys_calls.specs.Registered.{areas_by_number};
-ghost use Rattle.block_model.specs.Acts.{named_at};
-ghost use Rattle.block_model.specs.Choosing.{credit_at};
-ghost use Rattle.block_model.specs.Deciding.{decide, history};
-ghost use Rattle.block_model.specs.Events.{done_of};
-ghost use Rattle.block_model.specs.Here.{memory, runs, view};
+ghost use Rattle.sys_calls.specs.{Made.AreSaved, Registered.areas_by_number};
+ghost use Rattle.block_model.specs.{Acts.named_at, Choosing.credit_at, Deciding.decide, Deciding.history};
+ghost use Rattle.block_model.specs.{Events.done_of, Here.memory, Here.runs, Here.view};
 ghost use Rattle.block_model.specs.History.{events, file, here_in_history, kernel, ran};
 ghost use Rattle.block_model.specs.declared.refusals.Refused.{Refused};
 ghost use Rattle.block_model.specs.Sights.{effect_here, fault_here, is_deliverable_on, sight_in};
-ghost use Rattle.process.specs.Foresight.{foreseen_writes};
-ghost use Rattle.process.specs.Harts.{hart_in};
+ghost use Rattle.process.specs.{Foresight.foreseen_writes, Harts.hart_in};
 ghost use Rattle.process.specs.Sequences.{area_on, looked_at_on};
 ghost use Rattle.machine_core.specs.Free.{goes_freely};
 
