@@ -3,25 +3,21 @@
 -- slot in use; the reader unlocks; and the sync block ends. The guest uses the blocks as HoldsUrcu asks.
 use Rattle.std.proofs.Common.{◌≡◌, ◌+◌, List, [], ◌∷◌, ◌++◌, refl, ap}
 use Rattle.std.proofs.Common.{◌∙◌}
-use Rattle.std.proofs.Common.{true, fold, Ok}
+use Rattle.std.proofs.Common.{fold, Ok}
 use Rattle.mach_types.specs.Kernel.Barriers.{asked as command_asked}
 use Rattle.mach_types.specs.declared.events.Choice.TheVariants as asked
 use Rattle.mach_types.specs.declared.events.Entry.{Entry}
 use Rattle.mach_types.specs.declared.events.Kind.TheVariants as kind
-use Rattle.block_model.specs.Deciding.{event, history}
 use Rattle.block_model.specs.Replay.{Ask, play_line, played}
 use Rattle.block_model.specs.Run.{IsBlockRun}
 use Rattle.block_model.specs.Setting.{Setting}
 use Rattle.block_model.proofs.Laws.{played_is_run}
-use Rattle.alone_laws.specs.Spans.{code_of}
 use Rattle.percpu_lib.proofs.Computing.{by_rules, by_table}
-use Rattle.percpu_lib.proofs.ExampleParts.{AreThere, entry, execs, line, walk, walk_of}
-use Rattle.urcu_lib.specs.Blocks.{Urcu, lock_block, sync_block, unlock_block}
-use Rattle.urcu_lib.specs.Sections.{IsLockStore}
-use Rattle.urcu_lib.specs.Uses.{HoldsUrcu}
+use Rattle.percpu_lib.proofs.ExampleParts.{entry, execs, line, walk, walk_of}
+use Rattle.urcu_lib.specs.Blocks.{Urcu}
 use Rattle.urcu_lib.specs.declared.regs.SyncRegs.{SyncRegs}
-use Rattle.urcu_lib.proofs.ExampleParts.{blocks_so, played_on, start_so}
-use Rattle.urcu_lib.proofs.UseTests.{Layout, all_used, are_fine, is_lock_store, lock_store_is, urcu_of}
+use Rattle.urcu_lib.proofs.ExampleParts.{AreLaid, IsWorked, played_on, worked}
+use Rattle.urcu_lib.proofs.UseTests.{Layout, urcu_of}
 use Rattle.guest_names.specs.declared.names.Name.TheVariants.{Urcu as UrcuGuest}
 use Rattle.guest_programs.specs.Programs.{data_bytes, guest_program}
 use Rattle.guest_programs.proofs.Blocks.{are_reading, are_waiting, reading, waiting}
@@ -35,16 +31,9 @@ exchanging = record {
 
 abbrev pub layout : Layout
 layout = record {
-  counter = 0x20008;
-  slots = 0x21040;
-  readers = 3;
-  reader = λ i. i + 2;
-  lock_at = 0x10214;
-  lock = reading;
-  unlock_at = 0x10224;
-  unlock = reading;
-  sync_at = 0x1019C;
-  sync = waiting;
+  words = record { counter = 0x20008; slots = 0x21040; readers = 3; reader = λ i. i + 2 };
+  reads = record { lock_at = 0x10214; unlock_at = 0x10224; lock = reading };
+  waits = record { sync_at = 0x1019C; sync = waiting };
 }
 
 abbrev pub waits : SyncRegs
@@ -52,6 +41,10 @@ waits = waiting
 
 abbrev pub urcu : Urcu
 urcu = urcu_of layout
+
+there : AreLaid exchanging layout
+unfolding by_table
+there = ((refl, (refl, tt)), (refl, tt), (refl, (refl, (refl, (refl, (refl, (refl, (refl, (refl, (refl, (refl, (refl, (refl, (refl, (refl, (refl, (refl, (refl, tt))))))))))))))))))
 
 abbrev lines_one : List Ask
 lines_one = line (asked.Run (record { 0 = 1 })) ∷ execs 29 ++ line asked.Drain ∷ line asked.Drain ∷ execs 30
@@ -186,38 +179,6 @@ is_played =
 pub is_run : IsBlockRun exchanging log
 is_run = (played_is_run exchanging lines log is_played).0
 
-fine : are_fine exchanging layout 1 (history exchanging log) ≡ true
+pub its : IsWorked exchanging layout first lock_entry log
 unfolding played by_rules command_asked
-fine = refl
-
-locks_it : is_lock_store exchanging layout 1 0 (event exchanging (history exchanging first) lock_entry)
-    (history exchanging first) ≡ true
-unfolding played by_rules command_asked
-locks_it = refl
-
-pub locks : IsLockStore exchanging urcu 0 (event exchanging (history exchanging first) lock_entry)
-    (history exchanging first)
-locks = lock_store_is exchanging layout 1 0 (event exchanging (history exchanging first) lock_entry)
-    (history exchanging first) locks_it
-
-lock_there : AreThere (code_of exchanging.program.pages) 0x10214 (lock_block reading)
-unfolding by_table
-lock_there = (refl, (refl, tt))
-
-unlock_there : AreThere (code_of exchanging.program.pages) 0x10224 (unlock_block reading)
-unfolding by_table
-unlock_there = (refl, tt)
-
-sync_there : AreThere (code_of exchanging.program.pages) 0x1019C (sync_block waiting 3)
-unfolding by_table
-sync_there = (refl, (refl, (refl, (refl, (refl, (refl, (refl, (refl, (refl, (refl, (refl, (refl, (refl, (refl, (refl, (refl, (refl, tt)))))))))))))))))
-
-pub holds : HoldsUrcu exchanging urcu (history exchanging log)
-holds = record {
-  first = 1;
-  blocks =
-      blocks_so exchanging.program.pages layout refl refl are_reading are_reading are_waiting lock_there unlock_there
-      sync_there;
-  start = start_so exchanging layout 1 refl refl refl;
-  uses = all_used exchanging layout 1 (history exchanging log) fine;
-}
+its = worked exchanging layout first lock_entry log there are_reading are_waiting refl refl refl refl refl

@@ -22,9 +22,8 @@ use Rattle.percpu_lib.specs.Adds.{add_block, add_range, cell_seen, placed_add}
 use Rattle.percpu_lib.specs.Uses.{HoldsAdd, SharesArea, add_form, cells_of}
 use Rattle.percpu_lib.specs.declared.slots.Slots.{Slots}
 use Rattle.percpu_lib.proofs.Computing.{by_rules, by_table}
-use Rattle.percpu_lib.proofs.ExampleParts.{AreThere, entry, holds_so, line}
-use Rattle.percpu_lib.proofs.ExampleParts.{data_at, setting_of, walk}
-use Rattle.percpu_lib.proofs.ExampleParts.{execs, slots_with}
+use Rattle.percpu_lib.proofs.ExampleParts.{AreThere, cut_after, data_at, entry, execs, holds_so, line}
+use Rattle.percpu_lib.proofs.ExampleParts.{sequence_of, setting_of, slots_with, walk}
 pub use Rattle.percpu_lib.proofs.ExampleParts.{own_area as area}
 use Rattle.percpu_lib.proofs.ExamplePrograms.{add_code}
 use Rattle.percpu_lib.proofs.FormTests.{add_tested}
@@ -41,17 +40,17 @@ slots = slots_with 11 0x10120
 abbrev pub at : ℕ
 at = 0x100D0
 
+-- the words of the block stand there
+there : AreThere (code_of adding.program.pages) at (add_block slots)
+unfolding by_table
+there =
+    (refl, (refl, (refl, (refl, (refl, (refl, (refl, (refl, (refl, (refl, (refl, (refl, (refl, (refl, tt))))))))))))))
+
 -- the thread runs, and executes the first eight instructions and the first six words of the block, whose
 -- store then enters memory. It is preempted and runs again; it executes the jump at the abort handler, the
 -- first six words once more, whose store enters memory, and five more words
 abbrev lines : List Ask
-lines =
-    line (asked.Run (record { 0 = 1 }))
-    ∷ (execs 14
-    ++ (line asked.Drain
-    ∷ line asked.Preempt
-    ∷ line (asked.Run (record { 0 = 1 }))
-    ∷ (execs 7 ++ (line asked.Drain ∷ execs 5))))
+lines = cut_after 14 1 7 ++ (line asked.Drain ∷ execs 5)
 
 abbrev pub log : List Entry
 log =
@@ -65,13 +64,7 @@ is_run = (played_is_run adding lines log refl).0
 
 -- its second sequence, from the place before its first instruction on
 abbrev pub sequence : Sequence
-sequence = record {
-  hart = 0;
-  thread = 1;
-  begun = history adding (take 23 log);
-  last_instruction = history adding (take 30 log);
-  reached = history adding log;
-}
+sequence = sequence_of adding log 23 30
 
 pub is_sequence : sequence_on adding 0 (history adding log) ≡ Some sequence
 unfolding by_rules
@@ -89,12 +82,6 @@ leaves = refl
 pub adds : cell_seen adding 0 (cells_of adding slots 1 sequence.begun) sequence.reached ≡ Some 32
 unfolding by_rules
 adds = refl
-
--- the words of the block stand there
-there : AreThere (code_of adding.program.pages) at (add_block slots)
-unfolding by_table
-there =
-    (refl, (refl, (refl, (refl, (refl, (refl, (refl, (refl, (refl, (refl, (refl, (refl, (refl, (refl, tt))))))))))))))
 
 fine : are_fine adding (add_form slots) (add_tested slots) at area 1 (history adding log) ≡ true
 unfolding by_rules

@@ -31,6 +31,8 @@ use Rattle.percpu_lib.specs.declared.lines.Line.{Line}
 use Rattle.percpu_lib.specs.declared.slots.Slots.{Slots}
 use Rattle.percpu_lib.proofs.BlockCourse.{AsksFirst}
 use Rattle.percpu_lib.proofs.BlockWords.{held_aligned}
+use Rattle.percpu_lib.proofs.RingLines.{AreFirst, first_gets, first_puts, of_first}
+use Rattle.percpu_lib.proofs.RingPlaces.{one_to_four}
 
 -- an instruction that no sequence has; one with which a sequence ends; and one with which it begins
 abbrev is_early : Inst → Bool
@@ -96,17 +98,15 @@ fewer labels n (line.Plain i ∷ xs) = let less = fewer labels (n + 1) xs in ome
 fewer labels n (line.Branch i l ∷ xs) = let less = fewer labels (n + 1) xs in omega arith
 fewer labels n (line.Data w ∷ xs) = let less = fewer labels (n + 1) xs in omega arith
 
-put_late : (labels : List (Option ℕ)) (q : Slots) (k : ℕ) → AreLateLines labels (put_words q k)
-put_late labels q zero = tt
-put_late labels q (suc k) =
-    late_joined labels (put_words q k) (put_word q k) (put_late labels q k)
-    (refl, (refl, (refl, (refl, (refl, (refl, tt))))))
-
-get_late : (labels : List (Option ℕ)) (q : Slots) (k : ℕ) → AreLateLines labels (get_words q k)
-get_late labels q zero = tt
-get_late labels q (suc k) =
-    late_joined labels (get_words q k) (get_word q k) (get_late labels q k)
-    (refl, (refl, (refl, (refl, (refl, (refl, tt))))))
+-- the words of the first numbers, and the store behind them
+words_late : (labels : List (Option ℕ)) (word words : ℕ → List Line) → AreFirst word words
+    → ((k : ℕ) → AreLateLines labels (word k)) → (count : ℕ) (rs1 rs2 : ℕ) (imm : ℤ)
+    → AreLateLines labels (words count ++ line.Plain (inst.Sd rs1 rs2 imm) ∷ [])
+words_late labels word words first each count rs1 rs2 imm =
+    late_joined labels (words count) (line.Plain (inst.Sd rs1 rs2 imm) ∷ [])
+    (of_first (AreLateLines labels) word words first tt (late_joined labels) count (λ k lt. each k) count
+    (omega arith))
+    (refl, tt)
 
 each_late : (ws : List (Option Inst)) → AreLate ws → (k : ℕ) → k < length ws
     → (i : Inst) × (slice_get ws k ≡ Some (Some i)) × (is_early i ≡ false)
@@ -309,19 +309,79 @@ module _ (pages : List ImagePage) (form : Form) (lead : ℕ) (asks : AsksFirst f
 
   of_put : (q : Slots) (base count : ℕ) → OfRing q base (put_steps q base count) 8
   of_put q base count its few ends =
-      let words = late_joined its.labels (put_words q count) (line.Plain (inst.Sd 5 6 (pos 8)) ∷ [])
-      (put_late its.labels q count) (refl, tt) in
-      of_sequence q base 13 (put_steps q base count) its
-      (refl, (refl, (refl, (refl, (refl, (refl, ((its.leave, its.bound_leave, λ z. refl), (refl, words))))))))
+      of_sequence q base 13 (put_steps q base count) its (
+        refl,
+        (
+          refl,
+          (
+            refl,
+            (
+              refl,
+              (
+                refl,
+                (
+                  refl,
+                  (
+                    (its.leave, its.bound_leave, λ z. refl),
+                    (
+                      refl,
+                      words_late its.labels (put_word q) (put_words q) (first_puts q)
+                          (λ k. (refl, (refl, (refl, (refl, (refl, (refl, tt))))))) count 5 6 (pos 8),
+                    ),
+                  ),
+                ),
+              ),
+            ),
+          ),
+        ),
+      )
       few (inst.Sd 5 6 (pos 8)) ends refl
 
   of_get : (q : Slots) (base count : ℕ) → OfRing q base (get_steps q base count) 0
   of_get q base count its few ends =
-      let words = late_joined its.labels (get_words q count) (line.Plain (inst.Sd 5 6 (pos 0)) ∷ [])
-      (get_late its.labels q count) (refl, tt) in
-      of_sequence q base 13 (get_steps q base count) its
-      (refl, (refl, (refl, (refl, (refl, (refl, ((its.leave, its.bound_leave, λ z. refl), (refl, words))))))))
+      of_sequence q base 13 (get_steps q base count) its (
+        refl,
+        (
+          refl,
+          (
+            refl,
+            (
+              refl,
+              (
+                refl,
+                (
+                  refl,
+                  (
+                    (its.leave, its.bound_leave, λ z. refl),
+                    (
+                      refl,
+                      words_late its.labels (get_word q) (get_words q) (first_gets q)
+                          (λ k. (refl, (refl, (refl, (refl, (refl, (refl, tt))))))) count 5 6 (pos 0),
+                    ),
+                  ),
+                ),
+              ),
+            ),
+          ),
+        ),
+      )
       few (inst.Sd 5 6 (pos 0)) ends refl
+
+  -- a block of each count
+  abbrev FromRing : Slots → ℕ → List Line → Type 0
+  FromRing q base steps = HoldsSequence (code_of pages) x q base 13 steps → LiesBeside (placed_of form at area) x
+
+  of_puts : (q : Slots) (base count : ℕ) → 1 ≤ count → count ≤ 4 → FromRing q base (put_steps q base count)
+  of_puts q base =
+      one_to_four (λ n. FromRing q base (put_steps q base n)) (λ its. of_put q base 1 its (omega arith) refl)
+      (λ its. of_put q base 2 its (omega arith) refl) (λ its. of_put q base 3 its (omega arith) refl)
+      (λ its. of_put q base 4 its (omega arith) refl)
+
+  of_gets : (q : Slots) (base count : ℕ) → 1 ≤ count → count ≤ 4 → FromRing q base (get_steps q base count)
+  of_gets q base =
+      one_to_four (λ n. FromRing q base (get_steps q base n)) (λ its. of_get q base 1 its (omega arith) refl)
+      (λ its. of_get q base 2 its (omega arith) refl) (λ its. of_get q base 3 its (omega arith) refl)
+      (λ its. of_get q base 4 its (omega arith) refl)
 
   pub beside : IsOfLibrary (code_of pages) x → LiesBeside (placed_of form at area) x
   beside (is_add q base its) =
@@ -340,17 +400,5 @@ module _ (pages : List ImagePage) (form : Form) (lead : ℕ) (asks : AsksFirst f
       of_sequence q base 13 (free_steps q base) its
       (refl, (refl, ((its.leave, its.bound_leave, λ z. refl), (refl, (refl, (refl, (refl, (refl, (refl, tt)))))))))
       (omega arith) (inst.Sd 5 6 (pos 0)) refl refl
-  beside (is_ring_put q base zero some few its) = absurd (omega arith)
-  beside (is_ring_put q base (suc zero) some few its) = of_put q base 1 its (omega arith) refl
-  beside (is_ring_put q base (suc (suc zero)) some few its) = of_put q base 2 its (omega arith) refl
-  beside (is_ring_put q base (suc (suc (suc zero))) some few its) = of_put q base 3 its (omega arith) refl
-  beside (is_ring_put q base (suc (suc (suc (suc zero)))) some few its) =
-      of_put q base 4 its (omega arith) refl
-  beside (is_ring_put q base (suc (suc (suc (suc (suc count))))) some few its) = absurd (omega arith)
-  beside (is_ring_get q base zero some few its) = absurd (omega arith)
-  beside (is_ring_get q base (suc zero) some few its) = of_get q base 1 its (omega arith) refl
-  beside (is_ring_get q base (suc (suc zero)) some few its) = of_get q base 2 its (omega arith) refl
-  beside (is_ring_get q base (suc (suc (suc zero))) some few its) = of_get q base 3 its (omega arith) refl
-  beside (is_ring_get q base (suc (suc (suc (suc zero)))) some few its) =
-      of_get q base 4 its (omega arith) refl
-  beside (is_ring_get q base (suc (suc (suc (suc (suc count))))) some few its) = absurd (omega arith)
+  beside (is_ring_put q base count some few its) = of_puts q base count some few its
+  beside (is_ring_get q base count some few its) = of_gets q base count some few its

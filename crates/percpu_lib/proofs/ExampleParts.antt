@@ -27,12 +27,14 @@ use Rattle.block_model.proofs.Laws.{run_before}
 use Rattle.alone.specs.Temps.{is_scratch}
 use Rattle.alone_laws.specs.Entering.{IsIn}
 use Rattle.alone_laws.specs.Pointers.{LiesBeside}
+use Rattle.alone_laws.specs.Retries.{Retries}
 use Rattle.alone_laws.specs.Spans.{code_of}
 use Rattle.alone_laws.specs.Uses.{CanAlwaysBegin, Placed}
 use Rattle.percpu_lib.specs.Forms.{Form, HoldsBlock, SharesAreaWith, committed, placed_of, range_of}
 use Rattle.percpu_lib.specs.Used.{IsWellUsed}
 use Rattle.percpu_lib.specs.Words.{AreHeld, AreSlots}
 use Rattle.percpu_lib.specs.declared.slots.Slots.{Slots}
+use Rattle.percpu_lib.proofs.RetryParts.{Again, is_retried, retried_so}
 use Rattle.percpu_lib.proofs.ShareTests.{all_shares, shares_so}
 use Rattle.percpu_lib.proofs.UseTests.{IsTested, all_can_begin, all_used, always_begins_freely, are_fine}
 use Rattle.percpu_lib.proofs.UseTests.{either}
@@ -67,6 +69,19 @@ walk_of t pc (suc n) = entry kinds.Exec t pc ∷ walk_of t (pc + 4) n
 abbrev pub walk : ℕ → ℕ → List Entry
 walk = walk_of 1
 
+-- the entries of such lines up to where it runs again, from an address on
+abbrev pub cut_log : ℕ → ℕ → ℕ → List Entry
+cut_log from n stores =
+    entry kinds.Run 1 from ∷ walk from n ++ (replicate stores (entry kinds.Drain 1 (from + 4 * n))
+    ++ entry kinds.Preempt 1 (from + 4 * n) ∷ entry kinds.Run 1 (from + 4 * n) ∷ [])
+
+-- a thread runs and executes so many instructions, and the entries of that
+abbrev pub straight_lines : ℕ → List Ask
+straight_lines n = line (asked.Run (record { 0 = 1 })) ∷ execs n
+
+abbrev pub straight_log : ℕ → ℕ → List Entry
+straight_log from n = entry kinds.Run 1 from ∷ walk from n
+
 -- the area that the programs register, and the registers of a block of theirs, by that of the value and the
 -- address of its descriptor
 abbrev pub own_area : Area
@@ -92,6 +107,11 @@ setting_of start code others end = record {
   };
   limits = record { harts = 1; frames = 128; steps = 200 };
 }
+
+-- a sequence of thread 1, by how many entries of a log stand before its first instruction and before its last
+abbrev pub sequence_of : Setting → List Entry → ℕ → ℕ → Sequence
+sequence_of s log n m =
+    record { hart = 0; thread = 1; begun = history s (take n log); last_instruction = history s (take m log); reached = history s log }
 
 -- the words of a block stand there
 abbrev pub AreThere : (ℕ → Option Inst) → ℕ → List (Option Inst) → Type 0
@@ -147,19 +167,16 @@ slots_found p is =
     let three = and_parts (is_slot p.value) _ two.1 in
     let four = and_parts (not (eqb p.area p.cells)) _ three.1 in
     let five = and_parts (not (eqb p.area p.value)) _ four.1 in
-    let area = slot_found p.area one.0 in
-    let cells = slot_found p.cells two.0 in
-    let value = slot_found p.value three.0 in
     record {
-      area = area.kept;
-      cells = cells.kept;
-      value = value.kept;
-      some_area = area.some;
-      some_cells = cells.some;
-      some_value = value.some;
-      low_area = area.low;
-      low_cells = cells.low;
-      low_value = value.low;
+      area = (slot_found p.area one.0).kept;
+      cells = (slot_found p.cells two.0).kept;
+      value = (slot_found p.value three.0).kept;
+      some_area = (slot_found p.area one.0).some;
+      some_cells = (slot_found p.cells two.0).some;
+      some_value = (slot_found p.value three.0).some;
+      low_area = (slot_found p.area one.0).low;
+      low_cells = (slot_found p.cells two.0).low;
+      low_value = (slot_found p.value three.0).low;
       area_cells = differ p.area p.cells four.0;
       area_value = differ p.area p.value five.0;
       cells_value = differ p.cells p.value five.1;
@@ -293,6 +310,11 @@ pub record IsUsedSo (s : Setting) (log : List Entry) (u : Use) (others : List Pl
   pub begins : CanAlwaysBegin s (place_of u) u.thread (history s log)
   pub shares : SharesAreaWith s (history s log) (place_of u) u.thread others
 
+-- and so does the thread where it begins anew
+pub record IsUsedAgain (s : Setting) (log : List Entry) (u : Use) (others : List Placed) (a : Again) : Type 0 where
+  pub used : IsUsedSo s log u others
+  pub retried : Retries s (place_of u) u.thread a.first_time a.anew
+
 -- the first entries of a run are one
 run_to : (s : Setting) (log : List Entry) (n : ℕ) → IsBlockRun s log → IsBlockRun s (take n log)
 run_to s log n run =
@@ -339,6 +361,14 @@ module _ (s : Setting) (whole : List Entry) (is_run : IsBlockRun s whole) (n : �
       begins = all_can_begin s form tested at area t past run.allowed two.0;
       shares = all_shares s form tested at area t others past run.allowed one.0 three.0
           (each_beside (placed_of form at area) others apart);
+    }
+
+    pub used_again_so : (a : Again) → ((a.first_time ++ a.walked) ++ a.gap) ++ a.back ≡ a.anew
+        → is_retried s (place_of u) t a.first_time a.walked a.gap a.back ≡ true → IsUsedAgain s log u others a
+    used_again_so a parts is = record {
+      used = used_so;
+      retried = subst (Retries s (place_of u) t a.first_time) parts
+          (retried_so s (place_of u) t a.first_time a.walked a.gap a.back is);
     }
 
     found : (o : Option Sequence) → sequence_on s 0 past ≡ o

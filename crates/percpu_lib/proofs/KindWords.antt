@@ -55,6 +55,37 @@ HasWords k = (p : Slots) (base n : ℕ) (labels : List (Option ℕ)) → index_o
     → index_of labels (base + 4) ≡ Some (n + length (form_of k p).words)
     → instructions labels n (lines_of k p base) ≡ (form_of k p).words
 
+-- where the labels are bound so: the branch back to the retry label, the one to the post-commit address, and
+-- the jump to the end of the block, at word m, so many words away
+module _ (base n : ℕ) (labels : List (Option ℕ)) where
+  abbrev AimedAt : Inst → Inst → ℕ → ℕ → Type 0
+  AimedAt j i m l = option_map (λ to. aimed j (distance m to)) (index_of labels l) ≡ Some i
+
+  to_retry : index_of labels base ≡ Some n → (j i : Inst) (m k d : ℕ) → m ≡ n + k → d + 1 ≡ 4 * k
+      → aimed j (negsuc d) ≡ i → AimedAt j i m base
+  to_retry retry j i m k d from far is = branch_is labels j i m base n (negsuc d) retry (back n m k d from far) is
+
+  to_label : (l to : ℕ) → index_of labels l ≡ Some to → (j i : Inst) (m k d : ℕ) → to ≡ m + k → d ≡ 4 * k
+      → aimed j (pos d) ≡ i → AimedAt j i m l
+  to_label l to bound j i m k d from far is = branch_is labels j i m l to (pos d) bound (forth to m k d from far) is
+
+  -- the test of the processor, with so many words before it, the branch that leaves, and the two jumps at the
+  -- end of a block
+  asks_back : index_of labels base ≡ Some n → (m k d : ℕ) → m ≡ n + k → d + 1 ≡ 4 * k
+      → AimedAt (inst.Bne 6 5 (pos 0)) (inst.Bne 6 5 (negsuc d)) m base
+  asks_back retry m k d from far =
+      to_retry retry (inst.Bne 6 5 (pos 0)) (inst.Bne 6 5 (negsuc d)) m k d from far refl
+
+  jumps_on : (l to : ℕ) → index_of labels l ≡ Some to → (m k d : ℕ) → to ≡ m + k → d ≡ 4 * k
+      → AimedAt (inst.Jal 0 (pos 0)) (inst.Jal 0 (pos d)) m l
+  jumps_on l to bound m k d from far =
+      to_label l to bound (inst.Jal 0 (pos 0)) (inst.Jal 0 (pos d)) m k d from far refl
+
+  jumps_back : index_of labels base ≡ Some n → (m k d : ℕ) → m ≡ n + k → d + 1 ≡ 4 * k
+      → AimedAt (inst.Jal 0 (pos 0)) (inst.Jal 0 (negsuc d)) m base
+  jumps_back retry m k d from far =
+      to_retry retry (inst.Jal 0 (pos 0)) (inst.Jal 0 (negsuc d)) m k d from far refl
+
 -- three plain instructions inside
 plain_words : (p : Slots) (base n : ℕ) (labels : List (Option ℕ)) (i j k : Inst) → index_of labels base
     ≡ Some n
@@ -66,15 +97,9 @@ plain_words : (p : Slots) (base n : ℕ) (labels : List (Option ℕ)) (i j k : I
 plain_words p base n labels i j k retry end =
     let five = n + 1 + 1 + 1 + 1 + 1 in
     let eleven = five + 1 + 1 + 1 + 1 + 1 + 1 in
-    let thirteen = eleven + 1 + 1 in
-    let one = branch_is labels (inst.Bne 6 5 (pos 0)) (inst.Bne 6 5 (negsuc 19)) five base n (negsuc 19) retry
-    (back n five 5 19 (omega arith) refl) refl in
-    let two =
-    branch_is labels (inst.Jal 0 (pos 0)) (inst.Jal 0 (pos 12)) eleven (base + 4) (n + 14) (pos 12) end
-    (forth (n + 14) eleven 3 12 (omega arith) refl) refl in
-    let three =
-    branch_is labels (inst.Jal 0 (pos 0)) (inst.Jal 0 (negsuc 51)) thirteen base n (negsuc 51) retry
-    (back n thirteen 13 51 (omega arith) refl) refl in
+    let one = asks_back base n labels retry five 5 19 (omega arith) refl in
+    let two = jumps_on base n labels (base + 4) (n + 14) end eleven 3 12 (omega arith) refl in
+    let three = jumps_back base n labels retry (eleven + 1 + 1) 13 51 (omega arith) refl in
     cc
 
 add_words : HasWords adds
@@ -90,37 +115,24 @@ pop_words : HasWords pops
 pop_words p base n labels retry leave end =
     let five = n + 1 + 1 + 1 + 1 + 1 in
     let nine = five + 1 + 1 + 1 + 1 in
+    let one = asks_back base n labels retry five 5 19 (omega arith) refl in
+    let two = to_label base n labels (base + 2) (n + 12) leave (inst.Beq p.value 0 (pos 0))
+    (inst.Beq p.value 0 (pos 12)) nine 3 12 (omega arith) refl refl in
     let twelve = nine + 1 + 1 + 1 in
-    let fourteen = twelve + 1 + 1 in
-    let one = branch_is labels (inst.Bne 6 5 (pos 0)) (inst.Bne 6 5 (negsuc 19)) five base n (negsuc 19) retry
-    (back n five 5 19 (omega arith) refl) refl in
-    let two =
-    branch_is labels (inst.Beq p.value 0 (pos 0)) (inst.Beq p.value 0 (pos 12)) nine (base + 2) (n + 12)
-    (pos 12) leave (forth (n + 12) nine 3 12 (omega arith) refl) refl in
-    let three =
-    branch_is labels (inst.Jal 0 (pos 0)) (inst.Jal 0 (pos 12)) twelve (base + 4) (n + 15) (pos 12) end
-    (forth (n + 15) twelve 3 12 (omega arith) refl) refl in
-    let four =
-    branch_is labels (inst.Jal 0 (pos 0)) (inst.Jal 0 (negsuc 55)) fourteen base n (negsuc 55) retry
-    (back n fourteen 14 55 (omega arith) refl) refl in
+    let three = jumps_on base n labels (base + 4) (n + 15) end twelve 3 12 (omega arith) refl in
+    let four = jumps_back base n labels retry (twelve + 1 + 1) 14 55 (omega arith) refl in
     cc
 
 alloc_words : HasWords allocs
 alloc_words p base n labels retry leave end =
     let five = n + 1 + 1 + 1 + 1 + 1 in
+    let one = asks_back base n labels retry five 5 19 (omega arith) refl in
     let ten = five + 1 + 1 + 1 + 1 + 1 in
+    let two = to_label base n labels (base + 2) (n + 16) leave (inst.Beq 6 0 (pos 0)) (inst.Beq 6 0 (pos 24)) ten 6
+    24 (omega arith) refl refl in
     let sixteen = ten + 1 + 1 + 1 + 1 + 1 + 1 in
-    let eighteen = sixteen + 1 + 1 in
-    let one = branch_is labels (inst.Bne 6 5 (pos 0)) (inst.Bne 6 5 (negsuc 19)) five base n (negsuc 19) retry
-    (back n five 5 19 (omega arith) refl) refl in
-    let two = branch_is labels (inst.Beq 6 0 (pos 0)) (inst.Beq 6 0 (pos 24)) ten (base + 2) (n + 16)
-    (pos 24) leave (forth (n + 16) ten 6 24 (omega arith) refl) refl in
-    let three =
-    branch_is labels (inst.Jal 0 (pos 0)) (inst.Jal 0 (pos 12)) sixteen (base + 4) (n + 19) (pos 12) end
-    (forth (n + 19) sixteen 3 12 (omega arith) refl) refl in
-    let four =
-    branch_is labels (inst.Jal 0 (pos 0)) (inst.Jal 0 (negsuc 71)) eighteen base n (negsuc 71) retry
-    (back n eighteen 18 71 (omega arith) refl) refl in
+    let three = jumps_on base n labels (base + 4) (n + 19) end sixteen 3 12 (omega arith) refl in
+    let four = jumps_back base n labels retry (sixteen + 1 + 1) 18 71 (omega arith) refl in
     cc
 
 free_words : HasWords frees
@@ -128,16 +140,11 @@ free_words p base n labels retry leave end =
     let six = n + 1 + 1 + 1 + 1 + 1 + 1 in
     let eleven = six + 1 + 1 + 1 + 1 + 1 in
     let eighteen = eleven + 1 + 1 + 1 + 1 + 1 + 1 + 1 in
-    let last = eighteen + 1 + 1 + 1 in
-    let one = branch_is labels (inst.Bne 6 5 (pos 0)) (inst.Bne 6 5 (negsuc 23)) six base n (negsuc 23) retry
-    (back n six 6 23 (omega arith) refl) refl in
-    let two = branch_is labels (inst.Beq 6 7 (pos 0)) (inst.Beq 6 7 (pos 28)) eleven (base + 2) (n + 18)
-    (pos 28) leave (forth (n + 18) eleven 7 28 (omega arith) refl) refl in
-    let three =
-    branch_is labels (inst.Jal 0 (pos 0)) (inst.Jal 0 (pos 16)) eighteen (base + 4) (n + 22) (pos 16) end
-    (forth (n + 22) eighteen 4 16 (omega arith) refl) refl in
-    let four = branch_is labels (inst.Jal 0 (pos 0)) (inst.Jal 0 (negsuc 83)) last base n (negsuc 83) retry
-    (back n last 21 83 (omega arith) refl) refl in
+    let one = asks_back base n labels retry six 6 23 (omega arith) refl in
+    let two = to_label base n labels (base + 2) (n + 18) leave (inst.Beq 6 7 (pos 0)) (inst.Beq 6 7 (pos 28)) eleven
+    7 28 (omega arith) refl refl in
+    let three = jumps_on base n labels (base + 4) (n + 22) end eighteen 4 16 (omega arith) refl in
+    let four = jumps_back base n labels retry (eighteen + 1 + 1 + 1) 21 83 (omega arith) refl in
     cc
 
 -- WHERE THEY ARE HELD

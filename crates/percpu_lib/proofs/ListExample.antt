@@ -9,7 +9,7 @@ use Rattle.mach_types.specs.declared.events.Entry.{Entry}
 use Rattle.mach_types.specs.declared.events.Kind.TheVariants as kind
 use Rattle.block_model.specs.Acts.{Sequence}
 use Rattle.block_model.specs.History.{file}
-use Rattle.block_model.specs.Replay.{Ask, played}
+use Rattle.block_model.specs.Replay.{played}
 use Rattle.block_model.specs.Run.{IsBlockRun}
 use Rattle.block_model.specs.Setting.{Setting}
 use Rattle.block_model.proofs.Laws.{played_is_run}
@@ -21,7 +21,7 @@ use Rattle.percpu_lib.specs.Uses.{cells_of}
 use Rattle.percpu_lib.proofs.Computing.{by_rules, by_table}
 use Rattle.percpu_lib.proofs.ExampleParts.{AreThere, IsGood, Use, entry, found_good, use_of}
 use Rattle.percpu_lib.proofs.ExampleParts.{data_at, setting_of, walk}
-use Rattle.percpu_lib.proofs.ExampleParts.{cut_after, place_of, slots_with}
+use Rattle.percpu_lib.proofs.ExampleParts.{cut_after, cut_log, place_of, slots_with}
 pub use Rattle.percpu_lib.proofs.ExampleParts.{own_area as area}
 use Rattle.percpu_lib.proofs.ExamplePrograms.{list_code}
 use Rattle.percpu_lib.proofs.FormTests.{pop_tested, push_tested}
@@ -33,33 +33,29 @@ setting = setting_of 0xB0 list_code (data_at 0x20 [] ∷ []) 0x21000
 abbrev pub push : Use
 push = use_of push_form push_tested (slots_with 18 0x10160) 0x100D4
 
+push_there : AreThere (code_of setting.program.pages) push.at push.form.words
+unfolding by_table
+push_there = (refl, (refl, (refl, (refl, (refl, (refl, (refl, (refl, (refl, (refl, (refl, (refl, (refl, (refl, tt))))))))))))))
+
 abbrev pub pop : Use
 pop = use_of pop_form pop_tested (slots_with 19 0x10180) 0x1010C
+
+pop_there : AreThere (code_of setting.program.pages) pop.at pop.form.words
+unfolding by_table
+pop_there = (refl, (refl, (refl, (refl, (refl, (refl, (refl, (refl, (refl, (refl, (refl, (refl, (refl, (refl, (refl, tt)))))))))))))))
 
 -- the thread runs, and executes the first nine instructions and ten words of the push block, whose two stores
 -- then enter memory. It is preempted and runs again; it executes the jump at the abort handler, eleven words
 -- of the block, and the jump behind it; twelve words of the pop block and the jump behind it; and the jump
 -- back, and ten of its words
-abbrev lines : List Ask
-lines = cut_after 19 2 37
-
 abbrev pub log : List Entry
 log =
-    entry kind.Run 1 0x100B0 ∷ walk 0x100B0 19 ++ entry kind.Drain 1 0x100FC ∷ entry kind.Drain 1 0x100FC
-    ∷ entry kind.Preempt 1 0x100FC ∷ entry kind.Run 1 0x100FC ∷ entry kind.Exec 1 0x10108
-    ∷ walk 0x100D4 12 ++ walk 0x1010C 13 ++ entry kind.Exec 1 0x10148 ∷ walk 0x1010C 10
+    cut_log 0x100B0 19 2 ++ entry kind.Exec 1 0x10108 ∷ walk 0x100D4 12 ++ walk 0x1010C 13
+    ++ entry kind.Exec 1 0x10148 ∷ walk 0x1010C 10
 
 is_run : IsBlockRun setting log
 unfolding played by_rules
-is_run = (played_is_run setting lines log refl).0
-
-push_there : AreThere (code_of setting.program.pages) push.at push.form.words
-unfolding by_table
-push_there = (refl, (refl, (refl, (refl, (refl, (refl, (refl, (refl, (refl, (refl, (refl, (refl, (refl, (refl, tt))))))))))))))
-
-pop_there : AreThere (code_of setting.program.pages) pop.at pop.form.words
-unfolding by_table
-pop_there = (refl, (refl, (refl, (refl, (refl, (refl, (refl, (refl, (refl, (refl, (refl, (refl, (refl, (refl, (refl, tt)))))))))))))))
+is_run = (played_is_run setting (cut_after 19 2 37) log refl).0
 
 -- the push: the node is the head
 abbrev pub is_pushed : Sequence → Bool

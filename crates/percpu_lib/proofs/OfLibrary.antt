@@ -19,6 +19,7 @@ use Rattle.percpu_lib.specs.Rings.{get_steps, put_steps}
 use Rattle.percpu_lib.specs.Words.{AreHeld}
 use Rattle.percpu_lib.specs.declared.lines.Line.{Line}
 use Rattle.percpu_lib.specs.declared.slots.Slots.{Slots}
+use Rattle.percpu_lib.proofs.RingPlaces.{one_to_four}
 
 -- what stands before others, and between others
 before : (ys zs : List (Option Inst)) (k : ℕ) (o : Option Inst) → slice_get ys k ≡ Some o → slice_get (ys ++ zs) k ≡ Some o
@@ -91,15 +92,6 @@ of_library allocs code p at area held low low_table =
     is_alloc p 0 (holds_sequence (form_of allocs p) p 13 (alloc_steps p 0) code at area (refl, refl, refl) held low low_table)
 of_library frees code p at area held low low_table =
     is_free p 0 (holds_sequence (form_of frees p) p 13 (free_steps p 0) code at area (refl, refl, refl) held low low_table)
-
--- what holds of 1, 2, 3 and 4
-one_to_four : (P : ℕ → Type 0) → P 1 → P 2 → P 3 → P 4 → (n : ℕ) → 1 ≤ n → n ≤ 4 → P n
-one_to_four P one two three four zero some few = absurd (omega arith)
-one_to_four P one two three four (suc zero) some few = one
-one_to_four P one two three four (suc (suc zero)) some few = two
-one_to_four P one two three four (suc (suc (suc zero))) some few = three
-one_to_four P one two three four (suc (suc (suc (suc zero)))) some few = four
-one_to_four P one two three four (suc (suc (suc (suc (suc n))))) some few = absurd (omega arith)
 
 -- the same of ring blocks
 ring_parted : (k : RingKind) (p : Slots) (count : ℕ) → 1 ≤ count → count ≤ 4

@@ -2,21 +2,19 @@
 -- free block. It is preempted inside, once its value is 0, begins anew at the abort handler, which brings the
 -- value back, and puts it in once. Then it takes it out by an alloc block, and finds the pool empty by
 -- another sequence of that. And a log of a pool that is full.
-use Rattle.std.proofs.Common.{◌≡◌, ℕ, ◌<◌, ◌^◌, List, [], ◌∷◌, ◌++◌, replicate, take, drop, refl, Bool, ltb}
+use Rattle.std.proofs.Common.{◌≡◌, ℕ, ◌<◌, ◌^◌, List, [], ◌∷◌, ◌++◌, replicate, take, refl, Bool, ltb}
 use Rattle.std.proofs.lemmas.Bool.{ltb-true}
 use Rattle.std.proofs.Common.{true, ◌&&◌, eqb}
 use Rattle.mach_types.specs.Registers.{register}
-use Rattle.mach_types.specs.declared.events.Choice.TheVariants as asked
 use Rattle.mach_types.specs.declared.events.Entry.{Entry}
 use Rattle.mach_types.specs.declared.events.Kind.TheVariants as kind
 use Rattle.block_model.specs.Acts.{Sequence}
 use Rattle.block_model.specs.Deciding.{history}
 use Rattle.block_model.specs.History.{file}
-use Rattle.block_model.specs.Replay.{Ask, played}
+use Rattle.block_model.specs.Replay.{played}
 use Rattle.block_model.specs.Run.{IsBlockRun}
 use Rattle.block_model.specs.Setting.{Setting}
 use Rattle.block_model.proofs.Laws.{played_is_run}
-use Rattle.alone_laws.specs.Retries.{Retries}
 use Rattle.alone_laws.specs.Spans.{code_of}
 use Rattle.percpu_lib.specs.Allocs.{alloc_form}
 use Rattle.percpu_lib.specs.Frees.{free_form}
@@ -24,13 +22,13 @@ use Rattle.percpu_lib.specs.Pools.{count_seen, pool_at, slot_at}
 use Rattle.percpu_lib.specs.Pushes.{word_seen}
 use Rattle.percpu_lib.specs.Uses.{cells_of}
 use Rattle.percpu_lib.proofs.Computing.{by_rules, by_table}
-use Rattle.percpu_lib.proofs.ExampleParts.{AreThere, IsGood, IsUsedSo, Use, entry, found_good, is_good, line}
-use Rattle.percpu_lib.proofs.ExampleParts.{data_at, setting_of, use_of, used_so, walk}
-use Rattle.percpu_lib.proofs.ExampleParts.{cut_after, execs, place_of, slots_with}
+use Rattle.percpu_lib.proofs.ExampleParts.{AreThere, IsGood, IsUsedAgain, Use, entry, found_good, is_good}
+use Rattle.percpu_lib.proofs.ExampleParts.{data_at, setting_of, straight_lines, straight_log, use_of}
+use Rattle.percpu_lib.proofs.ExampleParts.{cut_after, cut_log, place_of, slots_with, used_again_so, walk}
 pub use Rattle.percpu_lib.proofs.ExampleParts.{own_area as area}
 use Rattle.percpu_lib.proofs.ExamplePrograms.{pool_code}
 use Rattle.percpu_lib.proofs.FormTests.{alloc_tested, free_tested}
-use Rattle.percpu_lib.proofs.RetryParts.{is_retried, retried_so}
+use Rattle.percpu_lib.proofs.RetryParts.{Again, again_of}
 use Rattle.percpu_lib.proofs.UseTests.{is_just}
 
 -- such a program, with these bytes of data
@@ -50,18 +48,14 @@ alloc = use_of alloc_form alloc_tested (slots_with 19 0x101A0) 0x1012C
 -- then enter memory. It is preempted and runs again; it executes the two words of the abort handler, 18 words
 -- of the block, and the jump behind it; 16 words of the alloc block and the jump behind it; and the jump
 -- back, and eleven of its words
-abbrev lines : List Ask
-lines = cut_after 26 2 50
-
 abbrev pub log : List Entry
 log =
-    entry kind.Run 1 0x100B0 ∷ walk 0x100B0 26 ++ entry kind.Drain 1 0x10118 ∷ entry kind.Drain 1 0x10118
-    ∷ entry kind.Preempt 1 0x10118 ∷ entry kind.Run 1 0x10118 ∷ walk 0x10124 2 ++ walk 0x100D4 19
-    ++ walk 0x1012C 17 ++ entry kind.Exec 1 0x10178 ∷ walk 0x1012C 11
+    cut_log 0x100B0 26 2 ++ walk 0x10124 2 ++ walk 0x100D4 19 ++ walk 0x1012C 17 ++ entry kind.Exec 1 0x10178
+    ∷ walk 0x1012C 11
 
 is_run : IsBlockRun setting log
 unfolding played by_rules
-is_run = (played_is_run setting lines log refl).0
+is_run = (played_is_run setting (cut_after 26 2 50) log refl).0
 
 free_there : AreThere (code_of setting.program.pages) free.at free.form.words
 unfolding by_table
@@ -101,37 +95,22 @@ none_used = found_good setting log is_run 81 alloc (place_of free ∷ []) (has_t
 -- the thread was at the retry label of the free block a first time. From there it walked to the last word of
 -- the sequence, and its value was 0; it was preempted there, and began to run again at the abort handler; and
 -- from there it walked back
-abbrev pub first_time : List Entry
-first_time = take 10 log
+abbrev pub again : Again
+again = again_of log 10 19 2 18
 
-abbrev pub anew : List Entry
-anew = take 33 log
-
-abbrev pub rest : List Entry
-rest = take 18 (drop 33 log)
-
-comes_back : is_retried setting (place_of free) 1 first_time (take 19 (drop 10 log)) (take 2 (drop 29 log))
-    (take 2 (drop 31 log)) ≡ true
+pub used_again : IsUsedAgain setting (take 51 log) free (place_of alloc ∷ []) again
 unfolding by_rules
-comes_back = refl
+used_again =
+    used_again_so setting log is_run 51 free (place_of alloc ∷ []) is_freed free_good refl free_there refl again refl refl
 
-pub retried : Retries setting (place_of free) 1 first_time anew
-retried =
-    retried_so setting (place_of free) 1 first_time (take 19 (drop 10 log)) (take 2 (drop 29 log))
-    (take 2 (drop 31 log))
-    comes_back
-
-pub used_again : IsUsedSo setting (take 51 log) free (place_of alloc ∷ [])
-used_again = used_so setting log is_run 51 free (place_of alloc ∷ []) is_freed free_good refl free_there refl
-
-small_there : ltb (register (file setting 1 (history setting first_time)).file 18) (2 ^ 64) ≡ true
+small_there : ltb (register (file setting 1 (history setting again.first_time)).file 18) (2 ^ 64) ≡ true
 unfolding by_rules
 small_there = refl
 
-pub small_value : register (file setting 1 (history setting first_time)).file 18 < 2 ^ 64
-small_value = ltb-true (register (file setting 1 (history setting first_time)).file 18) (2 ^ 64) small_there
+pub small_value : register (file setting 1 (history setting again.first_time)).file 18 < 2 ^ 64
+small_value = ltb-true (register (file setting 1 (history setting again.first_time)).file 18) (2 ^ 64) small_there
 
-pub at_label : (file setting 1 (history setting anew)).pc ≡ free.at
+pub at_label : (file setting 1 (history setting again.anew)).pc ≡ free.at
 unfolding by_rules
 at_label = refl
 
@@ -141,25 +120,21 @@ at_label = refl
 abbrev pub full_setting : Setting
 full_setting = setting_with (replicate 0x40 0 ++ 0x00 ∷ 0x02 ∷ [])
 
-abbrev full_lines : List Ask
-full_lines = line (asked.Run (record { 0 = 1 })) ∷ execs 21
-
 abbrev pub full_log : List Entry
-full_log =
-    entry kind.Run 1 0x100B0 ∷ walk 0x100B0 21
+full_log = straight_log 0x100B0 21
 
 full_run : IsBlockRun full_setting full_log
 unfolding played by_rules
-full_run = (played_is_run full_setting full_lines full_log refl).0
-
-full_there : AreThere (code_of full_setting.program.pages) free.at free.form.words
-unfolding by_table
-full_there = (refl, (refl, (refl, (refl, (refl, (refl, (refl, (refl, (refl, (refl, (refl, (refl, (refl, (refl, (refl, (refl, (refl, (refl, (refl, (refl, (refl, (refl, tt))))))))))))))))))))))
+full_run = (played_is_run full_setting (straight_lines 21) full_log refl).0
 
 abbrev pub stays_full : Sequence → Bool
 stays_full q =
     eqb (register (file full_setting q.thread q.reached).file 18) 42
     && is_just (count_seen full_setting 0 (cells_of full_setting free.form.slots q.thread q.begun) q.reached) 512
+
+full_there : AreThere (code_of full_setting.program.pages) free.at free.form.words
+unfolding by_table
+full_there = (refl, (refl, (refl, (refl, (refl, (refl, (refl, (refl, (refl, (refl, (refl, (refl, (refl, (refl, (refl, (refl, (refl, (refl, (refl, (refl, (refl, (refl, tt))))))))))))))))))))))
 
 pub full_used : IsGood full_setting full_log 22 free (place_of alloc ∷ []) stays_full
 unfolding by_rules

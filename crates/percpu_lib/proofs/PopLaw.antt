@@ -2,7 +2,7 @@
 use Rattle.std.proofs.Common.{◌≡◌, ◌≢◌, ℕ, ◌+◌, ◌%◌, ◌^◌, List, [], ◌∷◌, ◌++◌, refl, sym, ap}
 use Rattle.std.proofs.Common.{◌∙◌, subst, arith, Bool, true, false, eqb, Option, Some, inl}
 use Rattle.std.proofs.Common.{inr, ◌⊎◌, pos, unwrap_or}
-use Rattle.std.proofs.lemmas.Bool.{eqb-false, eqb-true}
+use Rattle.std.proofs.lemmas.Bool.{cases_Bool, eqb-false, eqb-true}
 use Rattle.mach_types.specs.Bytes.{word_at}
 use Rattle.mach_types.specs.declared.sequences.Area.{Area}
 use Rattle.mach_types.specs.declared.user_memory.Store.{Store}
@@ -129,11 +129,6 @@ module _ (s : Setting) (p : Slots) (at : ℕ) (area : Area) (h t : ℕ) (begun :
       value_there = put_other 6 (loaded next_word.0 8 true) temps_1 p.value
           (λ same. scratch_not 6 p.value refl slots.value (sym same)) ∙ put_same p.value head temps_0
 
-  by_head : (y : Stand) → IsAt (is_changed p) old (at + 36) temps_1 [] y → (b : Bool) → eqb head 0 ≡ b
-      → KeepsOn w y
-  by_head y was true is = ends y was is
-  by_head y was false is = unlinks y was is
-
   keeps : KeepsOn w (alone_from s h t begun 0)
   keeps =
       let low = place.low in
@@ -141,9 +136,9 @@ module _ (s : Setting) (p : Slots) (at : ℕ) (area : Area) (h t : ℕ) (begun :
       to_word s (pop_form p) at area h t begun Inside Done (block_formed kind.pops p) held place 6 64
       (block_begins kind.pops p slots) refl area_bytes cells refl (omega arith)
       p.value old_word.0 (value_changed p) (some_value p slots) slots.low_value refl low_cells in_cell old_word.1
-      (λ z next. by_head z
-      (subst (λ n. IsAt (is_changed p) old (at + 36) (put p.value n temps_0) [] z) head_is next) (eqb head 0)
-      refl)
+      (λ z next.
+      let now = subst (λ n. IsAt (is_changed p) old (at + 36) (put p.value n temps_0) [] z) head_is next in
+      elim (cases_Bool (eqb head 0)) [ inl is ↦ ends z now is | inr is ↦ unlinks z now is ])
 
   -- WHAT WAS DONE
 

@@ -1,6 +1,7 @@
 -- What worked logs have in common in which a thread of hart 0 comes back to the retry label of a block, by
 -- computation.
-use Rattle.std.proofs.Common.{◌≡◌, ℕ, List, [], ◌∷◌, ◌++◌, ◌⊎◌, inl, inr, Bool, true, ◌&&◌, ◌||◌, eqb}
+use Rattle.std.proofs.Common.{◌≡◌, ℕ, ◌+◌, List, [], ◌∷◌, ◌++◌, ◌⊎◌, inl, inr, Bool, true, ◌&&◌, ◌||◌, eqb}
+use Rattle.std.proofs.Common.{take, drop}
 use Rattle.std.proofs.lemmas.Bool.{and_parts, eqb-true}
 use Rattle.mach_types.specs.Kernel.Areas.{is_inside}
 use Rattle.mach_types.specs.declared.events.Entry.{Entry}
@@ -55,6 +56,26 @@ module _ (s : Setting) (b : Placed) (t : ℕ) (first walk gap back : List Entry)
         pc = inr (five.0, eqb-true (file s t (history s resumed)).pc b.range.abort six.0);
       }))
       (walk_found s b 0 t back resumed (just_is (running s 0 (history s resumed)) t seven.0) seven.1)
+
+-- the parts of a log in which it does: it comes to the retry label a first time, walks so many entries, is
+-- interrupted for two, and walks so many back; and so many entries from there on
+pub record Again : Type 0 where
+  pub first_time : List Entry
+  pub walked : List Entry
+  pub gap : List Entry
+  pub back : List Entry
+  pub anew : List Entry
+  pub rest : List Entry
+
+abbrev pub again_of : List Entry → ℕ → ℕ → ℕ → ℕ → Again
+again_of log first walked back rest = record {
+  first_time = take first log;
+  walked = take walked (drop first log);
+  gap = take 2 (drop (first + walked) log);
+  back = take back (drop (first + walked + 2) log);
+  anew = take (first + walked + 2 + back) log;
+  rest = take rest (drop (first + walked + 2 + back) log);
+}
 
 -- a stretch of instructions, and of stores that enter memory
 abbrev is_calm : Kind → Bool

@@ -17,7 +17,6 @@ use Rattle.block_model.specs.Replay.{Ask, played}
 use Rattle.block_model.specs.Run.{IsBlockRun}
 use Rattle.block_model.specs.Setting.{Setting}
 use Rattle.block_model.proofs.Laws.{played_is_run}
-use Rattle.alone_laws.specs.Retries.{Retries}
 use Rattle.alone_laws.specs.Spans.{code_of}
 use Rattle.alone_laws.specs.Undisturbed.{IsUndisturbed, executed_on}
 use Rattle.percpu_lib.specs.Frees.{value_of}
@@ -26,14 +25,14 @@ use Rattle.percpu_lib.specs.RingForms.{ring_at, ring_get_form, ring_put_form, sl
 use Rattle.percpu_lib.specs.Uses.{cells_of}
 use Rattle.percpu_lib.specs.declared.slots.Slots.{Slots}
 use Rattle.percpu_lib.proofs.Computing.{by_rules, by_table}
-use Rattle.percpu_lib.proofs.ExampleParts.{AreThere, IsFound, IsGood, IsUsedSo, Use, entry, found_good, is_found}
-use Rattle.percpu_lib.proofs.ExampleParts.{data_at, setting_of, walk}
-use Rattle.percpu_lib.proofs.ExampleParts.{is_good, line, sequence_found, use_of, used_so}
-use Rattle.percpu_lib.proofs.ExampleParts.{execs, place_of, slots_with}
+use Rattle.percpu_lib.proofs.ExampleParts.{AreThere, IsFound, IsGood, IsUsedAgain, Use, cut_after, cut_log}
+use Rattle.percpu_lib.proofs.ExampleParts.{data_at, entry, execs, found_good, is_found, is_good, line, place_of}
+use Rattle.percpu_lib.proofs.ExampleParts.{sequence_found, setting_of, slots_with, straight_lines, straight_log}
+use Rattle.percpu_lib.proofs.ExampleParts.{use_of, used_again_so, walk}
 pub use Rattle.percpu_lib.proofs.ExampleParts.{own_area as area}
 use Rattle.percpu_lib.proofs.ExamplePrograms.{full_ring_code, ring_code}
 use Rattle.percpu_lib.proofs.FormTests.{ring_get_tested, ring_put_tested}
-use Rattle.percpu_lib.proofs.RetryParts.{calm_so, is_retried, retried_so}
+use Rattle.percpu_lib.proofs.RetryParts.{Again, again_of, calm_so}
 use Rattle.percpu_lib.proofs.UseTests.{is_just}
 
 -- the ring of the thread of a sequence
@@ -77,21 +76,12 @@ get = use_of (ring_get_form 2) (ring_get_tested 2) get_slots 0x10164
 -- words
 abbrev lines : List Ask
 lines =
-    line (asked.Run (record { 0 = 1 }))
-    ∷ (execs 32
-    ++ (replicate 2 (line asked.Drain)
-    ++ line asked.Preempt
-    ∷ line (asked.Run (record { 0 = 1 }))
-    ∷ (execs 32
-    ++ (replicate 4 (line asked.Drain)
-    ++ (execs 32
-    ++ (replicate 4 (line asked.Drain)
-    ++ execs 18))))))
+    cut_after 32 2 32 ++ (replicate 4 (line asked.Drain) ++ (execs 32 ++ (replicate 4 (line asked.Drain)
+    ++ execs 18)))
 
 abbrev pub log : List Entry
 log =
-    entry kind.Run 1 0x100B0 ∷ walk 0x100B0 32 ++ entry kind.Drain 1 0x10130 ∷ entry kind.Drain 1 0x10130
-    ∷ entry kind.Preempt 1 0x10130 ∷ entry kind.Run 1 0x10130 ∷ walk 0x10158 2 ++ walk 0x100D8 30
+    cut_log 0x100B0 32 2 ++ walk 0x10158 2 ++ walk 0x100D8 30
     ++ entry kind.Drain 1 0x10150 ∷ entry kind.Drain 1 0x10150 ∷ entry kind.Drain 1 0x10150
     ∷ entry kind.Drain 1 0x10150 ∷ entry kind.Exec 1 0x10150 ∷ walk 0x10160 31
     ++ entry kind.Drain 1 0x101DC ∷ entry kind.Drain 1 0x101DC ∷ entry kind.Drain 1 0x101DC
@@ -170,41 +160,27 @@ none_used = found_good setting log is_run 127 get (place_of put ∷ []) finds_no
 -- the thread was at the retry label of the put a first time. From there it walked to the word behind the
 -- store to slot 511; it was preempted there, and began to run again at the abort handler; and from there it
 -- walked back, and is undisturbed then
-abbrev pub first_time : List Entry
-first_time = take 11 log
+abbrev pub again : Again
+again = again_of log 11 24 2 30
 
-abbrev pub anew : List Entry
-anew = take 39 log
-
-abbrev pub rest : List Entry
-rest = take 30 (drop 39 log)
-
-comes_back : is_retried setting (place_of put) 1 first_time (take 24 (drop 11 log)) (take 2 (drop 35 log))
-    (take 2 (drop 37 log)) ≡ true
+pub used_again : IsUsedAgain setting (take 69 log) put (place_of get ∷ []) again
 unfolding by_rules
-comes_back = refl
+used_again =
+    used_again_so setting log is_run 69 put (place_of get ∷ []) is_put put_good refl put_there refl again refl refl
 
-pub retried : Retries setting (place_of put) 1 first_time anew
-retried =
-    retried_so setting (place_of put) 1 first_time (take 24 (drop 11 log)) (take 2 (drop 35 log))
-    (take 2 (drop 37 log)) comes_back
-
-pub used_again : IsUsedSo setting (take 69 log) put (place_of get ∷ [])
-used_again = used_so setting log is_run 69 put (place_of get ∷ []) is_put put_good refl put_there refl
-
-pub runs_anew : running setting 0 (history setting anew) ≡ Some 1
+pub runs_anew : running setting 0 (history setting again.anew) ≡ Some 1
 unfolding by_rules
 runs_anew = refl
 
-pub at_label : (file setting 1 (history setting anew)).pc ≡ put.at
+pub at_label : (file setting 1 (history setting again.anew)).pc ≡ put.at
 unfolding by_rules
 at_label = refl
 
-pub undisturbed : IsUndisturbed 0 rest
-undisturbed = calm_so rest refl
+pub undisturbed : IsUndisturbed 0 again.rest
+undisturbed = calm_so again.rest refl
 
-pub enough : 30 ≤ executed_on 0 rest
-enough = leb-true 30 (executed_on 0 rest) refl
+pub enough : 30 ≤ executed_on 0 again.rest
+enough = leb-true 30 (executed_on 0 again.rest) refl
 
 -- ONE WORD AND A FULL RING
 
@@ -218,20 +194,12 @@ full_slots = slots_with 18 0x10160
 abbrev pub full : Use
 full = use_of (ring_put_form 1) (ring_put_tested 1) full_slots 0x100D8
 
-abbrev full_lines : List Ask
-full_lines = line (asked.Run (record { 0 = 1 })) ∷ execs 26
-
 abbrev pub full_log : List Entry
-full_log =
-    entry kind.Run 1 0x100B0 ∷ walk 0x100B0 26
+full_log = straight_log 0x100B0 26
 
 full_run : IsBlockRun full_setting full_log
 unfolding played by_rules
-full_run = (played_is_run full_setting full_lines full_log refl).0
-
-full_there : AreThere (code_of full_setting.program.pages) full.at full.form.words
-unfolding by_table
-full_there = (refl, (refl, (refl, (refl, (refl, (refl, (refl, (refl, (refl, (refl, (refl, (refl, (refl, (refl, (refl, (refl, (refl, (refl, (refl, (refl, (refl, (refl, (refl, (refl, (refl, (refl, (refl, (refl, tt))))))))))))))))))))))))))))
+full_run = (played_is_run full_setting (straight_lines 26) full_log refl).0
 
 -- the value is 0, head and tail are as they were, and no store was executed
 abbrev pub finds_no_room : Sequence → Bool
@@ -240,6 +208,10 @@ finds_no_room q =
     && (is_just (word_seen full_setting 0 (ring_of full_setting full_slots q) q.reached) (2 ^ 64 - 1)
     && (is_just (word_seen full_setting 0 (ring_of full_setting full_slots q + 8) q.reached) 511
     && stores_none q))
+
+full_there : AreThere (code_of full_setting.program.pages) full.at full.form.words
+unfolding by_table
+full_there = (refl, (refl, (refl, (refl, (refl, (refl, (refl, (refl, (refl, (refl, (refl, (refl, (refl, (refl, (refl, (refl, (refl, (refl, (refl, (refl, (refl, (refl, (refl, (refl, (refl, (refl, (refl, (refl, tt))))))))))))))))))))))))))))
 
 pub full_used : IsGood full_setting full_log 27 full [] finds_no_room
 unfolding by_rules

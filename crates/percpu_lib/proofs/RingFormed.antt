@@ -1,17 +1,26 @@
 -- The words of ring blocks lead on in them.
 use Rattle.std.proofs.Common.{◌≡◌, ℕ, ◌+◌, ◌*◌, ◌<◌, ◌≤◌, ◌^◌, List, ◌++◌, refl, arith, true, length}
-use Rattle.std.proofs.Common.{false, eqb, ltb, Option, subst, pos, rules}
+use Rattle.std.proofs.Common.{false, eqb, ltb, Option, Some, [], ◌∷◌, subst, pos, rules}
 use Rattle.std.proofs.lemmas.Bool.{ltb-true, ne_eqb}
 use Rattle.rv_inst.specs.declared.instruction.Inst.{Inst}
 use Rattle.rv_inst.specs.declared.instruction.Inst.TheVariants as inst
 use Rattle.percpu_lib.specs.Forms.{Form, committed}
 use Rattle.percpu_lib.specs.RingForms.{get_block, get_front, get_insts, put_block, put_front, put_insts}
 use Rattle.percpu_lib.specs.RingForms.{repeated, ring_end, ring_get_form, ring_put_form}
+use Rattle.percpu_lib.specs.RingKinds.{RingKind, gets, puts, ring_form_of}
+use Rattle.percpu_lib.specs.Words.{asking_words}
 use Rattle.percpu_lib.specs.declared.slots.Slots.{Slots}
 use Rattle.percpu_lib.proofs.BlockCode.{AreWords, IsFormed}
 use Rattle.percpu_lib.proofs.Changes.{value_changed}
 use Rattle.percpu_lib.proofs.FormedWords.{AreFit, IsInner, formed_of, words_fit}
 use Rattle.percpu_lib.proofs.RingWords.{in_all, repeated_length, words_append, words_repeated}
+
+-- what stands before the words, where the test loads by i and j, subtracts by d, compares by c and branches by b
+abbrev pub front_with : Slots → Inst → Inst → Inst → Inst → Inst → List (Option Inst)
+front_with p i j d c b =
+    Some (inst.Addi 28 p.value (pos 0))
+    ∷ asking_words p 23 13 (Some (inst.Addi 28 p.value (pos 0)) ∷ Some i ∷ Some j ∷ Some d ∷ Some c
+    ∷ Some (inst.Addi p.value 0 (pos 0)) ∷ Some b ∷ Some (inst.Addi p.value 28 (pos 0)) ∷ [])
 
 pub put_six : (p : Slots) (k : ℕ) → length (put_insts p k) ≡ 6
 put_six p k = refl
@@ -19,15 +28,28 @@ put_six p k = refl
 pub get_six : (p : Slots) (k : ℕ) → length (get_insts p k) ≡ 6
 get_six p k = refl
 
-pub put_long : (p : Slots) (count : ℕ) → length (put_block p count) ≡ 22 + 6 * count
-put_long p count =
-    let all = in_all (put_insts p) (put_six p) (put_front p count) (ring_end p count 8) refl count in
+pub words_long : (front : List (Option Inst)) (insts : ℕ → List (Option Inst)) (p : Slots) (count offset : ℕ)
+    → length front ≡ 17 → ((k : ℕ) → length (insts k) ≡ 6)
+    → length (front ++ (repeated insts count ++ ring_end p count offset)) ≡ 22 + 6 * count
+words_long front insts p count offset seventeen six =
+    let all = in_all insts six front (ring_end p count offset) seventeen count in
     omega (arith, all)
 
+pub put_long : (p : Slots) (count : ℕ) → length (put_block p count) ≡ 22 + 6 * count
+put_long p count = words_long (put_front p count) (put_insts p) p count 8 refl (put_six p)
+
 pub get_long : (p : Slots) (count : ℕ) → length (get_block p count) ≡ 22 + 6 * count
-get_long p count =
-    let all = in_all (get_insts p) (get_six p) (get_front p count) (ring_end p count 0) refl count in
-    omega (arith, all)
+get_long p count = words_long (get_front p count) (get_insts p) p count 0 refl (get_six p)
+
+-- where the sequence of a ring block begins and ends, and how many words it has
+pub record HasParts (form : Form) (count : ℕ) : Type 0 where
+  pub first : form.first ≡ 5
+  pub commits : committed form ≡ 18 + 6 * count
+  pub long : length form.words ≡ 22 + 6 * count
+
+pub ring_parts : (k : RingKind) (count : ℕ) (p : Slots) → HasParts (ring_form_of k count p) count
+ring_parts puts count p = record { first = refl; commits = omega arith; long = put_long p count }
+ring_parts gets count p = record { first = refl; commits = omega arith; long = get_long p count }
 
 -- a ring block has 17 words in front, six for each word of the ring, and an end
 module _ (count : ℕ) (few : count ≤ 4) (p : Slots) (form : Form) (commits : committed form ≡ 18 + 6 * count)
@@ -84,32 +106,36 @@ module _ (count : ℕ) where
   to_end = omega arith
 
 module _ (count : ℕ) (few : count ≤ 4) (p : Slots) where
-  abbrev puts : Form
-  puts = ring_put_form count p
+  abbrev put_form : Form
+  put_form = ring_put_form count p
 
-  abbrev gets : Form
-  gets = ring_get_form count p
+  abbrev get_form : Form
+  get_form = ring_get_form count p
 
-  put_word_fits : (k : ℕ) → k < count → AreFit puts (17 + 6 * k) (put_insts p k)
+  put_word_fits : (k : ℕ) → k < count → AreFit put_form (17 + 6 * k) (put_insts p k)
   put_word_fits k lt = search (rules, arith, word_inner count, lt)
 
-  get_word_fits : (k : ℕ) → k < count → AreFit gets (17 + 6 * k) (get_insts p k)
+  get_word_fits : (k : ℕ) → k < count → AreFit get_form (17 + 6 * k) (get_insts p k)
   get_word_fits k lt = search (rules, arith, word_inner count, lt, value_changed p)
 
-  pub put_formed : IsFormed puts
+  put_leads : AreWords put_form 0 put_form.words
+  put_leads =
+      words_are count few p put_form (omega arith) (put_long p count) (value_changed p) (put_front p count) (put_insts p)
+      8 refl (put_six p) (search (rules, front_inner count, to_end count, value_changed p)) put_word_fits
+
+  get_leads : AreWords get_form 0 get_form.words
+  get_leads =
+      words_are count few p get_form (omega arith) (get_long p count) (value_changed p) (get_front p count) (get_insts p)
+      0 refl (get_six p) (search (rules, front_inner count, to_end count, value_changed p)) get_word_fits
+
+  pub put_formed : IsFormed put_form
   put_formed =
       let long = put_long p count in
-      formed_of puts (omega arith) (omega (arith, long)) (omega (arith, long)) (omega arith) refl refl refl
-      (inst.Addi 28 p.value (pos 0)) refl
-      (words_are count few p puts (omega arith) long (value_changed p) (put_front p count) (put_insts p) 8
-      refl
-      (put_six p) (search (rules, front_inner count, to_end count, value_changed p)) put_word_fits)
+      formed_of put_form (omega arith) (omega (arith, long)) (omega (arith, long)) (omega arith) refl refl refl
+      (inst.Addi 28 p.value (pos 0)) refl put_leads
 
-  pub get_formed : IsFormed gets
+  pub get_formed : IsFormed get_form
   get_formed =
       let long = get_long p count in
-      formed_of gets (omega arith) (omega (arith, long)) (omega (arith, long)) (omega arith) refl refl refl
-      (inst.Addi 28 p.value (pos 0)) refl
-      (words_are count few p gets (omega arith) long (value_changed p) (get_front p count) (get_insts p) 0
-      refl
-      (get_six p) (search (rules, front_inner count, to_end count, value_changed p)) get_word_fits)
+      formed_of get_form (omega arith) (omega (arith, long)) (omega (arith, long)) (omega arith) refl refl refl
+      (inst.Addi 28 p.value (pos 0)) refl get_leads

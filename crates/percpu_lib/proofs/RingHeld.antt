@@ -1,24 +1,22 @@
 -- The words of the lines of ring blocks, and where they are held.
 use Rattle.std.proofs.Common.{◌≡◌, ℕ, zero, suc, ◌+◌, ◌*◌, List, [], ◌∷◌, ◌++◌, length, refl, ap, ◌∙◌, arith}
-use Rattle.std.proofs.Common.{Option, Some, pos, negsuc, append_assoc}
-use Rattle.rv_asm.specs.Assembly.{Assembly, index_of}
+use Rattle.std.proofs.Common.{◌-◌, Option, Some, pos, negsuc, append_assoc, subst, sym}
+use Rattle.rv_asm.specs.Assembly.{Assembly, aimed, index_of}
 use Rattle.rv_inst.specs.declared.instruction.Inst.{Inst}
 use Rattle.rv_inst.specs.declared.instruction.Inst.TheVariants as inst
-use Rattle.percpu_lib.specs.BlockLines.{end_lines, leave_lines}
+use Rattle.percpu_lib.specs.BlockLines.{block_lines, end_lines, leave_lines}
 use Rattle.percpu_lib.specs.Lines.{AreEmitted, HasRoom, IsContinued, instructions}
-use Rattle.percpu_lib.specs.RingForms.{get_block, get_insts, put_block, put_insts, repeated, ring_end}
-use Rattle.percpu_lib.specs.RingForms.{ring_get_form, ring_put_form}
-use Rattle.percpu_lib.specs.RingKinds.{RingKind, gets, puts, ring_form_of, ring_lines_of}
-use Rattle.percpu_lib.specs.Rings.{get_steps, get_word, get_words, put_steps, put_word, put_words}
-use Rattle.percpu_lib.specs.Rings.{ring_aborted, ring_first, ring_get_lines, ring_put_lines}
+use Rattle.percpu_lib.specs.RingForms.{get_insts, put_insts, repeated, ring_end}
+use Rattle.percpu_lib.specs.RingKinds.{RingKind, gets, puts, ring_form_of, ring_lines_of, ring_steps_of}
+use Rattle.percpu_lib.specs.Rings.{get_word, get_words, put_word, put_words, ring_aborted, ring_first}
 use Rattle.percpu_lib.specs.declared.lines.Line.{Line}
 use Rattle.percpu_lib.specs.declared.lines.Line.TheVariants as line
 use Rattle.percpu_lib.specs.declared.slots.Slots.{Slots}
 use Rattle.percpu_lib.proofs.BoundLabels.{HasPlaces, places}
 use Rattle.percpu_lib.proofs.HeldBlocks.{words_of}
 use Rattle.percpu_lib.proofs.KindWords.{IsHeld, back, branch_is, forth, lines_held}
-use Rattle.percpu_lib.proofs.RingFormed.{get_long, put_long}
-use Rattle.percpu_lib.proofs.RingLines.{get_none, put_none}
+use Rattle.percpu_lib.proofs.RingFormed.{front_with, ring_parts}
+use Rattle.percpu_lib.proofs.RingLines.{AreFirst, first_gets, first_puts, ring_none}
 
 -- LINES ONE BEHIND THE OTHER
 
@@ -49,32 +47,31 @@ module _ (labels : List (Option ℕ)) where
   joined n (line.Branch i l ∷ xs) ys = one_first n _ xs ys (joined (n + 1) xs ys)
   joined n (line.Data w ∷ xs) ys = one_first n _ xs ys (joined (n + 1) xs ys)
 
-  -- the words that are put, and got
-  put_plain : (p : Slots) (n k : ℕ) → instructions labels n (put_words p k) ≡ repeated (put_insts p) k
-  put_plain p n zero = refl
-  put_plain p n (suc k) =
-      joined n (put_words p k) (put_word p k)
-      ∙ ap (λ (xs : List (Option Inst)). xs ++ put_insts p k) (put_plain p n k)
+  -- the words of the first lines, where those of each number are known
+  first_plain : (word words : ℕ → List Line) (insts : ℕ → List (Option Inst)) → AreFirst word words
+      → ((m k : ℕ) → instructions labels m (word k) ≡ insts k) → (n k : ℕ)
+      → instructions labels n (words k) ≡ repeated insts k
+  first_plain word words insts first each n zero = ap (instructions labels n) first.none
+  first_plain word words insts first each n (suc k) =
+      ap (instructions labels n) (first.more k) ∙ joined n (words k) (word k)
+      ∙ ap (λ (xs : List (Option Inst)). xs ++ instructions labels (n + words_of (words k)) (word k))
+      (first_plain word words insts first each n k)
+      ∙ ap (λ (xs : List (Option Inst)). repeated insts k ++ xs) (each (n + words_of (words k)) k)
 
-  get_plain : (p : Slots) (n k : ℕ) → instructions labels n (get_words p k) ≡ repeated (get_insts p) k
-  get_plain p n zero = refl
-  get_plain p n (suc k) =
-      joined n (get_words p k) (get_word p k)
-      ∙ ap (λ (xs : List (Option Inst)). xs ++ get_insts p k) (get_plain p n k)
+first_count : (word words : ℕ → List Line) → AreFirst word words → ((k : ℕ) → words_of (word k) ≡ 6) → (k : ℕ)
+    → words_of (words k) ≡ 6 * k
+first_count word words first six zero = ap words_of first.none
+first_count word words first six (suc k) =
+    let fewer = first_count word words first six k in
+    let both = words_joined (words k) (word k) in
+    let last = six k in
+    ap words_of (first.more k) ∙ omega (arith, fewer, both, last)
 
 put_count : (p : Slots) (k : ℕ) → words_of (put_words p k) ≡ 6 * k
-put_count p zero = refl
-put_count p (suc k) =
-    let fewer = put_count p k in
-    let both = words_joined (put_words p k) (put_word p k) in
-    omega (arith, fewer, both)
+put_count p = first_count (put_word p) (put_words p) (first_puts p) (λ k. refl)
 
 get_count : (p : Slots) (k : ℕ) → words_of (get_words p k) ≡ 6 * k
-get_count p zero = refl
-get_count p (suc k) =
-    let fewer = get_count p k in
-    let both = words_joined (get_words p k) (get_word p k) in
-    omega (arith, fewer, both)
+get_count p = first_count (get_word p) (get_words p) (first_gets p) (λ k. refl)
 
 -- THE WORDS OF A BLOCK
 
@@ -121,50 +118,59 @@ module _ (p : Slots) (base n count : ℕ) (labels : List (Option ℕ)) (retry : 
       ∙ ap (λ (xs : List (Option Inst)). is ++ xs)
       (behind_words (seventeen + words_of ws) offset (omega (arith, many)))
 
-  -- and those before
-  pub put_held : instructions labels n (ring_put_lines p base count) ≡ put_block p count
-  put_held =
+  -- and those before, where the test loads by i and j, subtracts by d, compares by c and branches by b
+  abbrev test_lines : Inst → Inst → Inst → Inst → Inst → List Line
+  test_lines i j d c b =
+      line.Plain (inst.Addi 28 p.value (pos 0)) ∷ line.Plain i ∷ line.Plain j ∷ line.Plain d ∷ line.Plain c
+      ∷ line.Plain (inst.Addi p.value 0 (pos 0)) ∷ line.Branch b (base + 2)
+      ∷ line.Plain (inst.Addi p.value 28 (pos 0)) ∷ []
+
+  block_held : (i j d c b to : Inst) (ws : List Line) (is : List (Option Inst)) (offset : ℕ)
+      → aimed b (pos (12 + 24 * count)) ≡ to → instructions labels seventeen ws ≡ is → words_of ws ≡ 6 * count
+      → instructions labels n (block_lines p base 13 (ring_first p)
+      (test_lines i j d c b ++ (ws ++ line.Plain (inst.Sd 5 6 (pos offset)) ∷ [])) (ring_aborted p))
+      ≡ front_with p i j d c to ++ (is ++ ring_end p count offset)
+  block_held i j d c b to ws is offset aim plain many =
       let one =
       branch_is labels (inst.Bne 6 5 (pos 0)) (inst.Bne 6 5 (negsuc 23)) six base n (negsuc 23) retry
       (back n six 6 23 (omega arith) refl) refl in
       let two =
-      branch_is labels (inst.Beq 7 0 (pos 0)) (inst.Beq 7 0 (pos (12 + 24 * count))) fifteen (base + 2)
-      (n + 18 + 6 * count) (pos (12 + 24 * count)) leave
-      (forth (n + 18 + 6 * count) fifteen (3 + 6 * count) (12 + 24 * count) (omega arith) (omega arith)) refl
-      in
-      let rest =
-      rest_held (put_words p count) (repeated (put_insts p) count) 8 (put_plain labels p seventeen count)
-      (put_count p count) in
+      branch_is labels b to fifteen (base + 2) (n + 18 + 6 * count) (pos (12 + 24 * count)) leave
+      (forth (n + 18 + 6 * count) fifteen (3 + 6 * count) (12 + 24 * count) (omega arith) (omega arith)) aim in
+      let rest = rest_held ws is offset plain many in
       cc
 
-  pub get_held : instructions labels n (ring_get_lines p base count) ≡ get_block p count
-  get_held =
-      let one =
-      branch_is labels (inst.Bne 6 5 (pos 0)) (inst.Bne 6 5 (negsuc 23)) six base n (negsuc 23) retry
-      (back n six 6 23 (omega arith) refl) refl in
-      let two =
-      branch_is labels (inst.Bne 7 0 (pos 0)) (inst.Bne 7 0 (pos (12 + 24 * count))) fifteen (base + 2)
-      (n + 18 + 6 * count) (pos (12 + 24 * count)) leave
-      (forth (n + 18 + 6 * count) fifteen (3 + 6 * count) (12 + 24 * count) (omega arith) (omega arith)) refl
-      in
-      let rest =
-      rest_held (get_words p count) (repeated (get_insts p) count) 0 (get_plain labels p seventeen count)
-      (get_count p count) in
-      cc
+  pub kind_words : (k : RingKind) → instructions labels n (ring_lines_of k count p base) ≡ (ring_form_of k count p).words
+  kind_words puts =
+      block_held (inst.Ld 6 5 (pos 8)) (inst.Ld 7 5 (pos 0)) (inst.Sub 7 6 7) (inst.Sltiu 7 7 (pos (513 - count)))
+      (inst.Beq 7 0 (pos 0)) (inst.Beq 7 0 (pos (12 + 24 * count))) (put_words p count)
+      (repeated (put_insts p) count) 8 refl
+      (first_plain labels (put_word p) (put_words p) (put_insts p) (first_puts p) (λ m k. refl) seventeen count)
+      (put_count p count)
+  kind_words gets =
+      block_held (inst.Ld 6 5 (pos 0)) (inst.Ld 7 5 (pos 8)) (inst.Sub 7 7 6) (inst.Sltiu 7 7 (pos count))
+      (inst.Bne 7 0 (pos 0)) (inst.Bne 7 0 (pos (12 + 24 * count))) (get_words p count)
+      (repeated (get_insts p) count) 0 refl
+      (first_plain labels (get_word p) (get_words p) (get_insts p) (first_gets p) (λ m k. refl) seventeen count)
+      (get_count p count)
 
 -- WHERE THEY ARE HELD
 
-put_inside : (p : Slots) (base count : ℕ) → words_of (put_steps p base count) ≡ 9 + 6 * count
-put_inside p base count =
+ring_inside : (k : RingKind) (p : Slots) (base count : ℕ) → words_of (ring_steps_of k p base count) ≡ 9 + 6 * count
+ring_inside puts p base count =
     let many = put_count p count in
     let both = words_joined (put_words p count) (line.Plain (inst.Sd 5 6 (pos 8)) ∷ []) in
     omega (arith, many, both)
-
-get_inside : (p : Slots) (base count : ℕ) → words_of (get_steps p base count) ≡ 9 + 6 * count
-get_inside p base count =
+ring_inside gets p base count =
     let many = get_count p count in
     let both = words_joined (get_words p count) (line.Plain (inst.Sd 5 6 (pos 0)) ∷ []) in
     omega (arith, many, both)
+
+-- its lines are those of a block with these inside
+ring_made : (k : RingKind) (count : ℕ) (p : Slots) (base : ℕ) → ring_lines_of k count p base
+    ≡ block_lines p base 13 (ring_first p) (ring_steps_of k p base count) (ring_aborted p)
+ring_made puts count p base = refl
+ring_made gets count p base = refl
 
 -- so many words stand before the post-commit address, and so many in the block
 behind_steps : (p : Slots) (base : ℕ) (inside : List Line) → words_of (inside ++ (leave_lines base
@@ -175,39 +181,29 @@ behind_steps p base inside = words_joined inside (leave_lines base ++ (ring_abor
 pub ring_places : (k : RingKind) (count : ℕ) (p : Slots) (base : ℕ) (a b c : Assembly) → HasRoom a.labels base
     → AreEmitted (ring_lines_of k count p base) a b → IsContinued b c
     → HasPlaces (ring_form_of k count p) base a c
-ring_places puts count p base a b c room is more =
-    let inside = put_steps p base count in
-    let many = put_inside p base count in
+ring_places k count p base a b c room is more =
+    let inside = ring_steps_of k p base count in
+    let many = ring_inside k p base count in
     let all = behind_steps p base inside in
-    let long = put_long p count in
-    places p base 13 (ring_first p) inside (ring_aborted p) a b c room is tt (put_none p base count) tt more
-    (ring_put_form count p) refl (omega (arith, many)) (omega (arith, many, all, long))
-ring_places gets count p base a b c room is more =
-    let inside = get_steps p base count in
-    let many = get_inside p base count in
-    let all = behind_steps p base inside in
-    let long = get_long p count in
-    places p base 13 (ring_first p) inside (ring_aborted p) a b c room is tt (get_none p base count) tt more
-    (ring_get_form count p) refl (omega (arith, many)) (omega (arith, many, all, long))
+    let its = ring_parts k count p in
+    let long = its.long in
+    let commits = its.commits in
+    places p base 13 (ring_first p) inside (ring_aborted p) a b c room
+    (subst (λ (xs : List Line). AreEmitted xs a b) (ring_made k count p base) is) tt (ring_none k p base count) tt
+    more (ring_form_of k count p) (sym its.first) (omega (arith, many, commits))
+    (omega (arith, many, all, long))
 
 pub ring_held : (k : RingKind) (count : ℕ) (p : Slots) (base : ℕ) (a b c : Assembly) → HasRoom a.labels base
     → AreEmitted (ring_lines_of k count p base) a b → IsContinued b c
     → IsHeld (ring_form_of k count p).words a c
-ring_held puts count p base a b c room is more =
-    let inside = put_steps p base count in
-    let many = put_inside p base count in
+ring_held k count p base a b c room is more =
+    let inside = ring_steps_of k p base count in
+    let many = ring_inside k p base count in
     let all = behind_steps p base inside in
-    lines_held p base 13 (ring_first p) inside (ring_aborted p) (put_block p count) a b c room is tt
-    (put_none p base count) tt more
-    (λ retry leave end. put_held p base (length a.items) count c.labels retry
-    (leave ∙ ap Some (omega (arith, many)))
-    (end ∙ ap Some (omega (arith, many, all))))
-ring_held gets count p base a b c room is more =
-    let inside = get_steps p base count in
-    let many = get_inside p base count in
-    let all = behind_steps p base inside in
-    lines_held p base 13 (ring_first p) inside (ring_aborted p) (get_block p count) a b c room is tt
-    (get_none p base count) tt more
-    (λ retry leave end. get_held p base (length a.items) count c.labels retry
-    (leave ∙ ap Some (omega (arith, many)))
-    (end ∙ ap Some (omega (arith, many, all))))
+    lines_held p base 13 (ring_first p) inside (ring_aborted p) (ring_form_of k count p).words a b c room
+    (subst (λ (xs : List Line). AreEmitted xs a b) (ring_made k count p base) is) tt (ring_none k p base count) tt
+    more
+    (λ retry leave end.
+    ap (instructions c.labels (length a.items)) (sym (ring_made k count p base))
+    ∙ kind_words p base (length a.items) count c.labels retry (leave ∙ ap Some (omega (arith, many)))
+    (end ∙ ap Some (omega (arith, many, all))) k)

@@ -1,14 +1,15 @@
 -- Each line of a ring block has a word or is aimed at a label that is there, and none of them inside is a label.
 use Rattle.std.proofs.Common.{◌≡◌, ℕ, zero, suc, ◌+◌, ◌-◌, ◌*◌, ◌<◌, ◌≤◌, List, [], ◌∷◌, ◌++◌, refl, ap, ◌∙◌, arith}
-use Rattle.std.proofs.Common.{true, ◌&&◌, ltb, All, pos}
+use Rattle.std.proofs.Common.{true, ◌&&◌, ltb, All, pos, subst, sym}
 use Rattle.std.proofs.lemmas.Bool.{lt-ltb}
 use Rattle.rv_asm.specs.Assembly.{Assembly}
 use Rattle.rv_asm.specs.Fields.{has_signed_bits}
+use Rattle.rv_inst.specs.declared.instruction.Inst.TheVariants as inst
 use Rattle.percpu_lib.specs.BlockLines.{HasNoLabel, IsLabelled, block_lines}
 use Rattle.percpu_lib.specs.Lines.{AreEmitted, HasRoom, IsEmittable}
 use Rattle.percpu_lib.specs.RingKinds.{RingKind, gets, puts, ring_lines_of, ring_steps_of}
 use Rattle.percpu_lib.specs.Rings.{get_steps, get_test, get_word, get_words, put_steps, put_test, put_word}
-use Rattle.percpu_lib.specs.Rings.{put_words, ring_aborted, ring_first, ring_get_lines, ring_put_lines}
+use Rattle.percpu_lib.specs.Rings.{put_words, ring_aborted, ring_first}
 use Rattle.percpu_lib.specs.Words.{AreSlots}
 use Rattle.percpu_lib.specs.declared.lines.Line.{Line}
 use Rattle.percpu_lib.specs.declared.lines.Line.TheVariants as line
@@ -25,19 +26,38 @@ none_joined (line.Plain i ∷ xs) ys first rest = none_joined xs ys first rest
 none_joined (line.Branch i n ∷ xs) ys first rest = none_joined xs ys first rest
 none_joined (line.Data w ∷ xs) ys first rest = none_joined xs ys first rest
 
-put_words_none : (p : Slots) (k : ℕ) → HasNoLabel (put_words p k)
-put_words_none p zero = tt
-put_words_none p (suc k) = none_joined (put_words p k) (put_word p k) (put_words_none p k) tt
+-- for each of the first numbers, the lines of that number
+pub record AreFirst (word words : ℕ → List Line) : Type 0 where
+  pub none : words 0 ≡ []
+  pub more : (k : ℕ) → words (suc k) ≡ words k ++ word k
 
-get_words_none : (p : Slots) (k : ℕ) → HasNoLabel (get_words p k)
-get_words_none p zero = tt
-get_words_none p (suc k) = none_joined (get_words p k) (get_word p k) (get_words_none p k) tt
+pub first_puts : (p : Slots) → AreFirst (put_word p) (put_words p)
+first_puts p = record { none = refl; more = λ k. refl }
 
-pub put_none : (p : Slots) (base count : ℕ) → HasNoLabel (put_steps p base count)
-put_none p base count = none_joined (put_words p count) _ (put_words_none p count) tt
+pub first_gets : (p : Slots) → AreFirst (get_word p) (get_words p)
+first_gets p = record { none = refl; more = λ k. refl }
 
-pub get_none : (p : Slots) (base count : ℕ) → HasNoLabel (get_steps p base count)
-get_none p base count = none_joined (get_words p count) _ (get_words_none p count) tt
+-- what holds of the lines of each number, and of lines one behind the other, holds of the first ones
+pub of_first : (P : List Line → Type 0) (word words : ℕ → List Line) → AreFirst word words → P []
+    → ((xs ys : List Line) → P xs → P ys → P (xs ++ ys)) → (n : ℕ) → ((k : ℕ) → k < n → P (word k))
+    → (k : ℕ) → k ≤ n → P (words k)
+of_first P word words first none joined n each zero few = subst P (sym first.none) none
+of_first P word words first none joined n each (suc k) few =
+    subst P (sym (first.more k))
+    (joined (words k) (word k) (of_first P word words first none joined n each k (omega arith))
+    (each k (omega arith)))
+
+words_none : (word words : ℕ → List Line) → AreFirst word words → ((k : ℕ) → HasNoLabel (word k)) → (count : ℕ)
+    → HasNoLabel (words count)
+words_none word words first each count =
+    of_first HasNoLabel word words first tt none_joined count (λ k lt. each k) count (omega arith)
+
+-- no line inside a ring block is a label
+pub ring_none : (k : RingKind) (p : Slots) (base count : ℕ) → HasNoLabel (ring_steps_of k p base count)
+ring_none puts p base count =
+    none_joined (put_words p count) _ (words_none (put_word p) (put_words p) (first_puts p) (λ k. tt) count) tt
+ring_none gets p base count =
+    none_joined (get_words p count) _ (words_none (get_word p) (get_words p) (first_gets p) (λ k. tt) count) tt
 
 -- WORDS
 
@@ -68,23 +88,15 @@ module _ (p : Slots) (base labels : ℕ) (slots : AreSlots p) (low : p.table < 0
       let load = both_true (ltb p.value 32) (has_signed_bits 12 (pos (8 * k))) value (place_fits k few) in
       (refl, (refl, (refl, (load, (refl, (refl, tt))))))
 
-  put_words_emittable : (k : ℕ) → k ≤ 4 → Emittable (put_words p k)
-  put_words_emittable zero few = tt
-  put_words_emittable (suc k) few =
-      all_joined (IsEmittable labels) (put_words p k) (put_word p k) (put_words_emittable k (omega arith))
-      (put_word_emittable k (omega arith))
+  words_emittable : (word words : ℕ → List Line) → AreFirst word words
+      → ((k : ℕ) → k < 4 → Emittable (word k)) → (count : ℕ) → count ≤ 4 → Emittable (words count)
+  words_emittable word words first = of_first Emittable word words first tt (all_joined (IsEmittable labels)) 4
 
   get_word_emittable : (k : ℕ) → k < 4 → Emittable (get_word p k)
   get_word_emittable k few =
       let store = both_true (ltb p.value 32 && true) (has_signed_bits 12 (pos (8 * k)))
       (second p base labels slots low room) (place_fits k few) in
       (refl, (refl, (refl, (refl, (store, (refl, tt))))))
-
-  get_words_emittable : (k : ℕ) → k ≤ 4 → Emittable (get_words p k)
-  get_words_emittable zero few = tt
-  get_words_emittable (suc k) few =
-      all_joined (IsEmittable labels) (get_words p k) (get_word p k) (get_words_emittable k (omega arith))
-      (get_word_emittable k (omega arith))
 
   first_emittable : Emittable (ring_first p)
   first_emittable = (second p base labels slots low room, tt)
@@ -102,19 +114,27 @@ module _ (p : Slots) (base labels : ℕ) (slots : AreSlots p) (low : p.table < 0
       let copy = second p base labels slots low room in
       (copy, (refl, (refl, (refl, (count_fits count few, (is_written, ((refl, omega arith), (is_written, tt))))))))
 
-  pub ring_put_emittable : (count : ℕ) → count ≤ 4 → All (IsEmittable labels) (ring_put_lines p base count)
-  ring_put_emittable count few =
-      let behind = all_joined (IsEmittable labels) (put_words p count) _ (put_words_emittable count few) (refl, tt) in
-      block_emittable p base labels slots low room 13 (ring_first p) (put_steps p base count) (ring_aborted p) refl
-      first_emittable (all_joined (IsEmittable labels) (put_test p base count) _ (put_test_emittable count) behind)
+  -- a block by its test and its words
+  block_of_words : (test : List Line) (word words : ℕ → List Line) (last : Line) (count : ℕ) → count ≤ 4
+      → AreFirst word words → Emittable test → ((k : ℕ) → k < 4 → Emittable (word k)) → Emittable (last ∷ [])
+      → All (IsEmittable labels)
+      (block_lines p base 13 (ring_first p) (test ++ (words count ++ last ∷ [])) (ring_aborted p))
+  block_of_words test word words last count few first fit each stored =
+      block_emittable p base labels slots low room 13 (ring_first p) (test ++ (words count ++ last ∷ []))
+      (ring_aborted p) refl first_emittable
+      (all_joined (IsEmittable labels) test (words count ++ last ∷ []) fit
+      (all_joined (IsEmittable labels) (words count) (last ∷ []) (words_emittable word words first each count few)
+      stored))
       aborted_emittable
 
-  pub ring_get_emittable : (count : ℕ) → count ≤ 4 → All (IsEmittable labels) (ring_get_lines p base count)
-  ring_get_emittable count few =
-      let behind = all_joined (IsEmittable labels) (get_words p count) _ (get_words_emittable count few) (refl, tt) in
-      block_emittable p base labels slots low room 13 (ring_first p) (get_steps p base count) (ring_aborted p) refl
-      first_emittable (all_joined (IsEmittable labels) (get_test p base count) _ (get_test_emittable count few) behind)
-      aborted_emittable
+  pub block_of_kind : (k : RingKind) (count : ℕ) → count ≤ 4
+      → All (IsEmittable labels) (ring_lines_of k count p base)
+  block_of_kind puts count few =
+      block_of_words (put_test p base count) (put_word p) (put_words p) (line.Plain (inst.Sd 5 6 (pos 8))) count
+      few (first_puts p) (put_test_emittable count) put_word_emittable (refl, tt)
+  block_of_kind gets count few =
+      block_of_words (get_test p base count) (get_word p) (get_words p) (line.Plain (inst.Sd 5 6 (pos 0))) count
+      few (first_gets p) (get_test_emittable count few) get_word_emittable (refl, tt)
 
 -- the lines of a block that does this inside
 pub lines_made : (p : Slots) (base : ℕ) (lines inside steps : List Line)
@@ -135,16 +155,13 @@ way_made gets count p base lines inside made same =
 
 pub ring_emittable : (k : RingKind) (p : Slots) (base labels : ℕ) → AreSlots p → p.table < 0x7FFFF800
     → base + 8 ≤ labels → (count : ℕ) → count ≤ 4 → All (IsEmittable labels) (ring_lines_of k count p base)
-ring_emittable puts p base labels slots low room count few =
-    ring_put_emittable p base labels slots low room count few
-ring_emittable gets p base labels slots low room count few =
-    ring_get_emittable p base labels slots low room count few
+ring_emittable k p base labels slots low room count few = block_of_kind p base labels slots low room k count few
 
 pub ring_labelled : (k : RingKind) (count : ℕ) (p : Slots) (base : ℕ) (a b : Assembly)
     → AreEmitted (ring_lines_of k count p base) a b → HasRoom a.labels base → IsLabelled base b
 ring_labelled puts count p base a b is room =
     labelled p base 13 (ring_first p) (put_steps p base count) (ring_aborted p) a b is room tt
-    (put_none p base count) tt
+    (ring_none puts p base count) tt
 ring_labelled gets count p base a b is room =
     labelled p base 13 (ring_first p) (get_steps p base count) (ring_aborted p) a b is room tt
-    (get_none p base count) tt
+    (ring_none gets p base count) tt

@@ -1,8 +1,17 @@
 -- Where the slots of a ring lie: modulo 512, beside one another and beside head, tail, words and area.
-use Rattle.std.proofs.Common.{◌≡◌, ◌≢◌, ℕ, ◌+◌, ◌-◌, ◌%◌, ◌^◌, ◌<◌, ◌≤◌, inl, inr, ◌⊎◌, arith}
+use Rattle.std.proofs.Common.{◌≡◌, ◌≢◌, ℕ, zero, suc, ◌+◌, ◌-◌, ◌%◌, ◌^◌, ◌<◌, ◌≤◌, inl, inr, ◌⊎◌, arith}
 use Rattle.std.proofs.lemmas.Bool.{cases_lt}
 use Rattle.percpu_lib.specs.Pushes.{LieBeside}
 use Rattle.percpu_lib.specs.RingForms.{slot_of}
+
+-- what holds of 1, 2, 3 and 4
+pub one_to_four : (P : ℕ → Type 0) → P 1 → P 2 → P 3 → P 4 → (n : ℕ) → 1 ≤ n → n ≤ 4 → P n
+one_to_four P one two three four zero some few = absurd (omega arith)
+one_to_four P one two three four (suc zero) some few = one
+one_to_four P one two three four (suc (suc zero)) some few = two
+one_to_four P one two three four (suc (suc (suc zero))) some few = three
+one_to_four P one two three four (suc (suc (suc (suc zero)))) some few = four
+one_to_four P one two three four (suc (suc (suc (suc (suc n))))) some few = absurd (omega arith)
 
 -- numbers less than 512 apart have slots of their own
 pub other_slot : (ring m n : ℕ) → m % 512 ≢ n % 512 → LieBeside (slot_of ring m) 8 (slot_of ring n) 8

@@ -1,7 +1,7 @@
 -- Each retry of a ring block works on the value that came in: it is copied into x28 at the retry label, and
 -- once more inside, and brought back from there inside, and where the block was aborted.
 use Rattle.std.proofs.Common.{◌≡◌, ◌≢◌, ℕ, zero, suc, ◌+◌, ◌*◌, ◌<◌, ◌≤◌, ◌^◌, ◌⊎◌, inl, inr, List, [], ◌∷◌}
-use Rattle.std.proofs.Common.{◌++◌, refl, sym, ◌%◌, ap, ◌∙◌, arith, Bool, true, false, not, ◌||◌, eqb}
+use Rattle.std.proofs.Common.{◌++◌, refl, sym, ◌%◌, ap, ◌∙◌, ◌-◌, arith, Bool, true, false, not, ◌||◌, eqb}
 use Rattle.std.proofs.Common.{slice_get, subst, Option, Some, None, pos, length, append_assoc, append-nil}
 use Rattle.std.proofs.Common.{rules}
 use Rattle.std.proofs.lemmas.Bool.{cases_eq, cases_lt, false≢true, ne_eqb}
@@ -35,7 +35,8 @@ use Rattle.alone_laws.proofs.Retrying.{IsAskedRun, IsKept, first_place, known_th
 use Rattle.percpu_lib.specs.Forms.{AreBlockUsed, Form, HoldsBlock, IsBlockUsed, committed, placed_of}
 use Rattle.percpu_lib.specs.Forms.{range_of}
 use Rattle.percpu_lib.specs.RingForms.{get_front, get_insts, put_front, put_insts, repeated, ring_end}
-use Rattle.percpu_lib.specs.RingForms.{ring_get_form, ring_put_form}
+use Rattle.percpu_lib.specs.RingForms.{IsNoGet, IsNoPut, IsWholeGet, IsWholePut, ring_form, ring_get_form}
+use Rattle.percpu_lib.specs.RingForms.{ring_put_form}
 use Rattle.percpu_lib.specs.RingKinds.{RingKind, gets, puts, ring_form_of}
 use Rattle.percpu_lib.specs.Words.{AreSlots}
 use Rattle.percpu_lib.specs.declared.slots.Slots.{Slots}
@@ -43,8 +44,8 @@ use Rattle.percpu_lib.proofs.BlockCode.{IsFormed, IsInstruction, KnowsTable, bef
 use Rattle.percpu_lib.proofs.BlockCode.{block_code, it, leads_at, outcome_is}
 use Rattle.percpu_lib.proofs.Changes.{scratch_not, some_value}
 use Rattle.percpu_lib.proofs.FormedWords.{AreFitBut, Unless, tame_at}
-use Rattle.percpu_lib.proofs.RingFormed.{front_inner, get_formed, get_long, get_six, put_formed, put_long}
-use Rattle.percpu_lib.proofs.RingFormed.{put_six, to_end, word_inner}
+use Rattle.percpu_lib.proofs.RingFormed.{front_inner, front_with, get_formed, get_long, get_six, put_formed, put_long}
+use Rattle.percpu_lib.proofs.RingFormed.{put_six, to_end, word_inner, words_long}
 use Rattle.percpu_lib.proofs.RingWords.{at_end, repeated_length}
 use Rattle.percpu_lib.proofs.WordLaws.{Leads, begins_anew, beq_pc, bne_pc, goes_on, leads_out, leaves_block}
 use Rattle.percpu_lib.proofs.WordLaws.{straight_of}
@@ -176,33 +177,45 @@ module _ (count : ℕ) (few : count ≤ 4) (p : Slots) (slots : AreSlots p) wher
     ),
   )
 
+  -- a whole block
+  copy_kept_in : (form : Form) (front : List (Option Inst)) (insts : ℕ → List (Option Inst)) (offset : ℕ)
+      → committed form ≡ 18 + 6 * count → length form.words ≡ 22 + 6 * count → length front ≡ 17
+      → ((k : ℕ) → length (insts k) ≡ 6) → AreFitBut but_copy (keeping form 28) 0 front
+      → ((k : ℕ) → k < count → AreFitBut but_copy (keeping form 28) (here k) (insts k))
+      → AreFitBut but_copy (keeping form 28) 0 (front ++ (repeated insts count ++ ring_end p count offset))
+  copy_kept_in form front insts offset commits long seventeen six first each =
+      fit_all but_copy (keeping form 28) front insts (ring_end p count offset) count seventeen six first each
+      (end_copy form commits long offset)
+
+  value_kept_in : (form : Form) (front : List (Option Inst)) (insts : ℕ → List (Option Inst)) (offset : ℕ)
+      → committed form ≡ 18 + 6 * count → length form.words ≡ 22 + 6 * count → length front ≡ 17
+      → ((k : ℕ) → length (insts k) ≡ 6) → AreFitBut (but_value count) (keeping form p.value) 0 front
+      → ((k : ℕ) → k < count → AreFitBut (but_value count) (keeping form p.value) (here k) (insts k))
+      → AreFitBut (but_value count) (keeping form p.value) 0
+      (front ++ (repeated insts count ++ ring_end p count offset))
+  value_kept_in form front insts offset commits long seventeen six first each =
+      fit_all (but_value count) (keeping form p.value) front insts (ring_end p count offset) count seventeen six
+      first each (end_value form commits long offset)
+
   pub put_copy_kept : AreFitBut but_copy (keeping put_form 28) 0 put_form.words
   put_copy_kept =
-      fit_all but_copy (keeping put_form 28) (put_front p count) (put_insts p) (ring_end p count 8) count refl
-      (put_six p)
+      copy_kept_in put_form (put_front p count) (put_insts p) 8 (omega arith) (put_long p count) refl (put_six p)
       (search (rules, front_inner count, to_end count, not_28)) put_word_copy
-      (end_copy put_form (omega arith) (put_long p count) 8)
-
-  pub put_value_kept : AreFitBut (but_value count) (keeping put_form p.value) 0 put_form.words
-  put_value_kept =
-      fit_all (but_value count) (keeping put_form p.value) (put_front p count) (put_insts p)
-      (ring_end p count 8) count refl
-      (put_six p) (search (rules, any, front_inner count, to_end count, other)) put_word_value
-      (end_value put_form (omega arith) (put_long p count) 8)
 
   pub get_copy_kept : AreFitBut but_copy (keeping get_form 28) 0 get_form.words
   get_copy_kept =
-      fit_all but_copy (keeping get_form 28) (get_front p count) (get_insts p) (ring_end p count 0) count refl
-      (get_six p)
+      copy_kept_in get_form (get_front p count) (get_insts p) 0 (omega arith) (get_long p count) refl (get_six p)
       (search (rules, front_inner count, to_end count, not_28)) get_word_copy
-      (end_copy get_form (omega arith) (get_long p count) 0)
+
+  pub put_value_kept : AreFitBut (but_value count) (keeping put_form p.value) 0 put_form.words
+  put_value_kept =
+      value_kept_in put_form (put_front p count) (put_insts p) 8 (omega arith) (put_long p count) refl (put_six p)
+      (search (rules, any, front_inner count, to_end count, other)) put_word_value
 
   pub get_value_kept : AreFitBut (but_value count) (keeping get_form p.value) 0 get_form.words
   get_value_kept =
-      fit_all (but_value count) (keeping get_form p.value) (get_front p count) (get_insts p)
-      (ring_end p count 0) count refl
-      (get_six p) (search (rules, any, front_inner count, to_end count, other)) get_word_value
-      (end_value get_form (omega arith) (get_long p count) 0)
+      value_kept_in get_form (get_front p count) (get_insts p) 0 (omega arith) (get_long p count) refl (get_six p)
+      (search (rules, any, front_inner count, to_end count, other)) get_word_value
 
 -- WHAT RING BLOCKS HAVE IN COMMON
 
@@ -235,47 +248,52 @@ module _ (count : ℕ) (few : count ≤ 4) (p : Slots) (slots : AreSlots p) wher
   third_behind : 20 + 6 * count ≡ 17 + 6 * count + 3
   third_behind = omega arith
 
+  -- one by the words of its test and those that move a word
+  module _ (i j d c b : Inst) (insts : ℕ → List (Option Inst)) (six : (k : ℕ) → length (insts k) ≡ 6) (offset : ℕ)
+      (Whole Partial : Setting → ℕ → ℕ → ℕ → History → History → Type 0) where
+    abbrev form_with : Form
+    form_with =
+        ring_form p (front_with p i j d c b ++ (repeated insts count ++ ring_end p count offset)) count Whole Partial
+
+    is_ring_with : ((seen : ℕ → Option ℕ) (f : Regs) (pc to : ℕ) (r : Option ℕ)
+        → sum_64 pc (12 + 24 * count) ≡ to → to % 4 ≡ 0
+        → ((outcome seen f pc r (meaning b f pc)).pc ≡ to)
+        ⊎ ((outcome seen f pc r (meaning b f pc)).pc ≡ sum_64 pc 4))
+        → AreFitBut but_copy (keeping form_with 28) 0 form_with.words
+        → AreFitBut (but_value count) (keeping form_with p.value) 0 form_with.words → IsRing form_with count
+    is_ring_with to copy value = record {
+      first = refl;
+      commits = omega arith;
+      long = words_long (front_with p i j d c b) insts p count offset refl six;
+      copies = refl;
+      copies_again = refl;
+      clears = refl;
+      restores = refl;
+      handles = ap (slice_get form_with.words) third_behind
+          ∙ at_end insts six (front_with p i j d c b) (ring_end p count offset) refl count 3;
+      tests = b;
+      tests_there = refl;
+      tests_to = to;
+      copy_kept = copy;
+      value_kept = value;
+      low_words = λ s area h t begun apart. apart.low_words;
+    }
+
   pub put_is_ring : IsRing (ring_put_form count p) count
-  put_is_ring = record {
-    first = refl;
-    commits = omega arith;
-    long = put_long p count;
-    copies = refl;
-    copies_again = refl;
-    clears = refl;
-    restores = refl;
-    handles =
-        ap (slice_get (ring_put_form count p).words) third_behind
-        ∙ at_end (put_insts p) (put_six p) (put_front p count) (ring_end p count 8) refl count 3;
-    tests = inst.Beq 7 0 (pos (12 + 24 * count));
-    tests_there = refl;
-    tests_to = λ seen f pc to r is even.
-        beq_pc seen f pc to r 7 0 (pos (12 + 24 * count)) (ap (sum_64 pc) small ∙ is) even;
-    copy_kept = put_copy_kept count few p slots;
-    value_kept = put_value_kept count few p slots;
-    low_words = λ s area h t begun apart. apart.low_words;
-  }
+  put_is_ring =
+      is_ring_with (inst.Ld 6 5 (pos 8)) (inst.Ld 7 5 (pos 0)) (inst.Sub 7 6 7) (inst.Sltiu 7 7 (pos (513 - count)))
+      (inst.Beq 7 0 (pos (12 + 24 * count))) (put_insts p) (put_six p) 8
+      (λ s ring h t. IsWholePut s p ring h t count) (λ s ring h t. IsNoPut s p ring h t count)
+      (λ seen f pc to r is even. beq_pc seen f pc to r 7 0 (pos (12 + 24 * count)) (ap (sum_64 pc) small ∙ is) even)
+      (put_copy_kept count few p slots) (put_value_kept count few p slots)
 
   pub get_is_ring : IsRing (ring_get_form count p) count
-  get_is_ring = record {
-    first = refl;
-    commits = omega arith;
-    long = get_long p count;
-    copies = refl;
-    copies_again = refl;
-    clears = refl;
-    restores = refl;
-    handles =
-        ap (slice_get (ring_get_form count p).words) third_behind
-        ∙ at_end (get_insts p) (get_six p) (get_front p count) (ring_end p count 0) refl count 3;
-    tests = inst.Bne 7 0 (pos (12 + 24 * count));
-    tests_there = refl;
-    tests_to = λ seen f pc to r is even.
-        bne_pc seen f pc to r 7 0 (pos (12 + 24 * count)) (ap (sum_64 pc) small ∙ is) even;
-    copy_kept = get_copy_kept count few p slots;
-    value_kept = get_value_kept count few p slots;
-    low_words = λ s area h t begun apart. apart.low_words;
-  }
+  get_is_ring =
+      is_ring_with (inst.Ld 6 5 (pos 0)) (inst.Ld 7 5 (pos 8)) (inst.Sub 7 7 6) (inst.Sltiu 7 7 (pos count))
+      (inst.Bne 7 0 (pos (12 + 24 * count))) (get_insts p) (get_six p) 0
+      (λ s ring h t. IsWholeGet s p ring h t count) (λ s ring h t. IsNoGet s p ring h t count)
+      (λ seen f pc to r is even. bne_pc seen f pc to r 7 0 (pos (12 + 24 * count)) (ap (sum_64 pc) small ∙ is) even)
+      (get_copy_kept count few p slots) (get_value_kept count few p slots)
 
 -- WHAT IS ASKED OF THE DATA
 

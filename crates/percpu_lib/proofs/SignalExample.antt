@@ -20,9 +20,8 @@ use Rattle.percpu_lib.specs.Adds.{add_block, add_range, cell_seen, placed_add}
 use Rattle.percpu_lib.specs.Uses.{HoldsAdd, add_form, cells_of}
 use Rattle.percpu_lib.specs.declared.slots.Slots.{Slots}
 use Rattle.percpu_lib.proofs.Computing.{by_rules, by_signals, by_table}
-use Rattle.percpu_lib.proofs.ExampleParts.{AreThere, entry, holds_so, line}
-use Rattle.percpu_lib.proofs.ExampleParts.{data_at, setting_of, walk}
-use Rattle.percpu_lib.proofs.ExampleParts.{execs, slots_with}
+use Rattle.percpu_lib.proofs.ExampleParts.{AreThere, data_at, entry, execs, holds_so, line, sequence_of}
+use Rattle.percpu_lib.proofs.ExampleParts.{setting_of, slots_with, walk}
 pub use Rattle.percpu_lib.proofs.ExampleParts.{own_area as area}
 use Rattle.percpu_lib.proofs.ExamplePrograms.{signal_code}
 use Rattle.percpu_lib.proofs.FormTests.{add_tested}
@@ -77,13 +76,7 @@ left =
 
 -- its sequence
 abbrev pub sequence : Sequence
-sequence = record {
-  hart = 0;
-  thread = 1;
-  begun = history adding (take 27 log);
-  last_instruction = history adding (take 34 log);
-  reached = history adding log;
-}
+sequence = sequence_of adding log 27 34
 
 pub is_sequence : sequence_on adding 0 (history adding log) ≡ Some sequence
 unfolding by_rules by_signals

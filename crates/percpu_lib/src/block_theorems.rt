@@ -2,10 +2,8 @@
 
 ghost use Rattle.std.specs.Prelude.{ℕ, List, [], ◌∷◌, ◌++◌, Some, false, true, length, slice_get};
 ghost use Rattle.std.specs.Prelude.{◌+◌, ◌*◌, ◌%◌, ◌^◌, ◌<◌, ◌≡◌, ◌≢◌, ◌≤◌, ◌⊎◌};
-ghost use Rattle.mach_types.specs.Registers.{register};
-ghost use Rattle.mach_types.specs.declared.events.Entry.{Entry};
+ghost use Rattle.mach_types.specs.{Registers.register, declared.events.Entry.Entry, declared.sequences.Area.Area};
 ghost use Rattle.mach_types.specs.declared.events.Kind.TheVariants as event_kind;
-ghost use Rattle.mach_types.specs.declared.sequences.Area.{Area};
 ghost use Rattle.block_model.specs.Acts.{Sequence, end_before, end_so_far, sequence_on};
 ghost use Rattle.block_model.specs.Deciding.{event, history};
 ghost use Rattle.block_model.specs.History.{file, running};
@@ -14,12 +12,9 @@ ghost use Rattle.alone_laws.specs.{Blocks.IsPlaceOf, Entering.IsIn, Pointers.Lie
 ghost use Rattle.alone_laws.specs.Undisturbed.{Brings, IsUndisturbed, executed_on};
 ghost use Rattle.alone_laws.specs.Uses.{AlwaysOutside, CanAlwaysBegin, Placed, in_block};
 ghost use Rattle.alone_laws.specs.Spans.{code_of};
-ghost use Rattle.elf_load.specs.Images.{IsImage};
-ghost use Rattle.elf_load.specs.declared.image.Image.{Image};
-ghost use Rattle.elf_load.specs.declared.image.ImagePage.{ImagePage};
+ghost use Rattle.elf_load.specs.{Images.IsImage, declared.image.Image.Image, declared.image.ImagePage.ImagePage};
 ghost use Rattle.rv_asm.specs.Assembly.{AreAssembled, Assembly};
-ghost use Rattle.rv_inst.specs.Table.{row_of};
-ghost use Rattle.rv_inst.specs.declared.instruction.Inst.{Inst};
+ghost use Rattle.rv_inst.specs.{Table.row_of, declared.instruction.Inst.Inst};
 ghost use Rattle.percpu_lib.specs.Beside.{IsOfLibrary};
 ghost use Rattle.percpu_lib.specs.Bindings.{AreBound, AreLabelsOf, word_before_abort};
 ghost use Rattle.percpu_lib.specs.Files.{HoldsCode};

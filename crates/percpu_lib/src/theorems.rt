@@ -3,10 +3,8 @@
 
 ghost use Rattle.std.specs.Prelude.{ℕ, List, [], ◌∷◌, ◌++◌, Some, length, slice_get, true, false, ◌+◌, ◌*◌};
 ghost use Rattle.std.specs.Prelude.{◌<◌, ◌^◌, ◌≡◌, ◌≢◌, ◌≤◌, Option};
-ghost use Rattle.mach_types.specs.Registers.{register};
-ghost use Rattle.mach_types.specs.declared.events.Entry.{Entry};
+ghost use Rattle.mach_types.specs.{Registers.register, declared.events.Entry.Entry, declared.sequences.Area.Area};
 ghost use Rattle.mach_types.specs.declared.events.Kind.TheVariants as kind;
-ghost use Rattle.mach_types.specs.declared.sequences.Area.{Area};
 ghost use Rattle.block_model.specs.Acts.{Sequence, end_before, end_so_far, sequence_on};
 ghost use Rattle.block_model.specs.Deciding.{event, history};
 ghost use Rattle.block_model.specs.History.{file, running};
@@ -17,13 +15,10 @@ ghost use Rattle.alone_laws.specs.Undisturbed.{Brings, IsUndisturbed, executed_o
 ghost use Rattle.alone_laws.specs.Uses.{AlwaysOutside, CanAlwaysBegin, HasLeft, Placed, in_block};
 ghost use Rattle.alone_laws.specs.Spans.{code_of};
 ghost use Rattle.block_model.specs.Instruction.{fetched};
-ghost use Rattle.elf_load.specs.Images.{IsImage};
-ghost use Rattle.elf_load.specs.declared.image.Image.{Image};
-ghost use Rattle.elf_load.specs.declared.image.ImagePage.{ImagePage};
+ghost use Rattle.elf_load.specs.{Images.IsImage, declared.image.Image.Image, declared.image.ImagePage.ImagePage};
 ghost use Rattle.rv_asm.specs.Assembly.{AreAssembled, Assembly};
 ghost use Rattle.rv_asm.specs.declared.item.Item.{Item};
-ghost use Rattle.rv_inst.specs.Table.{row_of};
-ghost use Rattle.rv_inst.specs.declared.instruction.Inst.{Inst};
+ghost use Rattle.rv_inst.specs.{Table.row_of, declared.instruction.Inst.Inst};
 ghost use Rattle.percpu_lib.specs.Adds.{IsLeftAt, IsNoAdd, IsWholeAdd, add_block, add_lines, add_of};
 ghost use Rattle.percpu_lib.specs.Adds.{add_range, cell_seen, placed_add};
 ghost use Rattle.percpu_lib.specs.Beside.{IsOfLibrary};

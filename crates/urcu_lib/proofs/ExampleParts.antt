@@ -12,6 +12,7 @@ use Rattle.mach_types.specs.declared.events.Entry.{Entry}
 use Rattle.mach_types.specs.declared.events.Kind.{Kind}
 use Rattle.mach_types.specs.declared.events.Kind.TheVariants as kinds
 use Rattle.rv_inst.specs.declared.instruction.Inst.{Inst}
+use Rattle.block_model.specs.Deciding.{event, history}
 use Rattle.block_model.specs.History.{byte}
 use Rattle.block_model.specs.Replay.{Ask, play_line}
 use Rattle.block_model.specs.Setting.{Setting}
@@ -20,10 +21,11 @@ use Rattle.percpu_lib.specs.Words.{AreHeld}
 use Rattle.percpu_lib.proofs.ExampleParts.{AreThere, word_is}
 use Rattle.urcu_lib.specs.Blocks.{AreBlocks, lock_block, sync_block, unlock_block}
 use Rattle.urcu_lib.specs.Registers.{AreReadRegs, AreSyncRegs, IsRegister}
-use Rattle.urcu_lib.specs.Uses.{IsStart}
+use Rattle.urcu_lib.specs.Sections.{IsLockStore}
+use Rattle.urcu_lib.specs.Uses.{HoldsUrcu, IsStart}
 use Rattle.urcu_lib.specs.declared.regs.ReadRegs.{ReadRegs}
 use Rattle.urcu_lib.proofs.LowCode.{are_low, code_low, low_is}
-use Rattle.urcu_lib.proofs.UseTests.{Layout, only, urcu_of}
+use Rattle.urcu_lib.proofs.UseTests.{Layout, all_used, are_fine, is_lock_store, lock_store_is, only, urcu_of}
 
 -- a line of a script, and an entry of a log
 abbrev pub line : ℕ → Choice → Ask
@@ -97,11 +99,11 @@ held_at pages block p v there at r is =
 
 -- the blocks of a layout are as they should be where their words stand there
 pub blocks_so : (pages : List ImagePage) (x : Layout) → are_low pages ≡ true → is_sound x ≡ true
-    → AreReadRegs x.lock → AreReadRegs x.unlock → AreSyncRegs x.sync
+    → AreReadRegs x.lock → AreSyncRegs x.sync
     → AreThere (code_of pages) x.lock_at (lock_block x.lock)
-    → AreThere (code_of pages) x.unlock_at (unlock_block x.unlock)
+    → AreThere (code_of pages) x.unlock_at (unlock_block x.lock)
     → AreThere (code_of pages) x.sync_at (sync_block x.sync x.readers) → AreBlocks (code_of pages) (urcu_of x)
-blocks_so pages x low sound lock_regs unlock_regs sync_regs lock_there unlock_there sync_there =
+blocks_so pages x low sound lock_regs sync_regs lock_there unlock_there sync_there =
     let one = and_parts (leb 1 x.readers) _ sound in
     let two = and_parts (leb x.readers 63) _ one.1 in
     let three = and_parts (leb (x.slots + 64 * x.readers) (2 ^ 64)) _ two.1 in
@@ -109,11 +111,11 @@ blocks_so pages x low sound lock_regs unlock_regs sync_regs lock_there unlock_th
     let front : x.counter + 8 ≤ x.slots = leb-true (x.counter + 8) x.slots three.1 in
     record {
       locks = held_at pages lock_block x.lock_at x.lock lock_there;
-      unlocks = held_at pages unlock_block x.unlock_at x.unlock unlock_there;
+      unlocks = held_at pages unlock_block x.unlock_at x.lock unlock_there;
       syncs = held_at pages (λ q. sync_block q x.readers) x.sync_at x.sync sync_there;
       low = code_low pages (low_is pages low);
       lock_regs = λ at r is. subst AreReadRegs (only at x.lock_at x.lock r is).1 lock_regs;
-      unlock_regs = λ at r is. subst AreReadRegs (only at x.unlock_at x.unlock r is).1 unlock_regs;
+      unlock_regs = λ at r is. subst AreReadRegs (only at x.unlock_at x.lock r is).1 lock_regs;
       sync_regs = λ at r is. subst AreSyncRegs (only at x.sync_at x.sync r is).1 sync_regs;
       one = λ at r is. leb-true 1 x.readers one.0;
       few = λ at r is. leb-true x.readers 63 two.0;
@@ -145,4 +147,40 @@ start_so s x first counter fits before =
           let there = (only at x.sync_at x.sync r is).0 in
           let no : ⊥ = omega arith in
           no;
+    }
+
+-- A LOG AS A WHOLE
+
+-- the words of its blocks stand there
+abbrev pub AreLaid : Setting → Layout → Type 0
+AreLaid s x =
+    AreThere (code_of s.program.pages) x.lock_at (lock_block x.lock)
+    × AreThere (code_of s.program.pages) x.unlock_at (unlock_block x.lock)
+    × AreThere (code_of s.program.pages) x.sync_at (sync_block x.sync x.readers)
+
+-- thread 1 uses them as it should, from a counter of 1 on, and the entry behind the first ones is a store of
+-- lock to the first slot
+abbrev pub is_worked : Setting → Layout → List Entry → Entry → List Entry → Bool
+is_worked s x first lock log =
+    are_fine s x 1 (history s log)
+    && is_lock_store s x 1 0 (event s (history s first) lock) (history s first)
+
+pub record IsWorked (s : Setting) (x : Layout) (first : List Entry) (lock : Entry) (log : List Entry) : Type 0 where
+  pub holds : HoldsUrcu s (urcu_of x) (history s log)
+  pub locks : IsLockStore s (urcu_of x) 0 (event s (history s first) lock) (history s first)
+
+pub worked : (s : Setting) (x : Layout) (first : List Entry) (lock : Entry) (log : List Entry)
+    → AreLaid s x → AreReadRegs x.lock → AreSyncRegs x.sync → are_low s.program.pages ≡ true → is_sound x ≡ true
+    → word_at (λ a. Some (byte s [] a)) x.counter 8 ≡ Some 1 → starts_before s x ≡ true
+    → is_worked s x first lock log ≡ true → IsWorked s x first lock log
+worked s x first lock log there reads syncs low sound counter before good =
+    let both = and_parts (are_fine s x 1 (history s log)) _ good in
+    record {
+      holds = record {
+        first = 1;
+        blocks = blocks_so s.program.pages x low sound reads syncs there.0 there.1 there.2;
+        start = start_so s x 1 counter refl before;
+        uses = all_used s x 1 (history s log) both.0;
+      };
+      locks = lock_store_is s x 1 0 (event s (history s first) lock) (history s first) both.1;
     }

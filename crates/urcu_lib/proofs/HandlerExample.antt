@@ -10,25 +10,21 @@ use Rattle.mach_types.specs.Registers.{register}
 use Rattle.mach_types.specs.declared.events.Choice.TheVariants as asked
 use Rattle.mach_types.specs.declared.events.Entry.{Entry}
 use Rattle.mach_types.specs.declared.events.Kind.TheVariants as kind
-use Rattle.block_model.specs.Deciding.{event, history}
+use Rattle.block_model.specs.Deciding.{history}
 use Rattle.block_model.specs.History.{Event, file}
 use Rattle.block_model.specs.Replay.{Ask, play_line, played}
 use Rattle.block_model.specs.Run.{IsBlockRun}
 use Rattle.block_model.specs.Setting.{Setting}
 use Rattle.block_model.proofs.Laws.{played_is_run}
-use Rattle.alone_laws.specs.Spans.{code_of}
 use Rattle.percpu_lib.proofs.Computing.{by_rules, by_signals, by_table}
-use Rattle.percpu_lib.proofs.ExampleParts.{AreThere}
-use Rattle.urcu_lib.specs.Blocks.{Urcu, lock_block, sync_block, unlock_block}
-use Rattle.urcu_lib.specs.Sections.{IsLockStore}
+use Rattle.urcu_lib.specs.Blocks.{Urcu}
 use Rattle.urcu_lib.specs.Stretch.{IsPassing, Runs}
-use Rattle.urcu_lib.specs.Uses.{HoldsUrcu}
 use Rattle.urcu_lib.specs.declared.regs.ReadRegs.{ReadRegs}
-use Rattle.urcu_lib.proofs.ExampleParts.{blocks_so, entry, execs, line, played_on, reads_so, start_so, walk}
+use Rattle.urcu_lib.proofs.ExampleParts.{AreLaid, IsWorked, entry, execs, line, played_on, reads_so, walk}
+use Rattle.urcu_lib.proofs.ExampleParts.{worked}
 use Rattle.urcu_lib.proofs.RunTests.{all_go_on, executed_in, runs_so}
 use Rattle.urcu_lib.proofs.UseExample.{are_sync, sync_regs}
-use Rattle.urcu_lib.proofs.UseTests.{Layout, all_used, are_fine, is_file, is_lock_store, lock_store_is}
-use Rattle.urcu_lib.proofs.UseTests.{saved_is, urcu_of}
+use Rattle.urcu_lib.proofs.UseTests.{Layout, is_file, saved_is, urcu_of}
 
 -- The first thread registers for membarrier, starts the readers, sets the handler of SIGUSR1 and sends itself
 -- the signal. From 0x10064 on stands the sync block, behind it a jump back to it and the handler, `jalr x0,
@@ -68,16 +64,9 @@ read_regs = record { gp = 8; slot = 19; scratch = 18 }
 
 abbrev layout : Layout
 layout = record {
-  counter = 0x20000;
-  slots = 0x20040;
-  readers = 2;
-  reader = λ i. i + 2;
-  lock_at = 0x100B0;
-  lock = read_regs;
-  unlock_at = 0x100B8;
-  unlock = read_regs;
-  sync_at = 0x10064;
-  sync = sync_regs;
+  words = record { counter = 0x20000; slots = 0x20040; readers = 2; reader = λ i. i + 2 };
+  reads = record { lock_at = 0x100B0; unlock_at = 0x100B8; lock = read_regs };
+  waits = record { sync_at = 0x10064; sync = sync_regs };
 }
 
 abbrev pub urcu : Urcu
@@ -228,21 +217,14 @@ is_played =
 pub is_run : IsBlockRun waiting log
 is_run = (played_is_run waiting lines log is_played).0
 
-fine : are_fine waiting layout 1 (history waiting log) ≡ true
-unfolding by_rules command_asked by_signals
-fine = refl
+there : AreLaid waiting layout
+unfolding by_table
+there = ((refl, (refl, tt)), (refl, tt), (refl, (refl, (refl, (refl, (refl, (refl, (refl, (refl, (refl, (refl, (refl, (refl, (refl, (refl, (refl, (refl, (refl, tt))))))))))))))))))
 
-locks_it : is_lock_store waiting layout 1 0 (event waiting (history waiting first) lock_entry)
-    (history waiting first)
-    ≡ true
+pub its : IsWorked waiting layout first lock_entry log
 unfolding by_rules command_asked by_signals
-locks_it = refl
-
-pub locks : IsLockStore waiting urcu 0 (event waiting (history waiting first) lock_entry)
-    (history waiting first)
-locks = lock_store_is waiting layout 1 0 (event waiting (history waiting first) lock_entry)
-    (history waiting first)
-    locks_it
+its =
+    worked waiting layout first lock_entry log there (reads_so read_regs refl) are_sync refl refl refl refl refl
 
 -- in the loop the thread has loaded 1, which is below the new counter; and it comes back to there as it was
 pub at_load : (file waiting 1 (history waiting in_loop)).pc ≡ 0x1008C
@@ -301,26 +283,3 @@ runs =
     (subst (λ h. Runs waiting 0x10064 1 (history waiting at_start) h
     (executed_in waiting 0x10064 1 since)) are_since
     (runs_so waiting 0x10064 1 since (history waiting at_start) all_go))
-
-lock_there : AreThere (code_of waiting.program.pages) 0x100B0 (lock_block read_regs)
-unfolding by_table
-lock_there = (refl, (refl, tt))
-
-unlock_there : AreThere (code_of waiting.program.pages) 0x100B8 (unlock_block read_regs)
-unfolding by_table
-unlock_there = (refl, tt)
-
-sync_there : AreThere (code_of waiting.program.pages) 0x10064 (sync_block sync_regs 2)
-unfolding by_table
-sync_there = (refl, (refl, (refl, (refl, (refl, (refl, (refl, (refl, (refl, (refl, (refl, (refl, (refl, (refl, (refl, (refl, (refl, tt)))))))))))))))))
-
-pub holds : HoldsUrcu waiting urcu (history waiting log)
-holds = record {
-  first = 1;
-  blocks =
-      blocks_so waiting.program.pages layout refl refl (reads_so read_regs refl)
-      (reads_so read_regs refl) are_sync
-      lock_there unlock_there sync_there;
-  start = start_so waiting layout 1 refl refl refl;
-  uses = all_used waiting layout 1 (history waiting log) fine;
-}

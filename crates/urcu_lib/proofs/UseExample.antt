@@ -2,29 +2,24 @@
 -- reader's lock has stored the counter in its slot, but the store waits, when the first thread calls
 -- membarrier in a sync block. The store enters memory before the call returns; the sync block finds it there
 -- twice, then finds 0, and ends. The program uses the blocks as HoldsUrcu asks.
-use Rattle.std.proofs.Common.{◌≡◌, ℕ, ◌<◌, List, [], ◌∷◌, ◌++◌, refl, arith}
-use Rattle.std.proofs.Common.{true, Ok}
+use Rattle.std.proofs.Common.{◌≡◌, ℕ, ◌<◌, List, [], ◌∷◌, ◌++◌, refl, arith, Ok}
 use Rattle.std.proofs.lemmas.Bool.{eqb-false, ltb-true}
 use Rattle.mach_types.specs.Kernel.Barriers.{asked as command_asked}
 use Rattle.mach_types.specs.declared.events.Choice.TheVariants as asked
 use Rattle.mach_types.specs.declared.events.Entry.{Entry}
 use Rattle.mach_types.specs.declared.events.Kind.TheVariants as kind
-use Rattle.block_model.specs.Deciding.{event, history}
 use Rattle.block_model.specs.Replay.{Ask, played}
 use Rattle.block_model.specs.Run.{IsBlockRun}
 use Rattle.block_model.specs.Setting.{Setting}
 use Rattle.block_model.proofs.Laws.{played_is_run}
-use Rattle.alone_laws.specs.Spans.{code_of}
 use Rattle.percpu_lib.proofs.Computing.{by_rules, by_table}
-use Rattle.percpu_lib.proofs.ExampleParts.{AreThere}
-use Rattle.urcu_lib.specs.Blocks.{AreBlocks, Urcu, lock_block, sync_block, unlock_block}
+use Rattle.urcu_lib.specs.Blocks.{Urcu}
 use Rattle.urcu_lib.specs.Registers.{AreSyncRegs, IsKept}
-use Rattle.urcu_lib.specs.Sections.{IsLockStore}
-use Rattle.urcu_lib.specs.Uses.{HoldsUrcu}
 use Rattle.urcu_lib.specs.declared.regs.ReadRegs.{ReadRegs}
 use Rattle.urcu_lib.specs.declared.regs.SyncRegs.{SyncRegs}
-use Rattle.urcu_lib.proofs.ExampleParts.{blocks_so, entry, execs, is_register, line, reads_so, start_so, walk}
-use Rattle.urcu_lib.proofs.UseTests.{Layout, all_used, are_fine, is_lock_store, lock_store_is, urcu_of}
+use Rattle.urcu_lib.proofs.ExampleParts.{AreLaid, IsWorked, entry, execs, is_register, line, reads_so, walk}
+use Rattle.urcu_lib.proofs.ExampleParts.{worked}
+use Rattle.urcu_lib.proofs.UseTests.{Layout, urcu_of}
 
 -- `lui x8, 0x20`, `addi x9, x8, 64`; membarrier(16, 0); clone; the child goes to 0x10074. From 0x10030 on the
 -- sync block; at 0x10074 the lock block, at 0x1007C the unlock block. The counter is at 0x20000, the slot at
@@ -69,16 +64,9 @@ sync_regs = record { gp = 8; slots = 9 }
 
 abbrev pub layout : Layout
 layout = record {
-  counter = 0x20000;
-  slots = 0x20040;
-  readers = 1;
-  reader = λ i. 2;
-  lock_at = 0x10074;
-  lock = read_regs;
-  unlock_at = 0x1007C;
-  unlock = read_regs;
-  sync_at = 0x10030;
-  sync = sync_regs;
+  words = record { counter = 0x20000; slots = 0x20040; readers = 1; reader = λ i. 2 };
+  reads = record { lock_at = 0x10074; unlock_at = 0x1007C; lock = read_regs };
+  waits = record { sync_at = 0x10030; sync = sync_regs };
 }
 
 abbrev pub urcu : Urcu
@@ -124,47 +112,6 @@ is_played = refl
 pub is_run : IsBlockRun reading log
 is_run = (played_is_run reading lines log is_played).0
 
-fine : are_fine reading layout 1 (history reading log) ≡ true
-unfolding played by_rules command_asked
-fine = refl
-
-locks_it : is_lock_store reading layout 1 0 (event reading (history reading first) lock_entry)
-    (history reading first) ≡ true
-unfolding played by_rules command_asked
-locks_it = refl
-
-pub locks : IsLockStore reading (urcu_of layout) 0 (event reading (history reading first) lock_entry)
-    (history reading first)
-locks = lock_store_is reading layout 1 0 (event reading (history reading first) lock_entry)
-    (history reading first) locks_it
-
-lock_there : AreThere (code_of reading.program.pages) 0x10074 (lock_block read_regs)
-unfolding by_table
-lock_there = (refl, (refl, tt))
-
-unlock_there : AreThere (code_of reading.program.pages) 0x1007C (unlock_block read_regs)
-unfolding by_table
-unlock_there = (refl, tt)
-
-sync_there : AreThere (code_of reading.program.pages) 0x10030 (sync_block sync_regs 1)
-unfolding by_table
-sync_there = (
-  refl,
-  (
-    refl,
-    (
-      refl,
-      (
-        refl,
-        (
-          refl,
-          (refl, (refl, (refl, (refl, (refl, (refl, (refl, (refl, (refl, (refl, (refl, (refl, tt)))))))))))),
-        ),
-      ),
-    ),
-  ),
-)
-
 -- x8 and x9 are none of the registers that the sync block changes
 kept : (r : ℕ) → 7 < r → r < 10 → IsKept r
 kept r above below = record {
@@ -186,16 +133,11 @@ are_sync = record {
   slots_kept = kept 9 (omega arith) (omega arith);
 }
 
-blocks : AreBlocks (code_of reading.program.pages) (urcu_of layout)
-blocks =
-    blocks_so reading.program.pages layout refl refl (reads_so read_regs refl)
-    (reads_so read_regs refl) are_sync
-    lock_there unlock_there sync_there
+there : AreLaid reading layout
+unfolding by_table
+there = ((refl, (refl, tt)), (refl, tt), (refl, (refl, (refl, (refl, (refl, (refl, (refl, (refl, (refl, (refl, (refl, (refl, (refl, (refl, (refl, (refl, (refl, tt))))))))))))))))))
 
-pub holds : HoldsUrcu reading (urcu_of layout) (history reading log)
-holds = record {
-  first = 1;
-  blocks = blocks;
-  start = start_so reading layout 1 refl refl refl;
-  uses = all_used reading layout 1 (history reading log) fine;
-}
+pub its : IsWorked reading layout first lock_entry log
+unfolding played by_rules command_asked
+its =
+    worked reading layout first lock_entry log there (reads_so read_regs refl) are_sync refl refl refl refl refl

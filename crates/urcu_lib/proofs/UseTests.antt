@@ -36,17 +36,28 @@ use Rattle.urcu_lib.specs.declared.regs.ReadRegs.{ReadRegs}
 use Rattle.urcu_lib.specs.declared.regs.SyncRegs.{SyncRegs}
 
 -- one block of each kind in a program
-pub record Layout : Type 0 where
+pub record SlotWords : Type 0 where
   pub counter : ℕ
   pub slots : ℕ
   pub readers : ℕ
   pub reader : ℕ → ℕ
+
+pub record ReadBlocks : Type 0 where
   pub lock_at : ℕ
-  pub lock : ReadRegs
   pub unlock_at : ℕ
-  pub unlock : ReadRegs
+  pub lock : ReadRegs
+
+pub record SyncPlace : Type 0 where
   pub sync_at : ℕ
   pub sync : SyncRegs
+
+pub record Layout : Type 0 where
+  pub words : SlotWords
+  pub open words use *
+  pub reads : ReadBlocks
+  pub open reads use *
+  pub waits : SyncPlace
+  pub open waits use *
 
 abbrev pub urcu_of : Layout → Urcu
 urcu_of x = record {
@@ -55,7 +66,7 @@ urcu_of x = record {
   slot_count = x.readers;
   reader = x.reader;
   locks = λ at. cond (eqb at x.lock_at) (Some x.lock) None;
-  unlocks = λ at. cond (eqb at x.unlock_at) (Some x.unlock) None;
+  unlocks = λ at. cond (eqb at x.unlock_at) (Some x.lock) None;
   syncs = λ at. cond (eqb at x.sync_at) (Some x.sync) None;
   readers = λ at. x.readers;
 }
@@ -79,21 +90,16 @@ pub exec_is : (c : Choice) → is_exec c ≡ true → c ≡ asked.Exec
 exec_is asked.Exec is = refl
 exec_is other is = absurd (false≢true is)
 
-abbrev is_drain : Choice → Bool
-is_drain asked.Drain = true
-is_drain other = false
+-- the same of two others
+abbrev is_asked : Choice → Choice → Bool
+is_asked asked.Drain asked.Drain = true
+is_asked asked.Done asked.Done = true
+is_asked a c = false
 
-drain_is : (c : Choice) → is_drain c ≡ true → c ≡ asked.Drain
-drain_is asked.Drain is = refl
-drain_is other is = absurd (false≢true is)
-
-abbrev is_done : Choice → Bool
-is_done asked.Done = true
-is_done other = false
-
-done_is : (c : Choice) → is_done c ≡ true → c ≡ asked.Done
-done_is asked.Done is = refl
-done_is other is = absurd (false≢true is)
+asked_is : (a c : Choice) → is_asked a c ≡ true → c ≡ a
+asked_is asked.Drain asked.Drain is = refl
+asked_is asked.Done asked.Done is = refl
+asked_is a c is = absurd (false≢true is)
 
 -- each number below another
 abbrev all_below : ℕ → (ℕ → Bool) → Bool
@@ -174,22 +180,22 @@ apart_leaves at (Stored w ∷ ws) is a b has =
 -- an event leaves eight bytes alone, but that a waiting store may enter them
 abbrev is_quiet : ℕ → Event → Bool
 is_quiet at e =
-    are_beside at e.done.executed && (is_drain (choice_of e.entry) || are_apart at e.done.entered)
+    are_beside at e.done.executed && (is_asked asked.Drain (choice_of e.entry) || are_apart at e.done.entered)
 
 quiet_is : (at : ℕ) (e : Event) → is_quiet at e ≡ true → IsQuiet (among at 8) e
 quiet_is at e is =
     let parts = and_parts (are_beside at e.done.executed)
-    (is_drain (choice_of e.entry) || are_apart at e.done.entered) is in
+    (is_asked asked.Drain (choice_of e.entry) || are_apart at e.done.entered) is in
     record {
       executed = beside_is at e.done.executed parts.0;
       entered = λ other. by_drain other
-          (either (is_drain (choice_of e.entry)) (are_apart at e.done.entered) parts.1);
+          (either (is_asked asked.Drain (choice_of e.entry)) (are_apart at e.done.entered) parts.1);
     }
   where
     by_drain : choice_of e.entry ≢ asked.Drain
-        → (is_drain (choice_of e.entry) ≡ true) ⊎ (are_apart at e.done.entered ≡ true)
+        → (is_asked asked.Drain (choice_of e.entry) ≡ true) ⊎ (are_apart at e.done.entered ≡ true)
         → Leaves (among at 8) e.done.entered
-    by_drain other (inl drains) = absurd (other (drain_is (choice_of e.entry) drains))
+    by_drain other (inl drains) = absurd (other (asked_is asked.Drain (choice_of e.entry) drains))
     by_drain other (inr apart) = apart_leaves at e.done.entered apart
 
 -- ADDRESSES
@@ -286,7 +292,7 @@ module _ (s : Setting) (x : Layout) (first : ℕ) where
   is_lock_store i e before = executes (x.lock_at + 4) e && eqb (value e before x.lock.slot) (slot_of i)
 
   abbrev is_unlock_store : ℕ → Event → History → Bool
-  is_unlock_store i e before = executes x.unlock_at e && eqb (value e before x.unlock.slot) (slot_of i)
+  is_unlock_store i e before = executes x.unlock_at e && eqb (value e before x.lock.slot) (slot_of i)
 
   abbrev is_sync_store : Event → Bool
   is_sync_store e = executes (x.sync_at + 28) e
@@ -318,7 +324,7 @@ module _ (s : Setting) (x : Layout) (first : ℕ) where
 
   -- each thread whose file is set comes to stand in a block as it should
   abbrev is_returned : Event → History → ℕ → ℕ → Bool
-  is_returned e before t pc = is_done (choice_of e.entry) &&
+  is_returned e before t pc = is_asked asked.Done (choice_of e.entry) &&
       (eqb (file s t before).pc (x.sync_at + 20) && eqb pc (x.sync_at + 20))
 
   -- since a thread last executed an instruction of the sync block, it has had this file
@@ -407,22 +413,22 @@ module _ (s : Setting) (x : Layout) (first : ℕ) where
   unlock_store_of : (i : ℕ) (e : Event) (before : History) → IsUnlockStore s u i e before
       → is_unlock_store i e before ≡ true
   unlock_store_of i e before it =
-      let its = only it.place x.unlock_at x.unlock it.regs it.block in
-      and_from (executes x.unlock_at e) (eqb (value e before x.unlock.slot) (slot_of i))
+      let its = only it.place x.unlock_at x.lock it.regs it.block in
+      and_from (executes x.unlock_at e) (eqb (value e before x.lock.slot) (slot_of i))
       (executes_it x.unlock_at e (subst (λ n. IsExecAt n e) its.0 it.exec))
-      (eq-eqb (value e before x.unlock.slot) (slot_of i)
+      (eq-eqb (value e before x.lock.slot) (slot_of i)
       (ap (λ (r : ReadRegs). value e before r.slot) its.1 ∙ it.to))
 
   unlock_store_is : (i : ℕ) (e : Event) (before : History) → is_unlock_store i e before ≡ true
       → IsUnlockStore s u i e before
   unlock_store_is i e before is =
-      let parts = and_parts (executes x.unlock_at e) (eqb (value e before x.unlock.slot) (slot_of i)) is in
+      let parts = and_parts (executes x.unlock_at e) (eqb (value e before x.lock.slot) (slot_of i)) is in
       record {
         place = x.unlock_at;
-        regs = x.unlock;
-        block = ap (λ b. cond b (Some x.unlock) None) (eq-eqb x.unlock_at x.unlock_at refl);
+        regs = x.lock;
+        block = ap (λ b. cond b (Some x.lock) None) (eq-eqb x.unlock_at x.unlock_at refl);
         exec = it_executes x.unlock_at e parts.0;
-        to = eqb-true (value e before x.unlock.slot) (slot_of i) parts.1;
+        to = eqb-true (value e before x.lock.slot) (slot_of i) parts.1;
       }
 
   sync_of : (at : ℕ) (r : SyncRegs) → u.syncs at ≡ Some r → at ≡ x.sync_at
@@ -677,10 +683,10 @@ module _ (s : Setting) (x : Layout) (first : ℕ) where
 
       returned : is_returned e before t f.pc ≡ true → HasCome s x.sync_at 17 17 t e before
       returned is =
-          let parts = and_parts (is_done (choice_of e.entry))
+          let parts = and_parts (is_asked asked.Done (choice_of e.entry))
           (eqb (file s t before).pc (x.sync_at + 20) && eqb f.pc (x.sync_at + 20)) is in
           let more = and_parts (eqb (file s t before).pc (x.sync_at + 20)) (eqb f.pc (x.sync_at + 20)) parts.1 in
-          returns (done_is (choice_of e.entry) parts.0)
+          returns (asked_is asked.Done (choice_of e.entry) parts.0)
           (eqb-true (file s t before).pc (x.sync_at + 20) more.0) (eqb-true f.pc (x.sync_at + 20) more.1)
 
       came_back : acts_in 17 x.sync_at e t ≡ false → has_stood true e before t f ≡ true

@@ -23,9 +23,9 @@ returns c = (
   urcu_code.assembled,
   refl,
   example.is_run,
-  example.holds,
+  example.its.holds,
   refl,
-  example.locks,
+  example.its.locks,
   record { exec = record { executes = refl; pc = refl }; of = refl },
   record { exec = record { executes = refl; pc = refl }; of = refl },
 )

@@ -48,16 +48,16 @@ returns c = record {
       );
   retried = (
     example.setting,
-    example.first_time,
-    example.anew,
-    example.rest,
+    example.again.first_time,
+    example.again.anew,
+    example.again.rest,
     free.form.slots,
     free.at,
     free.area,
     1,
-    example.used_again.run,
-    example.used_again.holds,
-    example.retried,
+    example.used_again.used.run,
+    example.used_again.used.holds,
+    example.used_again.retried,
     example.small_value,
     example.at_label,
   );

@@ -28,10 +28,10 @@ returns c = (
   sync_regs,
   (
     example.is_run,
-    example.holds,
+    example.its.holds,
     refl,
     refl,
-    example.locks,
+    example.its.locks,
     record { exec = record { executes = refl; pc = refl }; of = refl },
     example.at_load,
     example.fails,

@@ -16,9 +16,9 @@ returns c = (
   1,
   example.sync_regs,
   example.is_run,
-  example.holds,
+  example.its.holds,
   refl,
-  example.locks,
+  example.its.locks,
   record { exec = record { executes = refl; pc = refl }; of = refl },
   record { exec = record { executes = refl; pc = refl }; of = refl },
 )
