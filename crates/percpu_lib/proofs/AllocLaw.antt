@@ -1,8 +1,8 @@
 -- A sequence of an alloc block is one run of its thread alone, and so takes one item or none.
 use Rattle.std.proofs.Common.{◌≡◌, ◌≢◌, ℕ, ◌+◌, ◌-◌, ◌*◌, ◌≤◌, ◌%◌, ◌^◌, List, [], ◌∷◌, ◌++◌, refl, ap}
-use Rattle.std.proofs.Common.{◌∙◌, subst, arith, Bool, true, false, eqb, Option, Some, inl}
+use Rattle.std.proofs.Common.{◌∙◌, subst, arith, true, false, eqb, Option, Some, inl}
 use Rattle.std.proofs.Common.{inr, ◌⊎◌, pos, negsuc, unwrap_or}
-use Rattle.std.proofs.lemmas.Bool.{eqb-false, eqb-true}
+use Rattle.std.proofs.lemmas.Bool.{cases_Bool, eqb-false, eqb-true}
 use Rattle.mach_types.specs.Bytes.{word_at}
 use Rattle.mach_types.specs.declared.sequences.Area.{Area}
 use Rattle.mach_types.specs.declared.user_memory.Store.{Store}
@@ -171,11 +171,6 @@ module _ (s : Setting) (p : Slots) (at : ℕ) (area : Area) (h t : ℕ) (begun :
         ),
       ))))
 
-  by_count : (y : Stand) → IsAt (is_changed p) old (at + 40) temps_2 [] y → (b : Bool) → eqb count 0 ≡ b
-      → KeepsOn w y
-  by_count y was true is = ends y was is
-  by_count y was false is = finds y was is (λ z now. takes z now is)
-
   keeps : KeepsOn w (alone_from s h t begun 0)
   keeps =
       let low = place.low in
@@ -190,26 +185,26 @@ module _ (s : Setting) (p : Slots) (at : ℕ) (area : Area) (h t : ℕ) (begun :
       (inst.Addi p.value 0 (pos 0)) (held.holds 9 (inst.Addi p.value 0 (pos 0)) refl) p.value 0 (at + 40)
       (λ f like. means_addi f (at + 36) (at + 40) (omega arith) p.value 0 (pos 0) 0 0 refl refl)
       (value_changed p) (some_value p slots) slots.low_value (omega arith) (omega arith)
-      (λ u then. by_count u then (eqb count 0) refl))
+      (λ u then. elim (cases_Bool (eqb count 0)) [ inl is ↦ ends u then is | inr is ↦ finds u then is (λ z now. takes z now is) ]))
 
   -- WHAT WAS DONE
 
   abbrev After : (ℕ → ℕ) → List Store → History → Type 0
   After temps es last = IsAfter s (alloc_form p) at area h t begun Inside Done temps es last
 
-  allocs : (temps : ℕ → ℕ) (es : List Store) (last : History) → After temps es last → Done temps es
-      → Allocs s p pools h t count begun last
-  allocs temps es last after (inl none) =
-      allocs_none (eqb-true count 0 none.0) (after.temp p.value (value_changed p) ∙ none.1)
-      (same_word s (alloc_form p) at area h t begun Inside Done temps es last after none.2 pool in_count)
-      (same_stores s (alloc_form p) at area h t begun Inside Done temps es last after none.2)
-  allocs temps es last after (inr some) =
-      let most : count ≤ 512 = place.apart.at_most in
-      allocs_last (eqb-false count 0 some.0) item_word.0 item_word.1
-      (after.temp p.value (value_changed p) ∙ some.1)
-      (after.sees pool in_count ∙ ap (λ (x : List Store). word_at (seen_byte x seen) pool 8) some.2
-      ∙ stored_word (sees s h begun) (count_store pool (count - 1)) (omega arith))
-      (after.stored ∙ ap (λ (x : List Store). stores h begun ++ x) some.2)
+  module _ (temps : ℕ → ℕ) (es : List Store) (last : History) (after : After temps es last) where
+    allocs : Done temps es → Allocs s p pools h t count begun last
+    allocs (inl none) =
+        allocs_none (eqb-true count 0 none.0) (after.temp p.value (value_changed p) ∙ none.1)
+        (same_word s (alloc_form p) at area h t begun Inside Done temps es last after none.2 pool in_count)
+        (same_stores s (alloc_form p) at area h t begun Inside Done temps es last after none.2)
+    allocs (inr some) =
+        let most : count ≤ 512 = place.apart.at_most in
+        allocs_last (eqb-false count 0 some.0) item_word.0 item_word.1
+        (after.temp p.value (value_changed p) ∙ some.1)
+        (after.sees pool in_count ∙ ap (λ (x : List Store). word_at (seen_byte x seen) pool 8) some.2
+        ∙ stored_word (sees s h begun) (count_store pool (count - 1)) (omega arith))
+        (after.stored ∙ ap (λ (x : List Store). stores h begun ++ x) some.2)
 
   points_done : (temps : ℕ → ℕ) (es : List Store) → Done temps es
       → word_at (seen_byte es seen) (area.at + 8) 8 ≡ word_at seen (area.at + 8) 8

@@ -100,13 +100,32 @@ fewer labels n (line.Data w ∷ xs) = let less = fewer labels (n + 1) xs in omeg
 
 -- the words of the first numbers, and the store behind them
 words_late : (labels : List (Option ℕ)) (word words : ℕ → List Line) → AreFirst word words
-    → ((k : ℕ) → AreLateLines labels (word k)) → (count : ℕ) (rs1 rs2 : ℕ) (imm : ℤ)
-    → AreLateLines labels (words count ++ line.Plain (inst.Sd rs1 rs2 imm) ∷ [])
-words_late labels word words first each count rs1 rs2 imm =
-    late_joined labels (words count) (line.Plain (inst.Sd rs1 rs2 imm) ∷ [])
-    (of_first (AreLateLines labels) word words first tt (late_joined labels) count (λ k lt. each k) count
+    → ((j : ℕ) → AreLateLines labels (word j)) → (count : ℕ) (imm : ℤ)
+    → AreLateLines labels (words count ++ line.Plain (inst.Sd 5 6 imm) ∷ [])
+words_late labels word words first each count imm =
+    late_joined labels (words count) (line.Plain (inst.Sd 5 6 imm) ∷ [])
+    (of_first (AreLateLines labels) word words first tt (late_joined labels) count (λ j lt. each j) count
     (omega arith))
     (refl, tt)
+
+put_word_late : (labels : List (Option ℕ)) (q : Slots) (j : ℕ) → AreLateLines labels (put_word q j)
+put_word_late labels q j = (refl, (refl, (refl, (refl, (refl, (refl, tt))))))
+
+get_word_late : (labels : List (Option ℕ)) (q : Slots) (j : ℕ) → AreLateLines labels (get_word q j)
+get_word_late labels q j = (refl, (refl, (refl, (refl, (refl, (refl, tt))))))
+
+-- what a ring block does inside, where the post-commit address is bound
+put_late : (labels : List (Option ℕ)) (q : Slots) (base count n : ℕ) → index_of labels (base + 2) ≡ Some n
+    → AreLateLines labels (put_steps q base count)
+put_late labels q base count n bound =
+    let words = words_late labels (put_word q) (put_words q) (first_puts q) (put_word_late labels q) count (pos 8) in
+    (refl, (refl, (refl, (refl, (refl, (refl, ((n, bound, λ z. refl), (refl, words))))))))
+
+get_late : (labels : List (Option ℕ)) (q : Slots) (base count n : ℕ) → index_of labels (base + 2) ≡ Some n
+    → AreLateLines labels (get_steps q base count)
+get_late labels q base count n bound =
+    let words = words_late labels (get_word q) (get_words q) (first_gets q) (get_word_late labels q) count (pos 0) in
+    (refl, (refl, (refl, (refl, (refl, (refl, ((n, bound, λ z. refl), (refl, words))))))))
 
 each_late : (ws : List (Option Inst)) → AreLate ws → (k : ℕ) → k < length ws
     → (i : Inst) × (slice_get ws k ≡ Some (Some i)) × (is_early i ≡ false)
@@ -309,62 +328,12 @@ module _ (pages : List ImagePage) (form : Form) (lead : ℕ) (asks : AsksFirst f
 
   of_put : (q : Slots) (base count : ℕ) → OfRing q base (put_steps q base count) 8
   of_put q base count its few ends =
-      of_sequence q base 13 (put_steps q base count) its (
-        refl,
-        (
-          refl,
-          (
-            refl,
-            (
-              refl,
-              (
-                refl,
-                (
-                  refl,
-                  (
-                    (its.leave, its.bound_leave, λ z. refl),
-                    (
-                      refl,
-                      words_late its.labels (put_word q) (put_words q) (first_puts q)
-                          (λ k. (refl, (refl, (refl, (refl, (refl, (refl, tt))))))) count 5 6 (pos 8),
-                    ),
-                  ),
-                ),
-              ),
-            ),
-          ),
-        ),
-      )
+      of_sequence q base 13 (put_steps q base count) its (put_late its.labels q base count its.leave its.bound_leave)
       few (inst.Sd 5 6 (pos 8)) ends refl
 
   of_get : (q : Slots) (base count : ℕ) → OfRing q base (get_steps q base count) 0
   of_get q base count its few ends =
-      of_sequence q base 13 (get_steps q base count) its (
-        refl,
-        (
-          refl,
-          (
-            refl,
-            (
-              refl,
-              (
-                refl,
-                (
-                  refl,
-                  (
-                    (its.leave, its.bound_leave, λ z. refl),
-                    (
-                      refl,
-                      words_late its.labels (get_word q) (get_words q) (first_gets q)
-                          (λ k. (refl, (refl, (refl, (refl, (refl, (refl, tt))))))) count 5 6 (pos 0),
-                    ),
-                  ),
-                ),
-              ),
-            ),
-          ),
-        ),
-      )
+      of_sequence q base 13 (get_steps q base count) its (get_late its.labels q base count its.leave its.bound_leave)
       few (inst.Sd 5 6 (pos 0)) ends refl
 
   -- a block of each count

@@ -404,12 +404,12 @@ module _ (s : Setting) (form : Form) (at : ℕ) (area : Area) (h t : ℕ) (law :
 
         lower_set : (m : ℕ) → lead + 2 + m + 1 ≡ committed form → IsComing (lead + 2) before → Next m
         lower_set m sum was =
+            let six = register (file s t before).file 6 in
             let low = held.low in
             let near = law.formed.short in
             let within = law.formed.within in
             let may = can (lead + 2) (omega arith) was in
             let i : Inst = inst.Addi 6 6 (lower p.table) in
-            let six = register (file s t before).file 6 in
             let next = step_next s h t e before run own executes was.runs bytes may.usable is_scratch
             (at + 4 * (lead + 2)) was.pc i (held.stands.holds (lead + 2) i asks.addi) 6
             (sum_64 six (word (lower p.table))) (at + 4 * suc (lead + 2))

@@ -41,9 +41,11 @@ pub mod RingExample
 pub mod RingFormed
 pub mod RingGetLaw
 pub mod RingHeld
+pub mod RingLaw
 pub mod RingLaws
 pub mod RingLines
 pub mod RingMeans
+pub mod RingParts
 pub mod RingPlaces
 pub mod RingPutLaw
 pub mod RingRetries

@@ -98,11 +98,6 @@ none_used = found_good setting log is_run 81 alloc (place_of free ∷ []) (has_t
 abbrev pub again : Again
 again = again_of log 10 19 2 18
 
-pub used_again : IsUsedAgain setting (take 51 log) free (place_of alloc ∷ []) again
-unfolding by_rules
-used_again =
-    used_again_so setting log is_run 51 free (place_of alloc ∷ []) is_freed free_good refl free_there refl again refl refl
-
 small_there : ltb (register (file setting 1 (history setting again.first_time)).file 18) (2 ^ 64) ≡ true
 unfolding by_rules
 small_there = refl
@@ -114,11 +109,21 @@ pub at_label : (file setting 1 (history setting again.anew)).pc ≡ free.at
 unfolding by_rules
 at_label = refl
 
+pub used_again : IsUsedAgain setting (take 51 log) free (place_of alloc ∷ []) again
+unfolding by_rules
+used_again =
+    used_again_so setting log is_run 51 free (place_of alloc ∷ []) is_freed free_good refl free_there refl again refl refl
+
 -- A FULL POOL
 
 -- the same program over a pool whose count is 512: the free finds it full, and the value stays 42
 abbrev pub full_setting : Setting
 full_setting = setting_with (replicate 0x40 0 ++ 0x00 ∷ 0x02 ∷ [])
+
+abbrev pub stays_full : Sequence → Bool
+stays_full q =
+    eqb (register (file full_setting q.thread q.reached).file 18) 42
+    && is_just (count_seen full_setting 0 (cells_of full_setting free.form.slots q.thread q.begun) q.reached) 512
 
 abbrev pub full_log : List Entry
 full_log = straight_log 0x100B0 21
@@ -126,11 +131,6 @@ full_log = straight_log 0x100B0 21
 full_run : IsBlockRun full_setting full_log
 unfolding played by_rules
 full_run = (played_is_run full_setting (straight_lines 21) full_log refl).0
-
-abbrev pub stays_full : Sequence → Bool
-stays_full q =
-    eqb (register (file full_setting q.thread q.reached).file 18) 42
-    && is_just (count_seen full_setting 0 (cells_of full_setting free.form.slots q.thread q.begun) q.reached) 512
 
 full_there : AreThere (code_of full_setting.program.pages) free.at free.form.words
 unfolding by_table

@@ -1,6 +1,6 @@
 -- A sequence of a pop block is one run of its thread alone, and so pops once or not at all.
 use Rattle.std.proofs.Common.{◌≡◌, ◌≢◌, ℕ, ◌+◌, ◌%◌, ◌^◌, List, [], ◌∷◌, ◌++◌, refl, sym, ap}
-use Rattle.std.proofs.Common.{◌∙◌, subst, arith, Bool, true, false, eqb, Option, Some, inl}
+use Rattle.std.proofs.Common.{◌∙◌, subst, arith, true, false, eqb, Option, Some, inl}
 use Rattle.std.proofs.Common.{inr, ◌⊎◌, pos, unwrap_or}
 use Rattle.std.proofs.lemmas.Bool.{cases_Bool, eqb-false, eqb-true}
 use Rattle.mach_types.specs.Bytes.{word_at}
@@ -53,16 +53,17 @@ module _ (s : Setting) (p : Slots) (at : ℕ) (area : Area) (h t : ℕ) (begun :
   head_is : loaded old_word.0 8 true ≡ head
   head_is = loaded_word old_word.0 ∙ sym (ap (λ (o : Option ℕ). unwrap_or o 0 % 2 ^ 64) old_word.1)
 
+  -- inside nothing is stored
+  abbrev Inside : List Store → Type 0
+  Inside es = es ≡ []
+
   next_word : (w : ℕ) × (word_seen s h head begun ≡ Some w)
   next_word = some_word (sees s h begun) head 8
 
   abbrev next : ℕ
   next = next_word.0 % 2 ^ 64
 
-  -- inside nothing is stored; at the end nothing, or the second node as the head
-  abbrev Inside : List Store → Type 0
-  Inside es = es ≡ []
-
+  -- at the end nothing is, or the second node as the head
   abbrev Ended : List Store → Type 0
   Ended es = ((eqb head 0 ≡ true) × (es ≡ [])) ⊎ ((eqb head 0 ≡ false) × (es ≡ cell_store cells h next ∷ []))
 
@@ -129,17 +130,6 @@ module _ (s : Setting) (p : Slots) (at : ℕ) (area : Area) (h t : ℕ) (begun :
       value_there = put_other 6 (loaded next_word.0 8 true) temps_1 p.value
           (λ same. scratch_not 6 p.value refl slots.value (sym same)) ∙ put_same p.value head temps_0
 
-  keeps : KeepsOn w (alone_from s h t begun 0)
-  keeps =
-      let low = place.low in
-      let low_cells = place.apart.low_cells in
-      to_word s (pop_form p) at area h t begun Inside Done (block_formed kind.pops p) held place 6 64
-      (block_begins kind.pops p slots) refl area_bytes cells refl (omega arith)
-      p.value old_word.0 (value_changed p) (some_value p slots) slots.low_value refl low_cells in_cell old_word.1
-      (λ z next.
-      let now = subst (λ n. IsAt (is_changed p) old (at + 36) (put p.value n temps_0) [] z) head_is next in
-      elim (cases_Bool (eqb head 0)) [ inl is ↦ ends z now is | inr is ↦ unlinks z now is ])
-
   -- WHAT WAS DONE
 
   pops : (temps : ℕ → ℕ) (es : List Store) (last : History)
@@ -165,7 +155,15 @@ module _ (s : Setting) (p : Slots) (at : ℕ) (area : Area) (h t : ℕ) (begun :
 
   path : HasPath s (pop_form p) at area h t begun Inside Done
   path = record {
-    keeps = keeps;
+    keeps =
+        let low = place.low in
+        let low_cells = place.apart.low_cells in
+        to_word s (pop_form p) at area h t begun Inside Done (block_formed kind.pops p) held place 6 64
+        (block_begins kind.pops p slots) refl area_bytes cells refl (omega arith)
+        p.value old_word.0 (value_changed p) (some_value p slots) slots.low_value refl low_cells in_cell old_word.1
+        (λ z next.
+        let now = subst (λ n. IsAt (is_changed p) old (at + 36) (put p.value n temps_0) [] z) head_is next in
+        elim (cases_Bool (eqb head 0)) [ inl is ↦ ends z now is | inr is ↦ unlinks z now is ]);
     nothing = refl;
     area_bytes = area_bytes;
     points = λ es none. unstored seen es none (area.at + 8);

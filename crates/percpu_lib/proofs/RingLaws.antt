@@ -22,6 +22,7 @@ use Rattle.percpu_lib.proofs.BlockCourse.{AsksFirst, IsCopy, comes_to_commit}
 use Rattle.percpu_lib.proofs.Courses.{HasCourse}
 use Rattle.percpu_lib.proofs.RingFormed.{get_formed, put_formed}
 use Rattle.percpu_lib.proofs.RingGetLaw.{get_course}
+use Rattle.percpu_lib.proofs.RingLaw.{place_by}
 use Rattle.percpu_lib.proofs.RingPutLaw.{put_course}
 
 -- THE WORDS BEFORE THE SEQUENCE
@@ -54,8 +55,16 @@ ring_formed gets count few p = get_formed count few p
 
 module _ (count : ℕ) (some : 1 ≤ count) (few : count ≤ 4) (p : Slots) where
   pub ring_course : (k : RingKind) → HasCourse (ring_form_of k count p)
-  ring_course puts = record { formed = put_formed count few p; course = λ s. put_course s count some few p }
-  ring_course gets = record { formed = get_formed count few p; course = λ s. get_course s count some few p }
+  ring_course puts = record {
+    formed = put_formed count few p;
+    course = λ s at area h t begun held slots place.
+        put_course (place_by puts s count some few p at area h t begun (put_formed count few p) held slots place);
+  }
+  ring_course gets = record {
+    formed = get_formed count few p;
+    course = λ s at area h t begun held slots place.
+        get_course (place_by gets s count some few p at area h t begun (get_formed count few p) held slots place);
+  }
 
   -- WHEN THEY ARE DONE
 

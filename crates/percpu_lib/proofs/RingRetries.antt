@@ -555,21 +555,20 @@ module _ (s : Setting) (past : History) (form : Form) (count : ℕ) (some_words 
     plain = λ f e at_it is. code.no_call f e (without f at_it) is;
     goes = λ f e seen r many asked at_it is inside uncommitted.
         let now = code.goes f e seen r many (without f at_it) is inside in
-        let to = now.word in
-        let other : to ≢ 18 + 6 * count = (λ same. uncommitted (now.pc ∙ post to same)) in
+        let other : now.word ≢ 18 + 6 * count = (λ same. uncommitted (now.pc ∙ post now.word same)) in
         record {
-          word = to;
+          word = now.word;
           below = now.below;
           pc = now.pc;
           know = record {
             table = now.know;
-            copy = copy_there f e seen r many is at_it.word at_it.pc at_it.below asked at_it.know to now.pc
+            copy = copy_there f e seen r many is at_it.word at_it.pc at_it.below asked at_it.know now.word now.pc
                 now.below
                 other;
-            value = value_there f e seen r many is at_it.word at_it.pc at_it.below asked at_it.know to now.pc
+            value = value_there f e seen r many is at_it.word at_it.pc at_it.below asked at_it.know now.word now.pc
                 now.below
                 other;
-            small = small_there f e seen r many is at_it.word at_it.pc at_it.below asked at_it.know to now.pc
+            small = small_there f e seen r many is at_it.word at_it.pc at_it.below asked at_it.know now.word now.pc
                 now.below
                 other;
             uncommitted = other;

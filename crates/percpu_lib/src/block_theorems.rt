@@ -5,9 +5,8 @@ ghost use Rattle.std.specs.Prelude.{◌+◌, ◌*◌, ◌%◌, ◌^◌, ◌<◌,
 ghost use Rattle.mach_types.specs.{Registers.register, declared.events.Entry.Entry, declared.sequences.Area.Area};
 ghost use Rattle.mach_types.specs.declared.events.Kind.TheVariants as event_kind;
 ghost use Rattle.block_model.specs.Acts.{Sequence, end_before, end_so_far, sequence_on};
-ghost use Rattle.block_model.specs.Deciding.{event, history};
 ghost use Rattle.block_model.specs.History.{file, running};
-ghost use Rattle.block_model.specs.{Run.IsBlockRun, Setting.Setting};
+ghost use Rattle.block_model.specs.{Deciding.event, Deciding.history, Run.IsBlockRun, Setting.Setting};
 ghost use Rattle.alone_laws.specs.{Blocks.IsPlaceOf, Entering.IsIn, Pointers.LiesBeside, Retries.Retries};
 ghost use Rattle.alone_laws.specs.Undisturbed.{Brings, IsUndisturbed, executed_on};
 ghost use Rattle.alone_laws.specs.Uses.{AlwaysOutside, CanAlwaysBegin, Placed, in_block};
@@ -15,14 +14,12 @@ ghost use Rattle.alone_laws.specs.Spans.{code_of};
 ghost use Rattle.elf_load.specs.{Images.IsImage, declared.image.Image.Image, declared.image.ImagePage.ImagePage};
 ghost use Rattle.rv_asm.specs.Assembly.{AreAssembled, Assembly};
 ghost use Rattle.rv_inst.specs.{Table.row_of, declared.instruction.Inst.Inst};
-ghost use Rattle.percpu_lib.specs.Beside.{IsOfLibrary};
 ghost use Rattle.percpu_lib.specs.Bindings.{AreBound, AreLabelsOf, word_before_abort};
-ghost use Rattle.percpu_lib.specs.Files.{HoldsCode};
 ghost use Rattle.percpu_lib.specs.Forms.{HoldsBlock, IsCommitted, IsLeftFrom, SharesAreaWith, block_of, committed};
 ghost use Rattle.percpu_lib.specs.Forms.{placed_of, range_of};
 ghost use Rattle.percpu_lib.specs.Kinds.{Kind, form_of, frees, lines_of, takes_in};
 ghost use Rattle.percpu_lib.specs.Lines.{AreEmitted, HasRoom, IsContinued};
-ghost use Rattle.percpu_lib.specs.Words.{AreHeld};
+ghost use Rattle.percpu_lib.specs.{Beside.IsOfLibrary, Files.HoldsCode, Words.AreHeld};
 ghost use Rattle.percpu_lib.specs.declared.slots.Slots.{Slots};
 
 /// In a block run a restartable sequence of a block of the library has the effect of its kind once, where its

@@ -6,9 +6,8 @@ ghost use Rattle.std.specs.Prelude.{◌<◌, ◌^◌, ◌≡◌, ◌≢◌, ◌�
 ghost use Rattle.mach_types.specs.{Registers.register, declared.events.Entry.Entry, declared.sequences.Area.Area};
 ghost use Rattle.mach_types.specs.declared.events.Kind.TheVariants as kind;
 ghost use Rattle.block_model.specs.Acts.{Sequence, end_before, end_so_far, sequence_on};
-ghost use Rattle.block_model.specs.Deciding.{event, history};
 ghost use Rattle.block_model.specs.History.{file, running};
-ghost use Rattle.block_model.specs.{Run.IsBlockRun, Setting.Setting};
+ghost use Rattle.block_model.specs.{Deciding.event, Deciding.history, Run.IsBlockRun, Setting.Setting};
 ghost use Rattle.alone.specs.Temps.{is_scratch};
 ghost use Rattle.alone_laws.specs.{Blocks.IsPlaceOf, Entering.IsIn, Pointers.LiesBeside, Retries.Retries};
 ghost use Rattle.alone_laws.specs.Undisturbed.{Brings, IsUndisturbed, executed_on};

@@ -43,6 +43,13 @@ abbrev pub walk : ℕ → ℕ → ℕ → ℕ → List Entry
 walk h t pc zero = []
 walk h t pc (suc n) = entry h kinds.Exec t pc ∷ walk h t (pc + 4) n
 
+-- the first thread runs from 0x10000 on and executes so many instructions; then the second runs on hart 1, from one
+-- address on, and goes from there to another
+abbrev pub until_lock : ℕ → ℕ → ℕ → List Entry
+until_lock n child lock =
+    entry 0 kinds.Run 1 0x10000 ∷ walk 0 1 0x10000 n ++ entry 1 kinds.Run 2 child ∷ entry 1 kinds.Exec 2 child
+    ∷ entry 1 kinds.Exec 2 lock ∷ []
+
 -- a script that is played in parts
 pub played_on : (s : Setting) (xs ys : List Ask) (r : Result (List Entry) ℕ)
     → fold (play_line s) r (xs ++ ys) ≡ fold (play_line s) (fold (play_line s) r xs) ys

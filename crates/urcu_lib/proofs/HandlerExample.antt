@@ -20,8 +20,8 @@ use Rattle.percpu_lib.proofs.Computing.{by_rules, by_signals, by_table}
 use Rattle.urcu_lib.specs.Blocks.{Urcu}
 use Rattle.urcu_lib.specs.Stretch.{IsPassing, Runs}
 use Rattle.urcu_lib.specs.declared.regs.ReadRegs.{ReadRegs}
-use Rattle.urcu_lib.proofs.ExampleParts.{AreLaid, IsWorked, entry, execs, line, played_on, reads_so, walk}
-use Rattle.urcu_lib.proofs.ExampleParts.{worked}
+use Rattle.urcu_lib.proofs.ExampleParts.{AreLaid, IsWorked, entry, execs, line, played_on, reads_so}
+use Rattle.urcu_lib.proofs.ExampleParts.{until_lock, walk, worked}
 use Rattle.urcu_lib.proofs.RunTests.{all_go_on, executed_in, runs_so}
 use Rattle.urcu_lib.proofs.UseExample.{are_sync, sync_regs}
 use Rattle.urcu_lib.proofs.UseTests.{Layout, is_file, saved_is, urcu_of}
@@ -76,9 +76,7 @@ urcu = urcu_of layout
 -- loaded a slot; up to the handler's return; up to the last instruction of the block; up to its first one; up
 -- to the second call; up to the last instruction again; and two instructions more
 abbrev pub first : List Entry
-first =
-    entry 0 kind.Run 1 0x10000 ∷ walk 0 1 0x10000 25 ++ entry 1 kind.Run 2 0x10028
-    ∷ entry 1 kind.Exec 2 0x10028 ∷ entry 1 kind.Exec 2 0x100B0 ∷ []
+first = until_lock 25 0x10028 0x100B0
 
 abbrev pub lock_entry : Entry
 lock_entry = entry 1 kind.Exec 2 0x100B4
@@ -118,7 +116,7 @@ abbrev pub seventh : List Entry
 seventh = walk 0 1 0x10064 4
 
 abbrev pub again_entry : Entry
-again_entry = entry 0 kind.Exec 1 0x10074
+again_entry = call_entry
 
 abbrev pub eighth : List Entry
 eighth =
@@ -127,7 +125,7 @@ eighth =
     ++ walk 0 1 0x10098 3
 
 abbrev pub over_entry : Entry
-over_entry = entry 0 kind.Exec 1 0x100A4
+over_entry = last_entry
 
 abbrev pub ninth : List Entry
 ninth = entry 0 kind.Exec 1 0x100A8 ∷ entry 0 kind.Exec 1 0x10064 ∷ []

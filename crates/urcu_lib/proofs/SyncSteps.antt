@@ -588,6 +588,7 @@ module _ (s : Setting) (u : Urcu) (first : ℕ) (blocks : AreBlocks (code_of s.p
   next_11 pc x passed shows =
       elim (cases_Bool (eqb (register f 10) (register f 0))) [
         | inl is ↦
+            let none = eqb-true (register f 10) 0 is in
             let low = at_low in
             let aligned = at_aligned in
             turns 11 (inst.Beq 10 0 (pos 8)) 13 pc refl
@@ -595,7 +596,7 @@ module _ (s : Setting) (u : Urcu) (first : ℕ) (blocks : AreBlocks (code_of s.p
             (omega arith) (omega arith) (λ l good le. let r = l.others 7 (omega arith) in omega arith)
             (λ l le. passes refl (still_at 11 pc (omega arith) (omega arith) l x)
             (passed_next s u first at t e before run has p.opened (suc i)
-            (one_more p.opened.grace i passed (shows (inl (eqb-true (register f 10) 0 is))))))
+            (one_more p.opened.grace i passed (shows (inl none)))))
         | inr is ↦
             let low = at_low in
             let after = nexts 11 (inst.Beq 10 0 (pos 8)) 0 0 (at + 4 * 12) pc refl

@@ -18,7 +18,7 @@ use Rattle.urcu_lib.specs.Registers.{AreSyncRegs, IsKept}
 use Rattle.urcu_lib.specs.declared.regs.ReadRegs.{ReadRegs}
 use Rattle.urcu_lib.specs.declared.regs.SyncRegs.{SyncRegs}
 use Rattle.urcu_lib.proofs.ExampleParts.{AreLaid, IsWorked, entry, execs, is_register, line, reads_so, walk}
-use Rattle.urcu_lib.proofs.ExampleParts.{worked}
+use Rattle.urcu_lib.proofs.ExampleParts.{until_lock, worked}
 use Rattle.urcu_lib.proofs.UseTests.{Layout, urcu_of}
 
 -- `lui x8, 0x20`, `addi x9, x8, 64`; membarrier(16, 0); clone; the child goes to 0x10074. From 0x10030 on the
@@ -80,9 +80,7 @@ lines =
 
 -- up to the store of lock; up to the call; and up to the last instruction of the sync block
 abbrev pub first : List Entry
-first =
-    entry 0 kind.Run 1 0x10000 ∷ walk 0 1 0x10000 11 ++ entry 1 kind.Run 2 0x1002C
-    ∷ entry 1 kind.Exec 2 0x1002C ∷ entry 1 kind.Exec 2 0x10074 ∷ []
+first = until_lock 11 0x1002C 0x10074
 
 abbrev pub lock_entry : Entry
 lock_entry = entry 1 kind.Exec 2 0x10078
@@ -138,6 +136,6 @@ unfolding by_table
 there = ((refl, (refl, tt)), (refl, tt), (refl, (refl, (refl, (refl, (refl, (refl, (refl, (refl, (refl, (refl, (refl, (refl, (refl, (refl, (refl, (refl, (refl, tt))))))))))))))))))
 
 pub its : IsWorked reading layout first lock_entry log
-unfolding played by_rules command_asked
+unfolding by_rules command_asked
 its =
     worked reading layout first lock_entry log there (reads_so read_regs refl) are_sync refl refl refl refl refl
