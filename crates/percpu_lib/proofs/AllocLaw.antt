@@ -185,7 +185,9 @@ module _ (s : Setting) (p : Slots) (at : ℕ) (area : Area) (h t : ℕ) (begun :
       (inst.Addi p.value 0 (pos 0)) (held.holds 9 (inst.Addi p.value 0 (pos 0)) refl) p.value 0 (at + 40)
       (λ f like. means_addi f (at + 36) (at + 40) (omega arith) p.value 0 (pos 0) 0 0 refl refl)
       (value_changed p) (some_value p slots) slots.low_value (omega arith) (omega arith)
-      (λ u then. elim (cases_Bool (eqb count 0)) [ inl is ↦ ends u then is | inr is ↦ finds u then is (λ z now. takes z now is) ]))
+      (λ u then.
+      elim (cases_Bool (eqb count 0))
+      [ inl is ↦ ends u then is | inr is ↦ finds u then is (λ z now. takes z now is) ]))
 
   -- WHAT WAS DONE
 

@@ -111,7 +111,9 @@ setting_of start code others end = record {
 -- a sequence of thread 1, by how many entries of a log stand before its first instruction and before its last
 abbrev pub sequence_of : Setting → List Entry → ℕ → ℕ → Sequence
 sequence_of s log n m =
-    record { hart = 0; thread = 1; begun = history s (take n log); last_instruction = history s (take m log); reached = history s log }
+    let begun = history s (take n log) in
+    let last = history s (take m log) in
+    record { hart = 0; thread = 1; begun = begun; last_instruction = last; reached = history s log }
 
 -- the words of a block stand there
 abbrev pub AreThere : (ℕ → Option Inst) → ℕ → List (Option Inst) → Type 0

@@ -76,9 +76,6 @@ module _ (s : Setting) (p : Slots) (at : ℕ) (area : Area) (h t : ℕ) (begun :
       ((eqb count 512 ≡ true) × (temps p.value ≡ value) × (es ≡ []))
       ⊎ ((eqb count 512 ≡ false) × (temps p.value ≡ 0) × (es ≡ filled ∷ count_store pool (count + 1) ∷ []))
 
-  none_yet : Inside []
-  none_yet = inl refl
-
   abbrev w : Path
   w = way s (free_form p) at area h t begun Inside Done
 
@@ -109,7 +106,7 @@ module _ (s : Setting) (p : Slots) (at : ℕ) (area : Area) (h t : ℕ) (begun :
   ends y was full =
       let low = place.low in
       let even = place.aligned in
-      then_branch w (at + 44) _ [] y was (here 11 (omega arith) (omega arith)) none_yet
+      then_branch w (at + 44) _ [] y was (here 11 (omega arith) (omega arith)) (inl refl)
       (inst.Beq 6 7 (pos 28)) (held.holds 11 (inst.Beq 6 7 (pos 28)) refl) 0 (at + 72)
       (λ f like. means_beq_taken f (at + 44) 6 7 (pos 28) count 512 (at + 72) (like.temp 6 refl)
       (like.temp 7 refl) full
@@ -124,19 +121,19 @@ module _ (s : Setting) (p : Slots) (at : ℕ) (area : Area) (h t : ℕ) (begun :
       let low = place.low in
       let low_pool = place.apart.is_pool.low_pool in
       let few = most in
-      then_branch w (at + 44) _ [] y was (here 11 (omega arith) (omega arith)) none_yet
+      then_branch w (at + 44) _ [] y was (here 11 (omega arith) (omega arith)) (inl refl)
       (inst.Beq 6 7 (pos 28)) (held.holds 11 (inst.Beq 6 7 (pos 28)) refl) 0 (at + 48)
       (λ f like. means_beq_not f (at + 44) (at + 48) (omega arith) 6 7 (pos 28) count 512
       (like.temp 6 refl) (like.temp 7 refl) free)
       (inl ((omega arith), (omega arith)))
       (λ z now.
-      then_next w (at + 48) _ [] z now (here 12 (omega arith) (omega arith)) none_yet
+      then_next w (at + 48) _ [] z now (here 12 (omega arith) (omega arith)) (inl refl)
       (inst.Slli 7 6 3) (held.holds 12 (inst.Slli 7 6 3) refl) 7 (8 * count) (at + 52)
       (λ f like. means_slli f (at + 48) (at + 52) (omega arith) 7 6 3 count (8 * count) (like.temp 6 refl)
       (omega arith))
       refl refl (omega arith) (omega arith) (omega arith)
       (λ v next.
-      then_next w (at + 52) _ [] v next (here 13 (omega arith) (omega arith)) none_yet
+      then_next w (at + 52) _ [] v next (here 13 (omega arith) (omega arith)) (inl refl)
       (inst.Add 7 7 5) (held.holds 13 (inst.Add 7 7 5) refl) 7 (pool + 8 * count) (at + 56)
       (λ f like. means_add f (at + 52) (at + 56) (omega arith) 7 7 5 (8 * count) pool (pool + 8 * count)
       (like.temp 7 refl) (like.temp 5 refl) (omega arith))
@@ -149,7 +146,7 @@ module _ (s : Setting) (p : Slots) (at : ℕ) (area : Area) (h t : ℕ) (begun :
       let low_pool = place.apart.is_pool.low_pool in
       let few = most in
       let room : count ≢ 512 = eqb-false count 512 free in
-      then_store w (at + 56) _ [] y was (here 14 (omega arith) (omega arith)) none_yet
+      then_store w (at + 56) _ [] y was (here 14 (omega arith) (omega arith)) (inl refl)
       (inst.Sd 7 p.value (pos 64)) (held.holds 14 (inst.Sd 7 p.value (pos 64)) refl)
       slot 8 (value % 2 ^ 64) (at + 60)
       (λ f like. means_sd f (at + 56) 7 p.value (pos 64) (pool + 8 * count) slot value (value % 2 ^ 64)
@@ -188,12 +185,12 @@ module _ (s : Setting) (p : Slots) (at : ℕ) (area : Area) (h t : ℕ) (begun :
       let low = place.low in
       let low_pool = place.apart.is_pool.low_pool in
       to_word s (free_form p) at area h t begun Inside Done (block_formed kind.frees p) held place 13 8192
-      (block_begins kind.frees p slots) none_yet area_bytes pools refl (omega arith)
+      (block_begins kind.frees p slots) (inl refl) area_bytes pools refl (omega arith)
       6 count_word.0 refl refl (omega arith) refl (omega arith) in_count count_word.1
       (λ z next.
       then_next w (at + 40) (put 6 count temps_0) [] z
       (subst (λ n. IsAt (is_changed p) old (at + 40) (put 6 n temps_0) [] z) count_is next)
-      (here 10 (omega arith) (omega arith)) none_yet
+      (here 10 (omega arith) (omega arith)) (inl refl)
       (inst.Addi 7 0 (pos 512)) (held.holds 10 (inst.Addi 7 0 (pos 512)) refl) 7 512 (at + 44)
       (λ f like. means_addi f (at + 40) (at + 44) (omega arith) 7 0 (pos 512) 0 512 refl refl)
       refl refl (omega arith) (omega arith) (omega arith)
@@ -265,7 +262,7 @@ module _ (s : Setting) (p : Slots) (at : ℕ) (area : Area) (h t : ℕ) (begun :
   path : HasPath s (free_form p) at area h t begun Inside Done
   path = record {
     keeps = keeps;
-    nothing = none_yet;
+    nothing = inl refl;
     area_bytes = area_bytes;
     points = points;
     points_done = points_done;

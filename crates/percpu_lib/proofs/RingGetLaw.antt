@@ -109,7 +109,8 @@ module _ (r : RingPlace gets) where
         slot_same n =
             let low = slot_low ring n in
             same_there s h begun area.at ring value count apart last es after.sees (slot_of ring n)
-            (in_slot s h begun area.at ring value count apart n) (left (slot_of ring n) (slot_in ring n) (inl (omega arith)))
+            (in_slot s h begun area.at ring value count apart n)
+            (left (slot_of ring n) (slot_in ring n) (inl (omega arith)))
 
     gets_it : Done gets r temps es → Gets s p ring h t count begun last
     gets_it (inl short) =

@@ -140,7 +140,8 @@ module _ (p : Slots) (base n count : ℕ) (labels : List (Option ℕ)) (retry : 
       let rest = rest_held ws is offset plain many in
       cc
 
-  pub kind_words : (k : RingKind) → instructions labels n (ring_lines_of k count p base) ≡ (ring_form_of k count p).words
+  pub kind_words : (k : RingKind)
+      → instructions labels n (ring_lines_of k count p base) ≡ (ring_form_of k count p).words
   kind_words puts =
       block_held (inst.Ld 6 5 (pos 8)) (inst.Ld 7 5 (pos 0)) (inst.Sub 7 6 7) (inst.Sltiu 7 7 (pos (513 - count)))
       (inst.Beq 7 0 (pos 0)) (inst.Beq 7 0 (pos (12 + 24 * count))) (put_words p count)

@@ -34,9 +34,9 @@ use Rattle.percpu_lib.proofs.Courses.{IsCourse}
 use Rattle.percpu_lib.proofs.RingData.{area_bytes, in_ring, loaded_is, raw, ring_pointer, word_low}
 use Rattle.percpu_lib.proofs.RingMeans.{means_andi, slot_number}
 use Rattle.percpu_lib.proofs.RingParts.{LiesSo}
-use Rattle.percpu_lib.proofs.RingParts.{IsEnough, IsShort, compare_of, compares, exits, flag_of, form_by, from_by}
-use Rattle.percpu_lib.proofs.RingParts.{from_stays, from_used, front_of, good_of, insts_of, insts_six, into_by}
-use Rattle.percpu_lib.proofs.RingParts.{into_pointer, into_used, is_enough, is_short, load_of, loads, moves_by}
+use Rattle.percpu_lib.proofs.RingParts.{IsEnough, IsShort, compare_of, compares, exits, flag_of, form_by}
+use Rattle.percpu_lib.proofs.RingParts.{formed_by, from_by, from_stays, from_used, front_of, good_of, insts_of, insts_six}
+use Rattle.percpu_lib.proofs.RingParts.{into_by, into_pointer, into_used, is_enough, is_short, load_of, loads, moves_by}
 use Rattle.percpu_lib.proofs.RingParts.{number_at, number_lies, offset_of, other_at, other_lies, other_of, save_of}
 use Rattle.percpu_lib.proofs.RingParts.{saves, stays, sub_of, subtracts, test_of, words_by}
 use Rattle.percpu_lib.proofs.RingPlaces.{slot_wraps}
@@ -70,27 +70,28 @@ pub record RingSize : Type 0 where
 pub record RingPlace (k : RingKind) : Type 0 where
   pub site : Site
   pub size : RingSize
-  pub formed : IsFormed (form_by k size.count size.p)
   pub standing : AreHeld (code_of site.s.program.pages) site.at (words_by k size.p size.count)
   pub place : IsBlockPlace site.s (form_by k size.count size.p) site.at site.area site.h site.t site.begun
 
 abbrev pub place_by : (k : RingKind) (s : Setting) (count : ℕ) → 1 ≤ count → count ≤ 4 → (p : Slots) (at : ℕ)
-    (area : Area) (h t : ℕ) (begun : History) → IsFormed (form_by k count p)
-    → AreHeld (code_of s.program.pages) at (words_by k p count) → AreSlots p
+    (area : Area) (h t : ℕ) (begun : History) → AreHeld (code_of s.program.pages) at (words_by k p count)
+    → AreSlots p
     → IsBlockPlace s (form_by k count p) at area h t begun → RingPlace k
-place_by k s count some many p at area h t begun formed standing slots place = record {
+place_by k s count some many p at area h t begun standing slots place = record {
   site = record { s = s; at = at; area = area; h = h; t = t; begun = begun };
   size = record { count = count; some = some; many = many; p = p; slots = slots };
-  formed = formed;
   standing = standing;
   place = place;
 }
 
 module _ (k : RingKind) (r : RingPlace k) where
-  open r use {site.{s, at, area, h, t, begun}, size.{count, some, many, p, slots}, formed, standing, place}
+  open r use {site.{s, at, area, h, t, begun}, size.{count, some, many, p, slots}, standing, place}
 
   abbrev pub form : Form
   form = form_by k count p
+
+  abbrev formed : IsFormed form
+  formed = formed_by k count many p
 
   begins_so : BeginsSo form 13 8192
   begins_so =
@@ -174,7 +175,9 @@ module _ (k : RingKind) (r : RingPlace k) where
 
   pub word_there : (j : ℕ) → j < count → (i : ℕ) → i < 6
       → slice_get form.words (base j + i) ≡ slice_get ((insts_of k p) j) i
-  word_there j lt i less = in_middle (insts_of k p) (insts_six k p) (front_of k p count) (ring_end p count (offset_of k)) refl count j i lt less
+  word_there j lt i less =
+      in_middle (insts_of k p) (insts_six k p) (front_of k p count) (ring_end p count (offset_of k)) refl count j i
+      lt less
 
   -- THE WORDS ARE MOVED
 
@@ -282,7 +285,8 @@ module _ (k : RingKind) (r : RingPlace k) where
           then_next w (at + 4 * (base j + 5)) (put 29 (word j) (at_slot j temps)) (first_stores store (suc j)) y
           was
           (here (base j + 5) (omega arith) (omega arith)) (so_far (suc j) (omega arith)) (inst.Addi 6 6 (pos 1))
-          (standing.holds (base j + 5) (inst.Addi 6 6 (pos 1)) (word_there j lt 5 (omega arith) ∙ (moves_by k p j).addi))
+          (standing.holds (base j + 5) (inst.Addi 6 6 (pos 1))
+          (word_there j lt 5 (omega arith) ∙ (moves_by k p j).addi))
           6 ((number + suc j) % 2 ^ 64) (at + 4 * base (suc j))
           (λ f like. means_addi f (at + 4 * (base j + 5)) (at + 4 * base (suc j)) (omega arith) 6 6 (pos 1)
           ((number + j) % 2 ^ 64) ((number + suc j) % 2 ^ 64) (like.temp 6 refl ∙ ready.six) (omega arith))
@@ -375,7 +379,8 @@ module _ (k : RingKind) (r : RingPlace k) where
       let low = place.low in
       let small = small_value in
       then_branch w (at + 60) temps_5 [] y was (here 15 (omega arith) (omega arith)) none_yet (test_of k count)
-      (standing.holds 15 (test_of k count) refl) 0 (at + 64) (λ f like. stays k count flag fits f (at + 60) (at + 64) (omega arith) (like.temp 7 refl ∙ seven))
+      (standing.holds 15 (test_of k count) refl) 0 (at + 64)
+      (λ f like. stays k count flag fits f (at + 60) (at + 64) (omega arith) (like.temp 7 refl ∙ seven))
       (inl ((omega arith), (omega arith)))
       (λ z now.
       then_next w (at + 64) temps_5 [] z now (here 16 (omega arith) (omega arith)) none_yet
@@ -384,7 +389,8 @@ module _ (k : RingKind) (r : RingPlace k) where
       (λ f like. means_addi f (at + 64) (at + 68) (omega arith) p.value 28 (pos 0) value value
       (like.temp 28 refl ∙ copy_5) (omega arith))
       (value_changed p) (some_value p slots) slots.low_value (omega arith) (omega arith)
-      (λ u then. each_word (is_enough k holds count many fits) count 0 (omega arith) (put p.value value temps_5) ready_first u
+      (λ u then. each_word (is_enough k holds count many fits) count 0 (omega arith) (put p.value value temps_5)
+      ready_first u
       (subst (λ n. IsAt (is_changed p) old n (put p.value value temps_5) [] u) (omega arith) then)))
     where
       ready_first : IsReady 0 (put p.value value temps_5)
@@ -416,10 +422,12 @@ module _ (k : RingKind) (r : RingPlace k) where
       let low_ring = apart.low_ring in
       let is = lies.is in
       let small = lies.low in
-      then_load w (at + 4 * n) temps [] y was (here n past before) none_yet (inst.Ld rd 5 (pos offset))
+      then_load w (at + 4 * n) temps [] y was (here n (omega arith) (omega arith)) none_yet
+      (inst.Ld rd 5 (pos offset))
       (standing.holds n (inst.Ld rd 5 (pos offset)) there)
       from 8 rd (raw s h begun area.at ring value count apart from).0 (at + 4 * (n + 1)) true
-      (λ f like. means_ld f (at + 4 * n) rd 5 (pos offset) ring from (like.temp 5 refl ∙ five) (omega (arith, ints)))
+      (λ f like. means_ld f (at + 4 * n) rd 5 (pos offset) ring from (like.temp 5 refl ∙ five)
+      (omega (arith, ints)))
       (in_ring s h begun area.at ring value count apart from lies.its)
       (word_unchanged seen from 8 ∙ (raw s h begun area.at ring value count apart from).1) may some_rd few
       (omega arith) (omega arith) (omega arith)
@@ -447,13 +455,16 @@ module _ (k : RingKind) (r : RingPlace k) where
       (omega arith) refl (other_lies k ring) z next
       (λ u then.
       then_next w (at + 48) temps_2 [] u then
-      (here 12 (omega arith) (omega arith)) none_yet (sub_of k) (standing.holds 12 (sub_of k) refl) 7 holds (at + 52)
-      (λ f like. subtracts k s h ring begun f (at + 48) (at + 52) (omega arith) (like.temp 6 refl) (like.temp 7 refl))
+      (here 12 (omega arith) (omega arith)) none_yet (sub_of k) (standing.holds 12 (sub_of k) refl) 7 holds
+      (at + 52)
+      (λ f like. subtracts k s h ring begun f (at + 48) (at + 52) (omega arith) (like.temp 6 refl)
+      (like.temp 7 refl))
       refl refl (omega arith) (omega arith) (omega arith)
       (λ v last.
       then_next w (at + 52) (put 7 holds temps_2) [] v last (here 13 (omega arith) (omega arith)) none_yet
       (compare_of k count) (standing.holds 13 (compare_of k count) refl) 7 (one_if flag) (at + 56)
-      (λ f like. compares k count holds many f (at + 52) (at + 56) (omega arith) (like.temp 7 refl)) refl refl (omega arith) (omega arith) (omega arith)
+      (λ f like. compares k count holds many f (at + 52) (at + 56) (omega arith) (like.temp 7 refl)) refl refl
+      (omega arith) (omega arith) (omega arith)
       (λ x_14 more.
       then_next w (at + 56) temps_4 [] x_14 more (here 14 (omega arith) (omega arith)) none_yet
       (inst.Addi p.value 0 (pos 0)) (standing.holds 14 (inst.Addi p.value 0 (pos 0)) refl) p.value 0 (at + 60)
@@ -490,7 +501,8 @@ module _ (k : RingKind) (r : RingPlace k) where
       (λ i lt. into_pointer s h begun area.at ring value count apart k number i (omega arith))
 
   points : (es : List Store) → Inside es → Stays es (area.at + 8)
-  points es so_far = stays_so es (first_stores store so_far.0) so_far.3 (area.at + 8) (first_pointer so_far.0 so_far.1)
+  points es so_far =
+      stays_so es (first_stores store so_far.0) so_far.3 (area.at + 8) (first_pointer so_far.0 so_far.1)
 
   points_done : (temps : ℕ → ℕ) (es : List Store) → Done temps es → Stays es (area.at + 8)
   points_done temps es (inl short) = stays_so es [] short.2 (area.at + 8) (first_pointer 0 (omega arith))

@@ -58,12 +58,12 @@ module _ (count : ℕ) (some : 1 ≤ count) (few : count ≤ 4) (p : Slots) wher
   ring_course puts = record {
     formed = put_formed count few p;
     course = λ s at area h t begun held slots place.
-        put_course (place_by puts s count some few p at area h t begun (put_formed count few p) held slots place);
+        put_course (place_by puts s count some few p at area h t begun held slots place);
   }
   ring_course gets = record {
     formed = get_formed count few p;
     course = λ s at area h t begun held slots place.
-        get_course (place_by gets s count some few p at area h t begun (get_formed count few p) held slots place);
+        get_course (place_by gets s count some few p at area h t begun held slots place);
   }
 
   -- WHEN THEY ARE DONE

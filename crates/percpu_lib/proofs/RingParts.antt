@@ -25,9 +25,10 @@ use Rattle.percpu_lib.specs.RingForms.{get_insts, held, put_insts, repeated, rin
 use Rattle.percpu_lib.specs.RingForms.{slot_of, word_of, word_store}
 use Rattle.percpu_lib.specs.RingKinds.{RingKind, gets, puts}
 use Rattle.percpu_lib.specs.declared.slots.Slots.{Slots}
+use Rattle.percpu_lib.proofs.BlockCode.{IsFormed}
 use Rattle.percpu_lib.proofs.Changes.{means_beq_not, means_beq_taken}
 use Rattle.percpu_lib.proofs.RingData.{in_slot, in_words, ring_pointer, ring_word, word_pointer, word_ring}
-use Rattle.percpu_lib.proofs.RingFormed.{front_with}
+use Rattle.percpu_lib.proofs.RingFormed.{front_with, get_formed, put_formed}
 use Rattle.percpu_lib.proofs.RingMeans.{means_sltiu, means_sub, word_small}
 use Rattle.percpu_lib.proofs.RingPlaces.{AreOfRing, head_in, slot_in, tail_in}
 use Rattle.percpu_lib.proofs.RingStores.{beside_first}
@@ -129,6 +130,10 @@ good_of gets = false
 
 -- WHAT HOLDS OF THEM
 
+pub formed_by : (k : RingKind) (count : ℕ) → count ≤ 4 → (p : Slots) → IsFormed (form_by k count p)
+formed_by puts count few p = put_formed count few p
+formed_by gets count few p = get_formed count few p
+
 pub insts_six : (k : RingKind) (p : Slots) (j : ℕ) → length (insts_of k p j) ≡ 6
 insts_six puts p j = refl
 insts_six gets p j = refl
@@ -229,13 +234,15 @@ module _ (s : Setting) (h : ℕ) (begun : History) (area ring value count : ℕ)
     (apart : IsRingApart s area ring value count h begun) where
   pub from_used : (k : RingKind) (number j : ℕ) → j < count
       → each_byte (ring_bytes area ring value count) (from_by k ring value number j) 8 ≡ true
-  from_used puts number j lt = in_words s h begun area ring value count apart (value + 8 * j) (omega arith) (omega arith)
+  from_used puts number j lt =
+      in_words s h begun area ring value count apart (value + 8 * j) (omega arith) (omega arith)
   from_used gets number j lt = in_slot s h begun area ring value count apart (number + j)
 
   pub into_used : (k : RingKind) (number j : ℕ) → j < count
       → each_byte (ring_bytes area ring value count) (into_by k ring value number j) 8 ≡ true
   into_used puts number j lt = in_slot s h begun area ring value count apart (number + j)
-  into_used gets number j lt = in_words s h begun area ring value count apart (value + 8 * j) (omega arith) (omega arith)
+  into_used gets number j lt =
+      in_words s h begun area ring value count apart (value + 8 * j) (omega arith) (omega arith)
 
   pub from_stays : (k : RingKind) (number : ℕ) (word : ℕ → ℕ) (j : ℕ) → j < count
       → word_at (seen_byte (first_stores (λ i. word_store (into_by k ring value number i) (word i)) j)
