@@ -88,11 +88,11 @@ none_is None none = refl
 none_is (Some x) none = absurd (false≢true none)
 
 -- the oldest store may enter memory where one waits, and the thread may leave where none does
-drain_free : (stores : List Store) → ltb 0 (length stores) ≡ true → refusal_drain_of stores ≡ None
+pub drain_free : (stores : List Store) → ltb 0 (length stores) ≡ true → refusal_drain_of stores ≡ None
 drain_free [] some = absurd (false≢true some)
 drain_free (w ∷ stores) some = refl
 
-none_waits : (stores : List Store) → ltb 0 (length stores) ≡ false → stores ≡ []
+pub none_waits : (stores : List Store) → ltb 0 (length stores) ≡ false → stores ≡ []
 none_waits [] none = refl
 none_waits (w ∷ stores) none = absurd (false≢true (sym none ∙ lt-ltb 0 (length (w ∷ stores)) (omega arith)))
 
@@ -101,7 +101,7 @@ leave_free [] none = refl
 leave_free (w ∷ stores) none = let bad = eqb-true (length (w ∷ stores)) 0 none in absurd (omega arith)
 
 -- requests may be taken where some are pending and no store waits
-take_free : (here : Here) → not (eqb here.requests 0) ≡ true → waiting_here here ≡ [] → refusal_of asked.Take here ≡ None
+pub take_free : (here : Here) → not (eqb here.requests 0) ≡ true → waiting_here here ≡ [] → refusal_of asked.Take here ≡ None
 take_free here some none = go (eqb here.requests 0) some
   where
     go : (b : Bool) → not b ≡ true → cond b (Some NoRequest) (unless_waiting (waiting_here here)) ≡ None
@@ -121,7 +121,7 @@ free_when_idle here true good idle is = take_free here is (good.idle here.hart i
 free_when_idle here false good idle is = first_free here (first_for here.hart here.kernel.scheduling) good.kernel idle refl
 
 -- what a hart picks whose thread waits in a barrier
-return_free : (awaits : Option ℕ) → is_all_taken awaits ≡ true → refusal_return awaits ≡ None
+pub return_free : (awaits : Option ℕ) → is_all_taken awaits ≡ true → refusal_return awaits ≡ None
 return_free None none = absurd (false≢true none)
 return_free (Some left) all = rw all refl
 

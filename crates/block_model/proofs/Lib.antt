@@ -14,7 +14,7 @@ mod ErrorCalls
 pub mod EventEffects
 mod EventMakers
 mod EventNeeds
-mod ExamplePrograms
+pub mod ExamplePrograms
 mod Examples
 mod FileSteps
 mod FixedRule

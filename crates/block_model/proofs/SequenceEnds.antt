@@ -15,12 +15,10 @@ use Rattle.block_model.proofs.EventEffects.{EventDeed, Handles, Restarts, RunKil
 use Rattle.block_model.proofs.Sequences.{runs_throughout, Elsewhere, Own, SequenceStep, is_reached, by_sequence}
 use Rattle.block_model.proofs.Touched.{dropped_is_touched}
 use Rattle.block_model.proofs.Barriers.OutsideSequences.{in_no_barrier}
-use Rattle.block_model.proofs.WholeEvents.{did, is_free, its_thread, not_over, place, reached_file}
-use Rattle.mach_types.specs.declared.sequences.Named.TheVariants as names
+use Rattle.block_model.proofs.WholeEvents.{cut_at_handler, did, is_free, its_thread, not_over, place, reached_file}
 use Rattle.block_model.proofs.TouchedHanging.{sees_memory}
 use Rattle.block_model.proofs.WholeCauses.{found_by, outside_goes_on}
 use Rattle.block_model.proofs.Interruptions.{InsideOf, first_cleared, inside_of}
-use Rattle.block_model.proofs.NamedSequences.{good_signed}
 
 -- NOTHING HAD ENDED
 
@@ -354,22 +352,10 @@ module _ (s : Setting) (e : Event) (before : History) (q : Sequence) (run : IsRu
 
     cut_so : IsCutProperly s e before q abort
     cut_so =
-        let pc = (here.file t).pc in
-        let signed = good_signed (memory here) in_it.area pc in_it.sequence in_it.good in
-        record {
-          area = in_it.area;
-          named = in_it.sequence;
-          registered = in_it.registered;
-          good = ap (λ o. option_map_or (λ area. named (memory here) area pc) o names.Nothing) in_it.registered ∙ in_it.good;
-          inside = in_it.inside;
-          handler = refl;
-          above = signed.0;
-          signed = signed.1;
-          cleared = subst (λ ws. Any (λ w. w ≡ Stored (record { at = in_it.area.at + RSEQ_CS; size = 8; value = 0 })) ws) (sym first_written.1)
-              (first_cleared (area_here here t) in_it.area outcome abort first_written.0 in_it.registered aborts);
-          null = its.null alive_on in_it.area in_it.registered;
-          goes_on = goes_to_abort;
-        }
+        cut_at_handler s e before q abort in_it refl
+        (subst (λ ws. Any (λ w. w ≡ Stored (record { at = in_it.area.at + RSEQ_CS; size = 8; value = 0 })) ws) (sym first_written.1)
+        (first_cleared (area_here here t) in_it.area outcome abort first_written.0 in_it.registered aborts))
+        (its.null alive_on in_it.area in_it.registered) goes_to_abort
 
     by_cut : EndsWhole s e before q
     by_cut =

@@ -1,7 +1,10 @@
 -- What an event of a run tells, by its kind; and where the thread of a sequence that hangs is: it is ready, and its registers and its pc are
 -- those that the sequence left.
-use Rattle.std.proofs.Common.{◌≡◌, ◌<◌, ℕ, [], ◌∷◌, sym, ap, ◌∙◌, cond, None, ◌≢◌, subst, true, Some}
-use Rattle.block_model.proofs.Common.{Entry, Event, Here, History, IsRunHistory, IsTables, Kind, Saved, Sequence, Setting, choice_of, choice_with, done, done_of, eqb-false, eqb_same, file, file_among, hanging, here_in_history, is_ready, kernel, number_of, over_at, refusal_of, sequence_on, thread_in}
+use Rattle.std.proofs.Common.{◌≡◌, ◌<◌, ◌≤◌, ◌+◌, ◌-◌, ℕ, [], ◌∷◌, sym, ap, ◌∙◌, cond, None, ◌≢◌, subst, true, Some, Any}
+use Rattle.block_model.proofs.Common.{Entry, Event, GoesOnWith, Here, History, IsCutProperly, IsLeftNull, IsRunHistory, IsTables, Kind, RSEQ_CS, Saved, Sequence, Setting, Stored, area_here, choice_of, choice_with, done, done_of, eqb-false, eqb_same, file, file_among, hanging, here_in_history, is_ready, is_writable, kernel, memory, named, number_of, option_map_or, over_at, refusal_of, sequence_on, thread_in, word_at}
+use Rattle.mach_types.specs.declared.sequences.Named.TheVariants as names
+use Rattle.block_model.proofs.Interruptions.{InsideOf}
+use Rattle.block_model.proofs.NamedSequences.{good_signed}
 use Rattle.block_model.proofs.Runs.{allowed_at, settled, fit_at}
 use Rattle.block_model.proofs.Sequences.{runs_throughout, Elsewhere, Own, SequenceStep, is_reached, by_sequence}
 use Rattle.block_model.proofs.TouchedHanging.{hangs_since}
@@ -69,4 +72,31 @@ hangs s before t q run is =
       thread = its.thread;
       ready = its.ready;
       file = its.same_file ∙ subst (λ u. file s u its.place ≡ file s u q.reached) its.thread (reached_file s its.place q.hart q its.run its.newest);
+    }
+
+-- WHERE IT IS CUT
+
+-- a thread that goes on at the abort handler of the good sequence that it was inside was cut properly
+pub cut_at_handler : (s : Setting) (e : Event) (before : History) (q : Sequence) (at : ℕ)
+    (its : InsideOf (memory (here_in_history s before e.entry.hart.0)) (is_writable (here_in_history s before e.entry.hart.0))
+    (area_here (here_in_history s before e.entry.hart.0) q.thread) (file s q.thread before).pc)
+    → its.sequence.abort ≡ at → Any (λ w. w ≡ Stored (record { at = its.area.at + RSEQ_CS; size = 8; value = 0 })) e.done.entered
+    → IsLeftNull s e.entry.kind e before q.thread its.area → GoesOnWith s e.entry.kind e before q.thread (record (file s q.thread q.reached) { pc = at })
+    → IsCutProperly s e before q at
+cut_at_handler s e before q at its same cleared null goes_on =
+    let m = memory (here_in_history s before e.entry.hart.0) in
+    let pc = (file s q.thread before).pc in
+    let signed = good_signed m its.area pc its.sequence its.good in
+    record {
+      area = its.area;
+      named = its.sequence;
+      registered = its.registered;
+      good = ap (λ o. option_map_or (λ area. named m area pc) o names.Nothing) its.registered ∙ its.good;
+      inside = its.inside;
+      handler = same;
+      above = subst (λ n. 4 ≤ n) same signed.0;
+      signed = subst (λ n. word_at m (n - 4) 4 ≡ Some its.area.sig) same signed.1;
+      cleared = cleared;
+      null = null;
+      goes_on = goes_on;
     }

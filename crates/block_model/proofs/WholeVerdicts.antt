@@ -1,9 +1,8 @@
 -- What `run` makes of a sequence that hangs: the process ends, or the sequence is cut, or it was dropped; and its thread isn't inside
 -- any more.
 use Rattle.std.proofs.Common.{◌≡◌, ℕ, ◌+◌, ◌-◌, ◌≤◌, List, [], ◌∷◌, ◌++◌, drop, refl, sym, ap, ◌∙◌, subst, Bool, true, false, cond, Option, Some, None, Any, is_some, inl, inr}
-use Rattle.block_model.proofs.Common.{Area, Done, Event, GoesOnWith, HasCause, Here, History, IsCutProperly, IsDeadBy, IsLeftNull, IsRunHistory, Outcome, Plain, RSEQ_CS, Saved, Sequence, Setting, Store, Stored, abort_of, area_here, area_of, cut_or, done_killed, done_run, done_running, end_at_verdict, eqb_same, false≢true, file, file_among, files_interrupted, hanging, has_killed, here_in_history, interruption_here, is_inside_at, is_inside_here, is_inside_waiting, is_ready, is_writable, lives_on, memory, named, option_map_or, pointer_of, running, running_on, runs, view, waiting, word_at}
+use Rattle.block_model.proofs.Common.{Area, Done, Event, GoesOnWith, HasCause, Here, History, IsCutProperly, IsDeadBy, IsLeftNull, IsRunHistory, Outcome, Plain, RSEQ_CS, Saved, Sequence, Setting, Store, Stored, abort_of, area_here, area_of, cut_or, done_killed, done_run, done_running, end_at_verdict, eqb_same, false≢true, file, file_among, files_interrupted, hanging, has_killed, here_in_history, interruption_here, is_inside_at, is_inside_here, is_inside_waiting, is_ready, is_writable, lives_on, memory, option_map_or, pointer_of, running, running_on, runs, view, waiting, word_at}
 use Rattle.mach_types.specs.declared.events.Kind.TheVariants as kind
-use Rattle.mach_types.specs.declared.sequences.Named.TheVariants as names
 use Rattle.mach_types.specs.declared.sequences.Outcome.TheVariants as comes_to
 use Rattle.block_model.specs.declared.acts.SeqEnd.{SeqEnd}
 use Rattle.block_model.specs.declared.acts.SeqEnd.TheVariants as ends
@@ -11,12 +10,12 @@ use Rattle.block_model.specs.Whole.{EndsWholeAtVerdict}
 use Rattle.block_model.proofs.PlainEvents.{applied}
 use Rattle.block_model.proofs.Invariants.Events.{run_ready}
 use Rattle.block_model.proofs.KernelTables.{ran_runs}
-use Rattle.block_model.proofs.NamedSequences.{number_agrees, good_signed, outside_where_null}
+use Rattle.block_model.proofs.NamedSequences.{number_agrees, outside_where_null}
 use Rattle.block_model.proofs.Runs.{settled}
 use Rattle.block_model.proofs.Touched.{hanging_is_touched}
 use Rattle.block_model.proofs.TouchedHanging.{sees_memory}
 use Rattle.block_model.proofs.WholeCauses.{cause_of_death, dies_of, outside_files, outside_goes_on}
-use Rattle.block_model.proofs.WholeEvents.{among_own, below, did, is_free, place, tables_before, hangs}
+use Rattle.block_model.proofs.WholeEvents.{among_own, cut_at_handler, below, did, is_free, place, tables_before, hangs}
 use Rattle.block_model.proofs.Interruptions.{InsideOf, first_cleared, inside_of, memory_after, running_is_null, running_word}
 
 -- ENDS
@@ -132,24 +131,13 @@ module _ (s : Setting) (e : Event) (before : History) (q : Sequence) (run : IsRu
   cut_properly : (at : ℕ) (its : Inside) → e.done ≡ done_running here q.thread came_to → lives_on here q.thread came_to ≡ true
       → came_to ≡ comes_to.Aborted at → its.sequence.abort ≡ at → IsCutProperly s e before q at
   cut_properly at its ran lives aborts same =
-      let pc = (here.file q.thread).pc in
-      let signed = good_signed (memory here) its.area pc its.sequence its.good in
-      record {
-        area = its.area;
-        named = its.sequence;
-        registered = its.registered;
-        good = ap (λ o. option_map_or (λ area. named (memory here) area pc) o names.Nothing) its.registered ∙ its.good;
-        inside = its.inside;
-        handler = same;
-        above = subst (λ n. 4 ≤ n) same signed.0;
-        signed = subst (λ n. word_at (memory here) (n - 4) 4 ≡ Some its.area.sig) same signed.1;
-        cleared = subst (λ (d : Done). Any (λ w. w ≡ Stored (record { at = its.area.at + RSEQ_CS; size = 8; value = 0 })) d.entered) (sym ran)
-            (first_cleared (area_here here q.thread) its.area came_to at _ its.registered aborts);
-        null = subst (λ k. IsLeftNull s k e before q.thread its.area) (sym is)
-            (subst (λ (d : Done). word_at (memory_after here d) (its.area.at + RSEQ_CS) 8 ≡ Some 0) (sym ran)
-            (running_word here q.thread its.area its.registered lives));
-        goes_on = goes_on_at at ran aborts;
-      }
+      cut_at_handler s e before q at its same
+      (subst (λ (d : Done). Any (λ w. w ≡ Stored (record { at = its.area.at + RSEQ_CS; size = 8; value = 0 })) d.entered) (sym ran)
+      (first_cleared (area_here here q.thread) its.area came_to at _ its.registered aborts))
+      (subst (λ k. IsLeftNull s k e before q.thread its.area) (sym is)
+      (subst (λ (d : Done). word_at (memory_after here d) (its.area.at + RSEQ_CS) 8 ≡ Some 0) (sym ran)
+      (running_word here q.thread its.area its.registered lives)))
+      (goes_on_at at ran aborts)
 
   by_cut : (its : Inside) → e.done ≡ done_running here q.thread came_to → lives_on here q.thread came_to ≡ true → is_inside_waiting here q.thread ≡ true
       → came_to ≡ comes_to.Aborted its.sequence.abort → EndsWholeAtVerdict s e before q

@@ -1,12 +1,11 @@
 -- Worked examples, proved by computation: the acts of a log in which a sequence is left, and of one in which it hangs and then is cut; what
 -- the events of these make of the sequence; and their counts.
-use Rattle.std.proofs.Common.{◌≡◌, ℕ, List, [], ◌∷◌, ◌++◌, map, replicate, refl, None, Result, Ok, Err}
-use Rattle.mach_types.specs.declared.events.Choice.{Choice}
+use Rattle.std.proofs.Common.{◌≡◌, ℕ, List, [], ◌∷◌, ◌++◌, map, replicate, refl, Result, Ok, Err}
 use Rattle.mach_types.specs.declared.events.Choice.TheVariants as asked
 use Rattle.mach_types.specs.declared.events.Entry.{Entry}
 use Rattle.mach_types.specs.Kernel.Areas.{are_readable, number_at}
 use Rattle.rv_inst.specs.Meaning.{meaning}
-use Rattle.rv_inst.specs.Table.{row_of, rows, lui_rows, auipc_rows, jal_rows, jalr_rows, branch_rows, load_rows, store_rows, op_imm_rows, op_imm_32_rows, op_rows, op_32_rows, misc_mem_rows, amo_rows, system_rows}
+use Rattle.rv_inst.specs.Table.{row_of, rows}
 use Rattle.block_model.specs.declared.acts.SeqEnd.TheVariants as ends
 use Rattle.block_model.specs.Deciding.{decide, done, history}
 use Rattle.block_model.specs.Replay.{Ask, played, script_of}
@@ -22,6 +21,7 @@ use Rattle.block_view.specs.Turns.{acts_left_open, turns}
 use Rattle.block_view.specs.declared.turns.Turn.{Turn}
 use Rattle.block_view.specs.declared.turns.Turn.TheVariants.{Begins, Ends}
 use Rattle.block_model.specs.Run.{IsBlockRun}
+use Rattle.block_model.proofs.ExamplePrograms.{code_and_page, line_of as line, within_frames}
 use Rattle.block_model.proofs.Laws.{block_run}
 use Rattle.mach_types.specs.declared.events.Kind.{Kind}
 use Rattle.mach_types.specs.declared.events.Kind.TheVariants as kind
@@ -44,22 +44,9 @@ data_bytes =
     ++ replicate 8 0 ++ 0xCC ∷ 0 ∷ 1 ∷ 0 ∷ 0 ∷ 0 ∷ 0 ∷ 0 ∷ 8 ∷ 0 ∷ 0 ∷ 0 ∷ 0 ∷ 0 ∷ 0 ∷ 0 ∷ 0xDC ∷ 0 ∷ 1 ∷ 0 ∷ 0 ∷ 0 ∷ 0 ∷ 0 ∷ []
 
 abbrev program : Setting
-program = record {
-  program = record {
-    pages = record { number = 0x10; perm = 5; bytes = replicate 0xB0 0 ++ code } ∷ record { number = 0x20; perm = 6; bytes = data_bytes } ∷ [];
-    entry = 0x100B0;
-    phdr = 0x10040;
-    phnum = 2;
-    break_at = 0x21000;
-  };
-  limits = record { harts = 2; frames = 128; steps = 200000 };
-}
+program = within_frames 128 (code_and_page code data_bytes)
 
 -- SCRIPTS AND ACTS
-
--- a line of a script: a hart and what it is asked to do
-abbrev line : ℕ → Choice → Ask
-line h choice = record { hart = record { 0 = h }; choice = choice; check = None }
 
 abbrev runs : ℕ → ℕ → Ask
 runs h t = line h (asked.Run (record { 0 = t }))
@@ -86,7 +73,7 @@ beginning = act 0 1 1 Kernel ∷ map (λ n. act 0 n n Step) (2 ∷ 3 ∷ 4 ∷ 5
 -- both instructions are executed, and another one behind them: the sequence has the entries 9 and 10
 left : acts_made (played program (registered ++ replicate 3 (line 0 asked.Exec)))
     ≡ Ok (beginning ++ act 0 9 10 (Sequence ends.Left) ∷ act 0 11 11 Step ∷ [])
-unfolding acts_of played decide history done meaning row_of rows lui_rows auipc_rows jal_rows jalr_rows branch_rows load_rows store_rows op_imm_rows op_imm_32_rows op_rows op_32_rows misc_mem_rows amo_rows system_rows are_readable number_at
+unfolding acts_of played decide history done meaning row_of rows are_readable number_at
 left = refl
 
 -- UNENDED, AND CUT
@@ -96,13 +83,13 @@ abbrev preempted : List Ask
 preempted = registered ++ line 0 asked.Exec ∷ line 0 asked.Preempt ∷ []
 
 unended : acts_made (played program preempted) ≡ Ok (beginning ++ act 0 9 9 (Sequence ends.Unended) ∷ act 0 10 10 Kernel ∷ [])
-unfolding acts_of played decide history done meaning row_of rows lui_rows auipc_rows jal_rows jalr_rows branch_rows load_rows store_rows op_imm_rows op_imm_32_rows op_rows op_32_rows misc_mem_rows amo_rows system_rows are_readable number_at
+unfolding acts_of played decide history done meaning row_of rows are_readable number_at
 unended = refl
 
 -- its thread begins to run on the other hart: it is sent to the abort handler, whose instruction is a step
 cut : acts_made (played program (preempted ++ runs 1 1 ∷ line 1 asked.Exec ∷ []))
     ≡ Ok (beginning ++ act 0 9 9 (Sequence (ends.Cut 0x100DC)) ∷ act 0 10 10 Kernel ∷ act 1 11 11 Kernel ∷ act 1 12 12 Step ∷ [])
-unfolding acts_of played decide history done meaning row_of rows lui_rows auipc_rows jal_rows jalr_rows branch_rows load_rows store_rows op_imm_rows op_imm_32_rows op_rows op_32_rows misc_mem_rows amo_rows system_rows are_readable number_at
+unfolding acts_of played decide history done meaning row_of rows are_readable number_at
 cut = refl
 
 -- WHAT AN EVENT MAKES OF THE SEQUENCES
@@ -122,28 +109,28 @@ left_made (Err n) = Err n
 
 -- the sequence begins with entry 9, goes on with entry 10, and has ended with entry 11, which isn't of it
 begins_at_nine : turns_made (played program (registered ++ replicate 1 (line 0 asked.Exec))) ≡ Ok (Begins (record { start = 0x100CC; length = 8; abort = 0x100DC }) ∷ [])
-unfolding played decide history done meaning row_of rows lui_rows auipc_rows jal_rows jalr_rows branch_rows load_rows store_rows op_imm_rows op_imm_32_rows op_rows op_32_rows misc_mem_rows amo_rows system_rows are_readable number_at
+unfolding played decide history done meaning row_of rows are_readable number_at
 begins_at_nine = refl
 
 goes_on_at_ten : turns_made (played program (registered ++ replicate 2 (line 0 asked.Exec))) ≡ Ok []
-unfolding played decide history done meaning row_of rows lui_rows auipc_rows jal_rows jalr_rows branch_rows load_rows store_rows op_imm_rows op_imm_32_rows op_rows op_32_rows misc_mem_rows amo_rows system_rows are_readable number_at
+unfolding played decide history done meaning row_of rows are_readable number_at
 goes_on_at_ten = refl
 
 left_at_eleven : turns_made (played program (registered ++ replicate 3 (line 0 asked.Exec))) ≡ Ok (Ends (act 0 9 10 (Sequence ends.Left)) ∷ [])
-unfolding played decide history done meaning row_of rows lui_rows auipc_rows jal_rows jalr_rows branch_rows load_rows store_rows op_imm_rows op_imm_32_rows op_rows op_32_rows misc_mem_rows amo_rows system_rows are_readable number_at
+unfolding played decide history done meaning row_of rows are_readable number_at
 left_at_eleven = refl
 
 -- it hangs with entry 10, and no event has ended it; then entry 11, by which its thread begins to run on the other hart, has
 hangs_at_ten : turns_made (played program preempted) ≡ Ok []
-unfolding played decide history done meaning row_of rows lui_rows auipc_rows jal_rows jalr_rows branch_rows load_rows store_rows op_imm_rows op_imm_32_rows op_rows op_32_rows misc_mem_rows amo_rows system_rows are_readable number_at
+unfolding played decide history done meaning row_of rows are_readable number_at
 hangs_at_ten = refl
 
 left_open : left_made (played program preempted) ≡ Ok (act 0 9 9 (Sequence ends.Unended) ∷ [])
-unfolding played decide history done meaning row_of rows lui_rows auipc_rows jal_rows jalr_rows branch_rows load_rows store_rows op_imm_rows op_imm_32_rows op_rows op_32_rows misc_mem_rows amo_rows system_rows are_readable number_at
+unfolding played decide history done meaning row_of rows are_readable number_at
 left_open = refl
 
 cut_at_eleven : turns_made (played program (preempted ++ runs 1 1 ∷ [])) ≡ Ok (Ends (act 0 9 9 (Sequence (ends.Cut 0x100DC))) ∷ [])
-unfolding played decide history done meaning row_of rows lui_rows auipc_rows jal_rows jalr_rows branch_rows load_rows store_rows op_imm_rows op_imm_32_rows op_rows op_32_rows misc_mem_rows amo_rows system_rows are_readable number_at
+unfolding played decide history done meaning row_of rows are_readable number_at
 cut_at_eleven = refl
 
 -- COUNTS
@@ -156,7 +143,7 @@ counts_made h (Err n) = Err n
 counted : map (λ h. counts_made h (acts_made (played program (preempted ++ runs 1 1 ∷ line 1 asked.Exec ∷ [])))) (0 ∷ 1 ∷ [])
     ≡ Ok (record { step = 7; left = 0; cut = 1; dropped = 0; dead = 0; unended = 0; kernel = 2 })
     ∷ Ok (record { step = 1; left = 0; cut = 0; dropped = 0; dead = 0; unended = 0; kernel = 1 }) ∷ []
-unfolding acts_of played decide history done meaning row_of rows lui_rows auipc_rows jal_rows jalr_rows branch_rows load_rows store_rows op_imm_rows op_imm_32_rows op_rows op_32_rows misc_mem_rows amo_rows system_rows are_readable number_at
+unfolding acts_of played decide history done meaning row_of rows are_readable number_at
 counted = refl
 
 -- THE LAW THAT BLOCK RUNS ARE VIEWED
@@ -169,13 +156,13 @@ abbrev short_log : List Entry
 short_log = entry kind.Run 0x100B0 ∷ entry kind.Exec 0x100B0 ∷ []
 
 short_run : IsBlockRun program short_log
-unfolding decide history done meaning row_of rows lui_rows auipc_rows jal_rows jalr_rows branch_rows load_rows store_rows op_imm_rows op_imm_32_rows op_rows op_32_rows misc_mem_rows amo_rows system_rows are_readable number_at
+unfolding decide history done meaning row_of rows are_readable number_at
 short_run = block_run program short_log ((tt, refl, refl), refl, refl)
 
 none_refused : played program (script_of short_log) ≡ Ok short_log
-unfolding played decide history done meaning row_of rows lui_rows auipc_rows jal_rows jalr_rows branch_rows load_rows store_rows op_imm_rows op_imm_32_rows op_rows op_32_rows misc_mem_rows amo_rows system_rows are_readable number_at
+unfolding played decide history done meaning row_of rows are_readable number_at
 none_refused = refl
 
 acts_of_short : acts_of program short_log ≡ act 0 1 1 Kernel ∷ act 0 2 2 Step ∷ []
-unfolding acts_of decide history done meaning row_of rows lui_rows auipc_rows jal_rows jalr_rows branch_rows load_rows store_rows op_imm_rows op_imm_32_rows op_rows op_32_rows misc_mem_rows amo_rows system_rows are_readable number_at
+unfolding acts_of decide history done meaning row_of rows are_readable number_at
 acts_of_short = refl

@@ -3,12 +3,9 @@
 ghost use Rattle.std.specs.Prelude.{ℕ, List, ◌≡◌, ◌+◌, ◌==◌, All, Some, filter, length, map, slice_get};
 ghost use Rattle.std.specs.List.Sorted.{IsStrictlyIncreasing};
 ghost use Rattle.mach_types.specs.declared.events.Entry.{Entry};
-ghost use Rattle.block_model.specs.Run.{IsBlockRun};
-ghost use Rattle.block_model.specs.Setting.{Setting};
-ghost use Rattle.block_view.specs.Acts.{acts_of};
-ghost use Rattle.block_view.specs.Counting.{counts_of, total};
-ghost use Rattle.block_view.specs.Entries.{HasEntry, IsWithin};
-ghost use Rattle.block_view.specs.Viewing.{IsViewCause};
+ghost use Rattle.block_model.specs.{Run.IsBlockRun, Setting.Setting};
+ghost use Rattle.block_view.specs.{Acts.acts_of, Counting.counts_of, Counting.total};
+ghost use Rattle.block_view.specs.{Entries.HasEntry, Entries.IsWithin, Viewing.IsViewCause};
 ghost use Rattle.block_view.specs.declared.forms.Act.{Act};
 ghost use Rattle.block_view.specs.declared.viewing.ViewFault.TheVariants.{NotARun};
 

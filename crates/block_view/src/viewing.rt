@@ -4,12 +4,9 @@ ghost use Rattle.std.specs.Prelude.{◌≡◌, [], map, IfOk, IfErr, OnOk};
 ghost use Rattle.mach_types.specs.Limits.{InRange};
 ghost use Rattle.elf_load.specs.Images.{IsBootable};
 ghost use Rattle.block_model.specs.Deciding.{history};
-ghost use Rattle.block_view.specs.Counters.{AreCounts};
-ghost use Rattle.block_view.specs.Ledgers.{kept_in};
-ghost use Rattle.block_view.specs.Standing.{at_the_end, standings};
-ghost use Rattle.block_view.specs.Tied.{IsTied};
-ghost use Rattle.block_model.specs.Run.{IsBlockRun};
-ghost use Rattle.block_model.specs.Setting.{setting_of};
+ghost use Rattle.block_view.specs.{Counters.AreCounts, Ledgers.kept_in};
+ghost use Rattle.block_view.specs.{Standing.at_the_end, Standing.standings, Tied.IsTied};
+ghost use Rattle.block_model.specs.{Run.IsBlockRun, Setting.setting_of};
 ghost use Rattle.block_view.specs.Viewing.{AreActs, IsViewCause};
 
 use crate::counter::Counter;

@@ -3,8 +3,7 @@
 ghost use Rattle.std.specs.Prelude.{◌≡◌, ◌<◌, All, IfOk};
 ghost use Rattle.mach_types.specs.Limits.{InRange};
 ghost use Rattle.elf_load.specs.Images.{IsBootable};
-ghost use Rattle.block_model.specs.Run.{IsBlockRun};
-ghost use Rattle.block_model.specs.Setting.{setting_of};
+ghost use Rattle.block_model.specs.{Run.IsBlockRun, Setting.setting_of};
 ghost use Rattle.log_gather.specs.Gathered.{gathered};
 
 use block_view::ViewFault;

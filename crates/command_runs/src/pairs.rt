@@ -10,10 +10,8 @@ ghost use Rattle.place_text.specs.Ends.{number_line};
 ghost use Rattle.command_runs.specs.Playing.{IsPlayingPair};
 ghost use Rattle.outcomes.specs.Delivery.{IsPairPlayReason};
 ghost use Rattle.outcomes.specs.PairText.{pair_end_line, pair_output, pair_tail, state_line};
-ghost use Rattle.outcomes.specs.PlayedPairs.{IsWholePair};
-ghost use Rattle.outcomes.specs.Programs.{ask_of};
-ghost use Rattle.outcomes.specs.Reasons.{line_fault_of_pair, refusal_of_pair};
-ghost use Rattle.outcomes.specs.Text.{console_text};
+ghost use Rattle.outcomes.specs.{PlayedPairs.IsWholePair, Programs.ask_of};
+ghost use Rattle.outcomes.specs.{Reasons.line_fault_of_pair, Reasons.refusal_of_pair, Text.console_text};
 
 use crate::output::{Log, Output, push_console};
 use crate::scripts::is_as_said;

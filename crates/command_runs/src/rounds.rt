@@ -3,9 +3,7 @@
 ghost use Rattle.std.specs.Prelude.{◌≡◌, IfOk, length, nat_lt};
 ghost use Rattle.mach_types.specs.Limits.{InRange};
 ghost use Rattle.elf_load.specs.Images.{IsBootable};
-ghost use Rattle.block_model.specs.Choosing.{IsChosen};
-ghost use Rattle.block_model.specs.Run.{IsBlockRun};
-ghost use Rattle.block_model.specs.Setting.{setting_of};
+ghost use Rattle.block_model.specs.{Choosing.IsChosen, Run.IsBlockRun, Setting.setting_of};
 ghost use Rattle.outcomes.specs.Rounds.{IsWholeRounds, after_round};
 
 use elf_load::Image;

@@ -3,15 +3,12 @@
 ghost use Rattle.std.specs.Prelude.{◌≡◌, ◌<◌, true, false, Ok, Some, IfOk, IfErr, OnOk, IsTrue, length};
 ghost use Rattle.mach_types.specs.Limits.{InRange};
 ghost use Rattle.elf_load.specs.Images.{IsBootable};
-ghost use Rattle.block_model.specs.Replay.{is_as_said, made_by, extended};
-ghost use Rattle.block_model.specs.Setting.{setting_of};
+ghost use Rattle.block_model.specs.{Replay.is_as_said, Replay.made_by, Replay.extended, Setting.setting_of};
 ghost use Rattle.block_view.specs.Counters.{AreCounts, IsCountOf, kept_counts};
 ghost use Rattle.block_view.specs.Passing.{IsMadeAgain};
 ghost use Rattle.outcomes.specs.Delivery.{IsPlayReason};
 ghost use Rattle.command_runs.specs.Playing.{IsPlaying};
-ghost use Rattle.outcomes.specs.Programs.{ask_of};
-ghost use Rattle.outcomes.specs.Reasons.{line_fault};
-ghost use Rattle.outcomes.specs.Runs.{IsWholePlay};
+ghost use Rattle.outcomes.specs.{Programs.ask_of, Reasons.line_fault, Runs.IsWholePlay};
 
 use block_view::{Counter, Counts, Passed, step_seen};
 use elf_load::Image;

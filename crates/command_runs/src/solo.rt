@@ -4,9 +4,7 @@
 ghost use Rattle.std.specs.Prelude.{◌≡◌, ◌<◌, Some, IfOk};
 ghost use Rattle.mach_types.specs.Limits.{InRange};
 ghost use Rattle.elf_load.specs.Images.{IsBootable};
-ghost use Rattle.block_model.specs.Deciding.{history};
-ghost use Rattle.block_model.specs.Solo.{solo_choice, solo_rule};
-ghost use Rattle.block_model.specs.Setting.{setting_of};
+ghost use Rattle.block_model.specs.{Deciding.history, Solo.solo_choice, Solo.solo_rule, Setting.setting_of};
 ghost use Rattle.outcomes.specs.Runs.{IsSoloSoFar, IsSoloTurn, IsWholeSolo};
 
 use elf_load::Image;

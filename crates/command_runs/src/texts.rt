@@ -3,8 +3,7 @@
 ghost use Rattle.std.specs.Prelude.{◌≡◌, IfOk};
 ghost use Rattle.mach_types.specs.Limits.{InRange};
 ghost use Rattle.elf_load.specs.Images.{IsBootable};
-ghost use Rattle.block_model.specs.Run.{IsBlockRun};
-ghost use Rattle.block_model.specs.Setting.{setting_of};
+ghost use Rattle.block_model.specs.{Run.IsBlockRun, Setting.setting_of};
 ghost use Rattle.block_view.specs.Counters.{AreCounts};
 ghost use Rattle.command_words.specs.Kept.{run_said, shown_said};
 ghost use Rattle.outcomes.specs.Guests.{tried_text};

@@ -1,7 +1,7 @@
 -- What a policy may let a hart do, by what is seen of it at a good place, isn't refused there.
-use Rattle.std.proofs.Common.{◌≡◌, ℕ, ◌%◌, ◌^◌, ◌<◌, ◌||◌, Bool, true, false, not, cond, eqb, ltb, List, [], ◌∷◌, length, Option, Some, None, is_none, is_some, refl, sym, ap, ◌∙◌, subst, arith}
+use Rattle.std.proofs.Common.{◌≡◌, ℕ, ◌%◌, ◌^◌, ◌<◌, ◌||◌, Bool, true, false, eqb, ltb, List, [], ◌∷◌, length, Option, Some, None, is_none, is_some, refl, sym, ap, ◌∙◌, subst}
 use Rattle.std.specs.List.{list_any}
-use Rattle.std.proofs.lemmas.Bool.{and_parts, eqb-true, false≢true, lt-ltb}
+use Rattle.std.proofs.lemmas.Bool.{and_parts, eqb-true, false≢true}
 use Rattle.std.proofs.lemmas.Map.Views.{any-filter_same}
 use Rattle.mach_types.specs.Kernel.Scheduling.{Scheduling, affinity_of, has_hart}
 use Rattle.mach_types.specs.Kernel.Signals.{next_for}
@@ -9,15 +9,13 @@ use Rattle.mach_types.specs.Kernel.Threads.{is_ready}
 use Rattle.mach_types.specs.declared.events.Choice.{Choice}
 use Rattle.mach_types.specs.declared.events.Choice.TheVariants as asked
 use Rattle.mach_types.specs.declared.events.Entry.{Entry}
-use Rattle.mach_types.specs.declared.events.Why.TheVariants.{NoRequest}
 use Rattle.mach_types.specs.declared.user_memory.Store.{Store}
 use Rattle.draw_policies.specs.Conditions.{IsAllowed, IsInterruptible, IsSettled}
 use Rattle.drawings.specs.Scenes.{may_begin, startable}
 use Rattle.block_model.specs.Deciding.{history}
 use Rattle.block_model.specs.Events.{refusal_of}
-use Rattle.block_model.specs.Events.Drain.{refusal_drain_of}
 use Rattle.block_model.specs.Events.Exec.{refusal_exec}
-use Rattle.block_model.specs.Events.Finish.{refusal_done_by, refusal_return}
+use Rattle.block_model.specs.Events.Finish.{refusal_done_by}
 use Rattle.block_model.specs.Events.Preempt.{refusal_preempt_by, unless_in_barrier, unless_waiting}
 use Rattle.block_model.specs.Events.Run.{refusal_run, refusal_run_by}
 use Rattle.block_model.specs.Events.Signal.{refusal_delivery, refusal_signal_by}
@@ -25,8 +23,8 @@ use Rattle.block_model.specs.Here.{Here, runs, waiting_here}
 use Rattle.block_model.specs.History.{here_in_history}
 use Rattle.block_model.specs.Run.{IsBlockRun}
 use Rattle.block_model.specs.Setting.{Seen, Setting}
-use Rattle.block_model.specs.Sights.{is_all_taken, is_deliverable_on, sight_in}
-use Rattle.block_model.proofs.Laws.{IsGoodHere, place_good, same_here}
+use Rattle.block_model.specs.Sights.{is_deliverable_on, sight_in}
+use Rattle.block_model.proofs.Laws.{IsGoodHere, drain_free, none_waits, place_good, return_free, same_here, take_free}
 use Rattle.drawn_runs.specs.DrawnRuns.{by_number}
 use Rattle.drawn_runs.proofs.ReadyNumbers.{listed_ready}
 
@@ -53,28 +51,6 @@ some_is (Some n) some = (n, refl)
 some_is_so : (o : Option ℕ) → is_some o ≡ true → (n : ℕ) × (o ≡ Some n)
 some_is_so None some = absurd (false≢true some)
 some_is_so (Some n) some = (n, refl)
-
-pub none_waits : (stores : List Store) → ltb 0 (length stores) ≡ false → stores ≡ []
-none_waits [] none = refl
-none_waits (w ∷ stores) none = absurd (false≢true (sym none ∙ lt-ltb 0 (length (w ∷ stores)) (omega arith)))
-
--- the oldest store may enter memory where one waits
-drain_free : (stores : List Store) → ltb 0 (length stores) ≡ true → refusal_drain_of stores ≡ None
-drain_free [] some = absurd (false≢true some)
-drain_free (w ∷ stores) some = refl
-
--- requests may be taken where some are pending and no store waits
-take_free : (here : Here) → not (eqb here.requests 0) ≡ true → waiting_here here ≡ [] → refusal_of asked.Take here ≡ None
-take_free here some none = go (eqb here.requests 0) some
-  where
-    go : (b : Bool) → not b ≡ true → cond b (Some NoRequest) (unless_waiting (waiting_here here)) ≡ None
-    go true bad = absurd (false≢true bad)
-    go false is = ap unless_waiting none
-
--- a barrier may return where no hart is left that has to take its request
-return_free : (awaits : Option ℕ) → is_all_taken awaits ≡ true → refusal_return awaits ≡ None
-return_free None none = absurd (false≢true none)
-return_free (Some left) all = rw all refl
 
 -- a thread that is among those that may begin to run on a hart passes the test of that, and is ready
 listed : (opened h t : ℕ) (s : Scheduling) → list_any (λ u. eqb u t) (startable opened h s) ≡ true

@@ -1,15 +1,15 @@
 -- A worked example, proved by computation: the facts of each line of a log.
-use Rattle.std.proofs.Common.{◌≡◌, ℕ, List, [], ◌∷◌, ◌++◌, replicate, refl}
+use Rattle.std.proofs.Common.{◌≡◌, ℕ, List, [], ◌∷◌, refl}
 use Rattle.mach_types.specs.Kernel.Areas.{are_readable, number_at}
 use Rattle.mach_types.specs.declared.events.Entry.{Entry}
-use Rattle.mach_types.specs.declared.events.Kind.{Kind}
 use Rattle.mach_types.specs.declared.events.Kind.TheVariants as kind
 use Rattle.mach_types.specs.declared.user_memory.Store.{Store}
 use Rattle.rv_inst.specs.Meaning.{meaning}
-use Rattle.rv_inst.specs.Table.{row_of, rows, lui_rows, auipc_rows, jal_rows, jalr_rows, branch_rows, load_rows, store_rows, op_imm_rows, op_imm_32_rows, op_rows, op_32_rows, misc_mem_rows, amo_rows, system_rows}
+use Rattle.rv_inst.specs.Table.{row_of, rows}
 use Rattle.block_model.specs.Deciding.{done, event}
 use Rattle.block_model.specs.History.{History}
 use Rattle.block_model.specs.Setting.{Setting}
+use Rattle.block_model.proofs.ExamplePrograms.{code_and_data, entry as by, within_frames}
 use Rattle.event_facts.specs.Facts.{facts_of, read_facts}
 use Rattle.event_facts.specs.declared.facts.Fact.{Fact}
 use Rattle.event_facts.specs.declared.facts.Fact.TheVariants.{Read, Waits, Entered, Reserved, Used, Failed, Ended, Register}
@@ -25,19 +25,7 @@ code =
     0x2F ∷ 0x25 ∷ 0x54 ∷ 0x18 ∷ []
 
 abbrev program : Setting
-program = record {
-  program = record {
-    pages = record { number = 0x10; perm = 5; bytes = replicate 0xB0 0 ++ code } ∷ record { number = 0x20; perm = 6; bytes = [] } ∷ [];
-    entry = 0x100B0;
-    phdr = 0x10040;
-    phnum = 2;
-    break_at = 0x21000;
-  };
-  limits = record { harts = 2; frames = 128; steps = 200000 };
-}
-
-abbrev by : Kind → ℕ → Entry
-by k pc = record { hart = record { 0 = 0 }; kind = k; tid = record { 0 = 1 }; pc = pc }
+program = within_frames 128 (code_and_data code)
 
 -- its store enters memory in line 7
 abbrev log : List Entry
@@ -77,5 +65,5 @@ all_told : told program [] log ≡
     ∷ (Entered small 0 14 ∷ Used 0x20008 ∷ Register 10 0 ∷ [])
     ∷ (Failed 0x20008 ∷ Register 10 1 ∷ [])
     ∷ []
-unfolding facts_of read_facts done meaning row_of rows lui_rows auipc_rows jal_rows jalr_rows branch_rows load_rows store_rows op_imm_rows op_imm_32_rows op_rows op_32_rows misc_mem_rows amo_rows system_rows are_readable number_at
+unfolding facts_of read_facts done meaning row_of rows are_readable number_at
 all_told = refl

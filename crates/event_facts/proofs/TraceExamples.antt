@@ -1,17 +1,18 @@
 -- Worked examples, proved by computation: what is told of each line of a log with system calls, of one with a fault, of one with two
 -- threads, of one with a signal, and of one with an area.
-use Rattle.std.proofs.Common.{◌≡◌, ℕ, ◌-◌, ◌^◌, List, [], ◌∷◌, ◌++◌, replicate, refl}
+use Rattle.std.proofs.Common.{◌≡◌, ℕ, ◌-◌, ◌^◌, List, [], ◌∷◌, ◌++◌, refl}
 use Rattle.mach_types.specs.Kernel.Areas.{are_readable, number_at}
 use Rattle.mach_types.specs.Kernel.Signals.{all_signals}
 use Rattle.mach_types.specs.declared.events.Entry.{Entry}
 use Rattle.mach_types.specs.declared.events.Kind.{Kind}
 use Rattle.mach_types.specs.declared.events.Kind.TheVariants as kind
 use Rattle.rv_inst.specs.Meaning.{meaning}
-use Rattle.rv_inst.specs.Table.{row_of, rows, lui_rows, auipc_rows, jal_rows, jalr_rows, branch_rows, load_rows, store_rows, op_imm_rows, op_imm_32_rows, op_rows, op_32_rows, misc_mem_rows, amo_rows, system_rows}
+use Rattle.rv_inst.specs.Table.{row_of, rows}
 use Rattle.block_model.specs.Deciding.{done, end_of, event}
 use Rattle.block_model.specs.History.{History}
 use Rattle.block_model.specs.Setting.{Setting}
 use Rattle.block_model.specs.Sights.{thread}
+use Rattle.block_model.proofs.ExamplePrograms.{code_and_data, entry as by, entry_of, within_frames}
 use Rattle.event_facts.specs.Facts.{facts_of, read_facts}
 use Rattle.event_facts.specs.OtherRegisters.{other_registers}
 use Rattle.event_facts.specs.Pending.{signal_facts}
@@ -28,22 +29,10 @@ use Rattle.event_facts.specs.declared.threads.ThreadChange.TheVariants.{Created,
 
 -- a program of these instructions, which stand at 0x100B0, with a page of zeros at 0x20000
 abbrev program : List ℕ → Setting
-program code = record {
-  program = record {
-    pages = record { number = 0x10; perm = 5; bytes = replicate 0xB0 0 ++ code } ∷ record { number = 0x20; perm = 6; bytes = [] } ∷ [];
-    entry = 0x100B0;
-    phdr = 0x10040;
-    phnum = 2;
-    break_at = 0x21000;
-  };
-  limits = record { harts = 2; frames = 128; steps = 200000 };
-}
+program code = within_frames 128 (code_and_data code)
 
 abbrev by_thread : ℕ → Kind → ℕ → Entry
-by_thread t k pc = record { hart = record { 0 = 0 }; kind = k; tid = thread t; pc = pc }
-
-abbrev by : Kind → ℕ → Entry
-by k pc = by_thread 1 k pc
+by_thread t k pc = entry_of 0 k t pc
 
 -- what became of a thread
 abbrev became : ℕ → ThreadChange → Fact
@@ -82,13 +71,13 @@ calls_told : told (program calls) [] log ≡
     ∷ (Register 17 93 ∷ [])
     ∷ (Called (call_with 93 (2 ^ 64 - 38)) ∷ NoAnswer ∷ [])
     ∷ []
-unfolding trace_of signal_facts thread_facts other_registers facts_of read_facts done end_of meaning row_of rows lui_rows auipc_rows jal_rows jalr_rows branch_rows load_rows store_rows op_imm_rows op_imm_32_rows op_rows op_32_rows misc_mem_rows amo_rows system_rows are_readable number_at
+unfolding trace_of signal_facts thread_facts other_registers facts_of read_facts done end_of meaning row_of rows are_readable number_at
 calls_told = refl
 
 -- it loads 8 bytes at 8, where nothing can be read: SIGSEGV, which is 11
 fault_told : told (program (0x03 ∷ 0x33 ∷ 0x80 ∷ 0x00 ∷ [])) [] (by kind.Run 0x100B0 ∷ by kind.Exec 0x100B0 ∷ [])
     ≡ (Interrupted Nothing ∷ became 1 Runs ∷ []) ∷ (Faulted 11 NotReadable 8 ∷ []) ∷ []
-unfolding trace_of signal_facts thread_facts other_registers facts_of read_facts done end_of meaning row_of rows lui_rows auipc_rows jal_rows jalr_rows branch_rows load_rows store_rows op_imm_rows op_imm_32_rows op_rows op_32_rows misc_mem_rows amo_rows system_rows are_readable number_at
+unfolding trace_of signal_facts thread_facts other_registers facts_of read_facts done end_of meaning row_of rows are_readable number_at
 fault_told = refl
 
 -- it makes a thread by clone with the flags that must be given. It leaves its hart, where the child runs then and exits
@@ -116,7 +105,7 @@ threads_told : told (program child) [] child_log ≡
     ∷ (Register 17 93 ∷ [])
     ∷ (Called (call_of 93 0) ∷ NoAnswer ∷ became 2 Ended ∷ [])
     ∷ []
-unfolding trace_of signal_facts thread_facts other_registers facts_of read_facts done end_of meaning row_of rows lui_rows auipc_rows jal_rows jalr_rows branch_rows load_rows store_rows op_imm_rows op_imm_32_rows op_rows op_32_rows misc_mem_rows amo_rows system_rows are_readable number_at
+unfolding trace_of signal_facts thread_facts other_registers facts_of read_facts done end_of meaning row_of rows are_readable number_at
 threads_told = refl
 
 -- it sends itself SIGUSR1, which is 10, by tkill; that has no handler
@@ -136,7 +125,7 @@ signals_told : told (program sends) [] signal_log ≡
     ∷ (Called (record { number = 130; arguments = 1 ∷ 10 ∷ 0 ∷ 0 ∷ 0 ∷ 0 ∷ [] }) ∷ Answered 0 ∷ SignalPosted 10 (thread 1) ∷ Register 10 0 ∷ [])
     ∷ (Interrupted Nothing ∷ DeliveryKills 10 ∷ [])
     ∷ []
-unfolding all_signals trace_of signal_facts thread_facts other_registers facts_of read_facts done end_of meaning row_of rows lui_rows auipc_rows jal_rows jalr_rows branch_rows load_rows store_rows op_imm_rows op_imm_32_rows op_rows op_32_rows misc_mem_rows amo_rows system_rows are_readable number_at
+unfolding all_signals trace_of signal_facts thread_facts other_registers facts_of read_facts done end_of meaning row_of rows are_readable number_at
 signals_told = refl
 
 -- it registers the area at 0x20000 by rseq, which is call 293. It leaves its hart, and goes on on hart 1
@@ -166,5 +155,5 @@ areas_told : told (program registers) [] area_log ≡
     ∷ (became 1 MadeReady ∷ [])
     ∷ (Interrupted Nothing ∷ became 1 Runs ∷ AreaWord CpuIdStart 1 ∷ AreaWord CpuId 1 ∷ words 7 1)
     ∷ []
-unfolding trace_of signal_facts thread_facts other_registers facts_of read_facts done end_of meaning row_of rows lui_rows auipc_rows jal_rows jalr_rows branch_rows load_rows store_rows op_imm_rows op_imm_32_rows op_rows op_32_rows misc_mem_rows amo_rows system_rows are_readable number_at
+unfolding trace_of signal_facts thread_facts other_registers facts_of read_facts done end_of meaning row_of rows are_readable number_at
 areas_told = refl

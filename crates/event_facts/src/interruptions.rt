@@ -5,8 +5,7 @@ ghost use Rattle.std.specs.Prelude.{◌≡◌, ◌<◌, ◌++◌, OnOk};
 ghost use Rattle.mach_types.specs.Bytes.{IsAccessSize};
 ghost use Rattle.block_model.specs.Here.{view};
 ghost use Rattle.event_facts.specs.Interruptions as spec;
-ghost use Rattle.event_facts.specs.Interruptions.{interrupted_facts};
-ghost use Rattle.event_facts.specs.Telling.{here_on};
+ghost use Rattle.event_facts.specs.{Interruptions.interrupted_facts, Telling.here_on};
 
 use crate::deeds::Range;
 use crate::facts::Fact;

@@ -3,9 +3,7 @@
 ghost use Rattle.std.specs.Prelude.{◌≡◌, ◌++◌, None, Some, IfOk, OnOk};
 ghost use Rattle.std.specs.List.{flat_map, range_with_len};
 ghost use Rattle.event_facts.specs.KernelEvents as spec;
-ghost use Rattle.event_facts.specs.KernelEvents.{lost_from};
-ghost use Rattle.event_facts.specs.Reservations.{lost_facts};
-ghost use Rattle.event_facts.specs.Telling.{past_of};
+ghost use Rattle.event_facts.specs.{KernelEvents.lost_from, Reservations.lost_facts, Telling.past_of};
 
 use crate::facts::Fact;
 use crate::reservations::takes;

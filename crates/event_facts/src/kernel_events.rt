@@ -1,16 +1,11 @@
 //! An event that isn't plain is made, and what came of it is told.
 
 ghost use Rattle.std.specs.Prelude.{◌≡◌, ◌<◌, ◌++◌, ◌∷◌, [], Some, None, false, IfOk, OnOk};
-ghost use Rattle.mach_types.specs.Events.{choice_of};
-ghost use Rattle.mach_types.specs.Limits.{InRange};
-ghost use Rattle.block_model.specs.Events.{done_of};
-ghost use Rattle.block_model.specs.PlainEvents.{is_plain};
-ghost use Rattle.block_model.specs.Run.{IsBlockRun};
-ghost use Rattle.event_facts.specs.Calls.{call_by};
-ghost use Rattle.event_facts.specs.KernelEvents.{kernel_facts};
+ghost use Rattle.mach_types.specs.{Events.choice_of, Limits.InRange};
+ghost use Rattle.block_model.specs.{Events.done_of, PlainEvents.is_plain, Run.IsBlockRun};
+ghost use Rattle.event_facts.specs.{Calls.call_by, KernelEvents.kernel_facts};
 ghost use Rattle.event_facts.specs.Telling.{IsDecided, here_on, past_of, plain_event_of};
-ghost use Rattle.event_facts.specs.Tied.{AreLinesOf};
-ghost use Rattle.event_facts.specs.Trace.{trace_of};
+ghost use Rattle.event_facts.specs.{Tied.AreLinesOf, Trace.trace_of};
 
 use crate::calls::SystemCall;
 use crate::facts::Fact;

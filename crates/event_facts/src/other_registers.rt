@@ -2,8 +2,7 @@
 
 ghost use Rattle.std.specs.Prelude.{◌≡◌, ℕ, ◌-◌, ◌++◌, None, IfOk, OnOk, slice_get, unwrap_or};
 ghost use Rattle.std.specs.List.{flat_map, range_with_len};
-ghost use Rattle.mach_types.specs.Kernel.Threads.{state_of};
-ghost use Rattle.mach_types.specs.declared.threads.Saved.{Saved as File};
+ghost use Rattle.mach_types.specs.{Kernel.Threads.state_of, declared.threads.Saved.Saved as File};
 ghost use Rattle.block_model.specs.Here.{Here, runs};
 ghost use Rattle.process.specs.Harts.{file_on};
 ghost use Rattle.sys_calls.specs.Made.{AreSaved};

@@ -4,8 +4,7 @@ ghost use Rattle.std.specs.Prelude.{◌≡◌, ◌<◌, ◌++◌, OnOk};
 ghost use Rattle.mach_types.specs.Events.{choice_of};
 ghost use Rattle.event_facts.specs.Facts.{changed_registers};
 ghost use Rattle.event_facts.specs.KernelEvents as spec;
-ghost use Rattle.event_facts.specs.KernelEvents.{changed_own};
-ghost use Rattle.event_facts.specs.Telling.{here_on};
+ghost use Rattle.event_facts.specs.{KernelEvents.changed_own, Telling.here_on};
 
 use crate::calls::is_it;
 use crate::facts::Fact;

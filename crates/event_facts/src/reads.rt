@@ -7,9 +7,7 @@ ghost use Rattle.rv_inst.specs.Execution.{word_seen};
 ghost use Rattle.block_model.specs.Here.{view};
 ghost use Rattle.event_facts.specs.Deeds.{bytes_of_read};
 ghost use Rattle.event_facts.specs.Facts.{byte_fact, is_of_one, read_facts, reading_of};
-ghost use Rattle.event_facts.specs.Telling.{here_on};
-ghost use Rattle.event_facts.specs.Tied.{kept_source};
-ghost use Rattle.event_facts.specs.Written.{IsWordOf};
+ghost use Rattle.event_facts.specs.{Telling.here_on, Tied.kept_source, Written.IsWordOf};
 
 use crate::deeds::Range;
 use crate::facts::{Fact, Source};

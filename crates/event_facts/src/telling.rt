@@ -1,10 +1,7 @@
 //! A plain event is made, and what came of it is told.
 
 ghost use Rattle.std.specs.Prelude.{◌≡◌, ◌<◌, ◌++◌, ◌&&◌, ◌∷◌, [], Some, None, IfSome, OnOk, if◌then◌else◌, is_none, length, map, not, option_to_list, true};
-ghost use Rattle.mach_types.specs.Bytes.{IsAccessSize};
-ghost use Rattle.mach_types.specs.Events.{choice_of};
-ghost use Rattle.mach_types.specs.Limits.{InRange};
-ghost use Rattle.mach_types.specs.Registers.{register};
+ghost use Rattle.mach_types.specs.{Bytes.IsAccessSize, Events.choice_of, Limits.InRange, Registers.register};
 ghost use Rattle.mach_types.specs.declared.events.Choice.TheVariants as asked;
 ghost use Rattle.rv_inst.specs.Class.{is_call};
 ghost use Rattle.rv_inst.specs.Execution.{word_seen};

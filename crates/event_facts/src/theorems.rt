@@ -1,16 +1,11 @@
 //! Laws of lines, each as the contract of a function that does nothing.
 
 ghost use Rattle.std.specs.Prelude.{◌≡◌, ℕ, List, Some};
-ghost use Rattle.mach_types.specs.Events.{choice_of};
-ghost use Rattle.mach_types.specs.declared.events.Entry.{Entry};
-ghost use Rattle.block_model.specs.Deciding.{history};
-ghost use Rattle.block_model.specs.History.{History, here_in_history};
-ghost use Rattle.block_model.specs.Run.{IsBlockRun};
-ghost use Rattle.block_model.specs.Setting.{Setting};
-ghost use Rattle.event_facts.specs.Facts.{facts_of};
-ghost use Rattle.event_facts.specs.Telling.{plain_event_of};
-ghost use Rattle.event_facts.specs.Told.{AreExecuted, AreWaiting, IsAsWritten};
-ghost use Rattle.event_facts.specs.Trace.{trace_of};
+ghost use Rattle.mach_types.specs.{Events.choice_of, declared.events.Entry.Entry};
+ghost use Rattle.block_model.specs.{Deciding.history, History.History, History.here_in_history};
+ghost use Rattle.block_model.specs.{Run.IsBlockRun, Setting.Setting};
+ghost use Rattle.event_facts.specs.{Facts.facts_of, Telling.plain_event_of};
+ghost use Rattle.event_facts.specs.{Told.AreExecuted, Told.AreWaiting, Told.IsAsWritten, Trace.trace_of};
 ghost use Rattle.event_facts.specs.declared.telling.PlainEvent.{PlainEvent};
 
 /// After a block run the stores that are told to wait on a hart are those that wait there, in their order, and

@@ -1,62 +1,22 @@
 //! Tests of `rseq_area`: worked rows, with values found by hand from the layout of the two structures.
 
+use crate::memories::{
+    ABORT, AREA, BEFORE_ABORT, DESCRIPTOR, LENGTH, POINTER, SIGNATURE, START, UNUSED, good_memory,
+    put,
+};
 use mach_types::errors::{EBUSY, EFAULT, EINVAL, EPERM};
 use mach_types::{Area, BadWhy, Errno, FlatMemory, Named, Seq, UserMem};
 use rseq_area::{looked_at, lowest_cid, named, register, set_cpu, unregister};
 
-/// The signature that librseq has on RISC-V.
-const SIGNATURE: u32 = 0xF140_1073;
-
-/// The area of the tests.
-const AREA: Area = Area {
-    at: 0x1000,
-    sig: SIGNATURE,
-};
-
-/// What it names: 12 bytes from 0x400000 on, with the abort handler at 0x1050.
+/// What the area names: 12 bytes from 0x400000 on, with the abort handler at 0x1050.
 const GOOD: Named = Named::Good(Seq {
     start: 0x40_0000,
     length: 12,
     abort: 0x1050,
 });
 
-/// Where `rseq_cs` of the area stands.
-const POINTER: u64 = 0x1008;
-
 /// Where `flags` of the area stands.
 const AREA_FLAGS: u64 = 0x1010;
-
-/// Where the descriptor stands: its version, and in the upper half of the word its flags.
-const DESCRIPTOR: u64 = 0x1020;
-
-/// Where `start_ip`, `post_commit_offset` and `abort_ip` of the descriptor stand.
-const START: u64 = 0x1028;
-
-const LENGTH: u64 = 0x1030;
-
-const ABORT: u64 = 0x1038;
-
-/// Where the word stands whose upper half is the signature before the abort handler.
-const BEFORE_ABORT: u64 = 0x1048;
-
-/// Bytes that nobody looks at.
-const UNUSED: u64 = 0x1070;
-
-/// Stores 8 bytes.
-fn put(memory: &mut FlatMemory, at: u64, value: u64) {
-    let _written = memory.set(at, 8, value);
-}
-
-/// A memory in which the area names a good sequence.
-fn good_memory() -> FlatMemory {
-    let mut memory = FlatMemory::new(1024);
-    put(&mut memory, POINTER, DESCRIPTOR);
-    put(&mut memory, START, 0x40_0000);
-    put(&mut memory, LENGTH, 12);
-    put(&mut memory, ABORT, 0x1050);
-    put(&mut memory, BEFORE_ABORT, 0xF140_1073 << 32);
-    memory
-}
 
 /// A word that is changed, a pc, and what the area then names.
 type Row = (u64, u64, u64, Named);

@@ -59,46 +59,31 @@ const LOCAL: Sight = Sight {
     ..RUNNING
 };
 
-/// Events without credit.
-const RUN: Pick = Pick {
-    choice: Choice::Run(Tid(7)),
-    credit: 0,
-};
+/// An event, and so much credit for those that follow.
+macro_rules! picked {
+    ($choice:expr, $credit:expr) => {
+        Pick { choice: $choice, credit: $credit }
+    };
+}
 
-const PREEMPT: Pick = Pick {
-    choice: Choice::Preempt,
-    credit: 0,
-};
+const RUN: Pick = picked!(Choice::Run(Tid(7)), 0);
 
-const DRAIN: Pick = Pick {
-    choice: Choice::Drain,
-    credit: 0,
-};
+const PREEMPT: Pick = picked!(Choice::Preempt, 0);
 
-const SIGNAL: Pick = Pick {
-    choice: Choice::Signal,
-    credit: 0,
-};
+const DRAIN: Pick = picked!(Choice::Drain, 0);
 
-const TAKE: Pick = Pick {
-    choice: Choice::Take,
-    credit: 0,
-};
+const SIGNAL: Pick = picked!(Choice::Signal, 0);
 
-const DONE: Pick = Pick {
-    choice: Choice::Done,
-    credit: 0,
-};
+const TAKE: Pick = picked!(Choice::Take, 0);
 
-const EXEC: Pick = Pick {
-    choice: Choice::Exec,
-    credit: 0,
-};
+const DONE: Pick = picked!(Choice::Done, 0);
 
-/// An instruction, and so much credit for those that follow.
+const EXEC: Pick = picked!(Choice::Exec, 0);
+
+/// An instruction, and so much credit.
 macro_rules! executed {
     ($credit:expr) => {
-        Pick { credit: $credit, ..EXEC }
+        picked!(Choice::Exec, $credit)
     };
 }
 

@@ -1,54 +1,23 @@
 //! Tests of `rseq_abort`: worked rows, with values found by hand from the layout of the two structures.
 
-use mach_types::{Area, BadWhy, FlatMemory, Outcome, UserMem};
+use crate::memories::{ABORT, AREA, BEFORE_ABORT, DESCRIPTOR, POINTER, UNUSED, good_memory, put};
+use mach_types::{Area, BadWhy, Outcome, UserMem};
 use rseq_abort::interrupt;
-
-/// The area of the tests.
-const AREA: Area = Area {
-    at: 0x1000,
-    sig: 0xF140_1073,
-};
-
-/// Where `rseq_cs` of the area stands.
-const POINTER: u64 = 0x1008;
-
-/// Where the descriptor stands, of the sequence of 12 bytes from 0x400000 on with its abort handler at
-/// 0x1050.
-const DESCRIPTOR: u64 = 0x1020;
-
-/// Where the word stands whose upper half is the signature before the abort handler.
-const BEFORE_ABORT: u64 = 0x1048;
-
-/// Stores 8 bytes.
-fn put(memory: &mut FlatMemory, at: u64, value: u64) {
-    let _written = memory.set(at, 8, value);
-}
-
-/// A memory in which the area names the sequence.
-fn good_memory() -> FlatMemory {
-    let mut memory = FlatMemory::new(1024);
-    put(&mut memory, POINTER, DESCRIPTOR);
-    put(&mut memory, DESCRIPTOR + 8, 0x40_0000);
-    put(&mut memory, DESCRIPTOR + 16, 12);
-    put(&mut memory, DESCRIPTOR + 24, 0x1050);
-    put(&mut memory, BEFORE_ABORT, 0xF140_1073 << 32);
-    memory
-}
 
 /// A word of the memory that is changed, a pc, what an interruption there comes to, and whether the pointer
 /// becomes 0.
 type Row = ((u64, u64), u64, Outcome, bool);
 
-/// Bytes that nobody looks at.
-const UNUSED: (u64, u64) = (0x1070, 0);
+/// Nothing is changed that anybody looks at.
+const UNCHANGED: (u64, u64) = (UNUSED, 0);
 
 const ROWS: [Row; 12] = [
-    (UNUSED, 0x40_0000, Outcome::Aborted(0x1050), true),
-    (UNUSED, 0x40_0004, Outcome::Aborted(0x1050), true),
-    (UNUSED, 0x40_000B, Outcome::Aborted(0x1050), true),
-    (UNUSED, 0x40_000C, Outcome::Cleared, true),
-    (UNUSED, 0x3F_FFFC, Outcome::Cleared, true),
-    (UNUSED, 0, Outcome::Cleared, true),
+    (UNCHANGED, 0x40_0000, Outcome::Aborted(0x1050), true),
+    (UNCHANGED, 0x40_0004, Outcome::Aborted(0x1050), true),
+    (UNCHANGED, 0x40_000B, Outcome::Aborted(0x1050), true),
+    (UNCHANGED, 0x40_000C, Outcome::Cleared, true),
+    (UNCHANGED, 0x3F_FFFC, Outcome::Cleared, true),
+    (UNCHANGED, 0, Outcome::Cleared, true),
     ((POINTER, 0), 0x40_0000, Outcome::Nothing, true),
     (
         (POINTER, 1 << 38),
@@ -58,7 +27,7 @@ const ROWS: [Row; 12] = [
     ),
     ((DESCRIPTOR, 1), 0, Outcome::Killed(BadWhy::Version), false),
     (
-        (DESCRIPTOR + 24, 0x40_0000),
+        (ABORT, 0x40_0000),
         0,
         Outcome::Killed(BadWhy::AbortInside),
         false,

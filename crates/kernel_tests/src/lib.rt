@@ -14,4 +14,6 @@ mod frames;
 #[cfg(test)]
 mod interruptions;
 #[cfg(test)]
+mod memories;
+#[cfg(test)]
 mod scheduling;

@@ -1,43 +1,25 @@
 -- Worked examples: three logs, proved by computation. They compute `gathered_by_spans`, which is `gathered`
 -- (proofs/GatheredByActs.antt).
-use Rattle.std.proofs.Common.{◌≡◌, ℕ, zero, suc, ◌+◌, List, [], ◌∷◌, ◌++◌, replicate, refl}
+use Rattle.std.proofs.Common.{◌≡◌, ℕ, zero, suc, ◌+◌, List, [], ◌∷◌, ◌++◌, refl}
 use Rattle.mach_types.specs.declared.events.Entry.{Entry}
-use Rattle.mach_types.specs.declared.events.Kind.{Kind}
 use Rattle.mach_types.specs.declared.events.Kind.TheVariants as kind
 use Rattle.mach_types.specs.Kernel.Areas.{are_readable, number_at}
 use Rattle.rv_inst.specs.Meaning.{meaning}
-use Rattle.rv_inst.specs.Table.{row_of, rows, lui_rows, auipc_rows, jal_rows, jalr_rows, branch_rows}
-use Rattle.rv_inst.specs.Table.{load_rows, store_rows, op_imm_rows, op_imm_32_rows, op_rows, op_32_rows}
-use Rattle.rv_inst.specs.Table.{misc_mem_rows, amo_rows, system_rows}
+use Rattle.rv_inst.specs.Table.{row_of, rows}
 use Rattle.block_model.specs.Deciding.{decide, done, history}
 use Rattle.block_model.specs.Setting.{Setting}
+use Rattle.block_model.proofs.ExamplePrograms.{code_and_data, entry_of}
 use Rattle.log_gather.specs.Facts.{place_after}
 use Rattle.log_gather.specs.Spans.{gather_span, gathered_by_spans, names_of}
 
-abbrev program_with : List ℕ → Setting
-program_with code = record {
-  program = record {
-    pages = record { number = 0x10; perm = 5; bytes = replicate 0xB0 0 ++ code }
-        ∷ record { number = 0x20; perm = 6; bytes = [] } ∷ [];
-    entry = 0x100B0;
-    phdr = 0x10040;
-    phnum = 2;
-    break_at = 0x21000;
-  };
-  limits = record { harts = 2; frames = 128; steps = 200000 };
-}
-
-abbrev entry_by : Kind → ℕ → ℕ → ℕ → Entry
-entry_by k h t at = record { hart = record { 0 = h }; kind = k; tid = record { 0 = t }; pc = at }
-
 abbrev x : ℕ → ℕ → ℕ → Entry
-x h t at = entry_by kind.Exec h t at
+x h t at = entry_of h kind.Exec t at
 
 abbrev d : ℕ → ℕ → ℕ → Entry
-d h t at = entry_by kind.Drain h t at
+d h t at = entry_of h kind.Drain t at
 
 abbrev r : ℕ → ℕ → ℕ → Entry
-r h t at = entry_by kind.Run h t at
+r h t at = entry_of h kind.Run t at
 
 -- the first thread starts the second, which goes to 0x10114
 abbrev starting : List ℕ
@@ -65,11 +47,11 @@ descriptor =
 -- the second thread does nothing, or it reads the number
 abbrev counting : Setting
 counting =
-    program_with (starting ++ adding ++ 0x6f ∷ 0x00 ∷ 0x00 ∷ 0x00 ∷ 0x00 ∷ 0x00 ∷ 0x00 ∷ 0x00 ∷ descriptor)
+    code_and_data (starting ++ adding ++ 0x6f ∷ 0x00 ∷ 0x00 ∷ 0x00 ∷ 0x00 ∷ 0x00 ∷ 0x00 ∷ 0x00 ∷ descriptor)
 
 abbrev reading : Setting
 reading =
-    program_with (starting ++ adding ++ 0x03 ∷ 0x33 ∷ 0x04 ∷ 0x04 ∷ 0x6f ∷ 0xf0 ∷ 0xdf ∷ 0xff ∷ descriptor)
+    code_and_data (starting ++ adding ++ 0x03 ∷ 0x33 ∷ 0x04 ∷ 0x04 ∷ 0x6f ∷ 0xf0 ∷ 0xdf ∷ 0xff ∷ descriptor)
 
 -- so many instructions of a thread, one word behind the other
 abbrev xs : ℕ → ℕ → ℕ → ℕ → List Entry
@@ -100,7 +82,7 @@ reading_log = by_turns (x 1 2 0x10114) (x 1 2 0x10118) (x 1 2 0x10114)
 -- the first thread reserves the first bytes of its area before its sequence, and the second stores there
 abbrev reserving : Setting
 reserving =
-    program_with
+    code_and_data
     (starting
     ++ 0xb7 ∷ 0x04 ∷ 0x01 ∷ 0x00 ∷ 0xb7 ∷ 0x16 ∷ 0x40 ∷ 0xf1 ∷ 0x93 ∷ 0x86 ∷ 0x36 ∷ 0x07 ∷ 0x93 ∷ 0x08 ∷ 0x50
     ∷ 0x12 ∷ 0x73 ∷ 0x00 ∷ 0x00 ∷ 0x00 ∷ 0x93 ∷ 0x84 ∷ 0x04 ∷ 0x12 ∷ 0x2f ∷ 0x33 ∷ 0x04 ∷ 0x10 ∷ 0x23
@@ -114,7 +96,7 @@ reserving_log = by_turns (x 1 2 0x10114) (d 1 2 0x10118) (x 1 2 0x10118)
 
 -- what the proofs open
 gathers : ℕ
-unfolding place_after gather_span gathered_by_spans decide history done meaning row_of rows lui_rows auipc_rows jal_rows jalr_rows branch_rows load_rows store_rows op_imm_rows op_imm_32_rows op_rows op_32_rows misc_mem_rows amo_rows system_rows are_readable number_at
+unfolding place_after gather_span gathered_by_spans decide history done meaning row_of rows are_readable number_at
 gathers = zero
 
 one_sequence : names_of counting log ≡ record { hart = 0; number = 18 } ∷ []

@@ -4,21 +4,18 @@ use Rattle.std.specs.List.{AllByRecursion, fold}
 use Rattle.std.proofs.lemmas.List.Sums.{fold-append}
 use Rattle.mach_types.specs.Events.{choice_of}
 use Rattle.mach_types.specs.declared.events.Entry.{Entry}
-use Rattle.mach_types.specs.Kernel.Threads.{running_on}
-use Rattle.block_model.proofs.Laws.{IsFit, next_event, run_before, same_here}
-use Rattle.block_model.specs.Events.{done_of}
-use Rattle.block_model.specs.Record.{Kernel}
-use Rattle.block_model.specs.Plain.{here_in_plain, here_of, plain_after, plain_next}
+use Rattle.block_model.proofs.Laws.{run_before, same_here}
+use Rattle.block_model.specs.Plain.{here_in_plain, plain_after, plain_next}
 use Rattle.block_model.specs.Run.{IsBlockRun}
 use Rattle.block_model.specs.Setting.{Setting}
 use Rattle.block_model.specs.Footprints.{AreApart}
 use Rattle.block_model.specs.PlainEvents.{footprint, is_plain}
-use Rattle.block_model.specs.Swaps.{IsEquivalentRun, MaySwap, footprint_after, here_after}
+use Rattle.block_model.specs.Swaps.{IsEquivalentRun, MaySwap, here_after}
 use Rattle.log_gather.proofs.Gatherable.{AreFree, IsGatherable, other_facts, own_facts}
 use Rattle.log_gather.specs.Facts.{Facts, Place, facts_along, facts_at, first_place, here_at, is_of, next_place, other_entries, own_entries, place_after, place_from}
-use Rattle.block_model.proofs.Swaps.Pairs.{ArePair, kernel_stays, next}
+use Rattle.block_model.proofs.Swaps.Pairs.{ArePair}
 use Rattle.log_gather.proofs.ExchangedPlaces.{ArePlacesExchanged, accesses_apart, places_exchanged}
-use Rattle.block_model.proofs.Swaps.Logs.{last_decided, regrouped, seen, swapped}
+use Rattle.block_model.proofs.Swaps.Logs.{pair_at, regrouped, seen, swapped}
 
 -- PLACES
 
@@ -57,35 +54,6 @@ may_swap s earlier p e f at run plain free =
       first = ap (is_plain (choice_of e)) (sym is_e) ∙ plain;
       second = ap (is_plain (choice_of f)) (sym is_f) ∙ free.plain;
       apart = subst (λ z. AreApart (footprint (choice_of e) z) (footprint (choice_of f) (here_after s (earlier ++ e ∷ []) f))) is_e (subst (λ z. AreApart (footprint (choice_of e) (here_at s p e)) (footprint (choice_of f) z)) is_f apart);
-    }
-
--- the two last entries of a log are a pair where the log is without them
-pair_at : (s : Setting) (earlier : List Entry) (e f : Entry) → IsBlockRun s ((earlier ++ e ∷ []) ++ f ∷ []) → MaySwap s earlier e f
-    → ArePair s e.hart.0 f.hart.0 (choice_of e) (choice_of f) (plain_after s earlier)
-pair_at s earlier e f run may =
-    let run_one = run_before s (earlier ++ e ∷ []) (f ∷ []) run in
-    let run_none = run_before s earlier (e ∷ []) run_one in
-    let h = e.hart.0 in
-    let k = f.hart.0 in
-    let c = choice_of e in
-    let d = choice_of f in
-    let v = seen s earlier in
-    let w = seen s (earlier ++ e ∷ []) in
-    let m = plain_after s earlier in
-    let a = next_event v e (done_of c (here_of v h)) run_none (last_decided s earlier e run_one) refl in
-    let b = next_event w f (done_of d (here_of w k)) run_one (last_decided s (earlier ++ e ∷ []) f run) refl in
-    let is_e = same_here v h run_none in
-    let is_f = same_here w k run_one in
-    let there : here_of w k ≡ here_in_plain s (next s h c m) k = ap (λ n. here_in_plain s n k) a.next in
-    let plain_e = ap (is_plain c) is_e ∙ may.first in
-    let fit_f = subst (λ z. IsFit z (done_of d z)) there b.fit in
-    record {
-      harts = may.harts;
-      first = plain_e;
-      second = ap (is_plain d) (sym there ∙ is_f) ∙ may.second;
-      apart = subst (λ z. AreApart (footprint c (here_of v h)) (footprint d z)) (sym is_f ∙ there) (subst (λ z. AreApart (footprint c z) (footprint_after s (earlier ++ e ∷ []) f)) (sym is_e) may.apart);
-      first_file = λ t x at. a.fit.apart k t x (λ q. may.harts (sym q)) at;
-      second_file = λ t x at. fit_f.apart h t x may.harts (ap (λ (q : Kernel). running_on h q.threads) (kernel_stays s h c m plain_e) ∙ at);
     }
 
 two : (s : Setting) (earlier later : List Entry) (p : Place) (e f : Entry) → place_after s earlier ≡ p → IsBlockRun s (earlier ++ e ∷ f ∷ later)

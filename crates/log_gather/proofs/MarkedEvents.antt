@@ -129,7 +129,7 @@ steps_parted d h xs =
     ∙ ap (λ l. l ++ steps_of d (own_marks h xs)) (sym (parted d (λ x. not (is_of h x.entry)) xs))
     ∙ ap (λ l. other_steps h (steps_of d xs) ++ l) (sym (parted d (λ x. is_of h x.entry) xs))
 
-filtered : {A : Type 0} (p q : A → Bool) (xs : List A) → list_all p xs ≡ true → list_all p (filter q xs) ≡ true
+pub filtered : {A : Type 0} (p q : A → Bool) (xs : List A) → list_all p xs ≡ true → list_all p (filter q xs) ≡ true
 filtered p q [] all = refl
 filtered p q (x ∷ xs) all =
     let parts = and_parts (p x) (list_all p xs) all in

@@ -15,6 +15,7 @@ use Rattle.log_gather.specs.Steps.{facts_seen, located_of, names_awaited, reserv
 use Rattle.log_gather.specs.Turns.{after_turn, awaits_rightly, event_of, is_of_eight, moved_steps, moved_steps_if, none_await, other_steps, own_steps, renewed, reserved_after, taken}
 use Rattle.log_gather.proofs.ActPlaces.{act_and_after, acts_begun, acts_begun_map, after_act_map, before_at, from_at, rest_of_act_map}
 use Rattle.log_gather.proofs.AwaitedNames.{counted, counted_all, counted_is, is_quiet, names_moved, names_past, names_renewed, quiet_act}
+use Rattle.log_gather.proofs.MarkedEvents.{filtered}
 
 -- RESERVATIONS
 
@@ -72,16 +73,6 @@ filter_located p (x ∷ xs) = go (p (facts_seen x)) (filter_located p xs)
     go true rest = ap (λ l. facts_seen x ∷ l) rest
     go false rest = rest
 
-all_filtered : {A : Type 0} (p q : A → Bool) (xs : List A) → list_all p xs ≡ true → list_all p (filter q xs) ≡ true
-all_filtered p q [] all = refl
-all_filtered p q (x ∷ xs) all =
-    let parts = and_parts (p x) (list_all p xs) all in
-    go (q x) parts.0 (all_filtered p q xs parts.1)
-  where
-    go : (b : Bool) → p x ≡ true → list_all p (filter q xs) ≡ true → list_all p (cond b (x ∷ filter q xs) (filter q xs)) ≡ true
-    go true here rest = and_from (p x) (list_all p (filter q xs)) here rest
-    go false here rest = rest
-
 pub all_append : {A : Type 0} (p : A → Bool) (xs ys : List A) → list_all p xs ≡ true → list_all p ys ≡ true → list_all p (xs ++ ys) ≡ true
 all_append p [] ys front back = back
 all_append p (x ∷ xs) ys front back =
@@ -91,7 +82,7 @@ all_append p (x ∷ xs) ys front back =
 -- what holds of all of a span holds of all where others come first
 pub all_parted : (p : Step → Bool) (h : ℕ) (span : List Step) → list_all p span ≡ true → list_all p (other_steps h span ++ own_steps h span) ≡ true
 all_parted p h span all =
-    all_append p (other_steps h span) (own_steps h span) (all_filtered p (λ y. not (is_of h y.entry)) span all) (all_filtered p (λ y. is_of h y.entry) span all)
+    all_append p (other_steps h span) (own_steps h span) (filtered p (λ y. not (is_of h y.entry)) span all) (filtered p (λ y. is_of h y.entry) span all)
 
 -- a span that is moved
 moved_located : (h : ℕ) (span : List Step) → list_all is_of_eight span ≡ true → map located_of (moved_steps h span) ≡ moved_in h (map located_of span)

@@ -1,9 +1,7 @@
 //! How far a sequence goes on in a log.
 
 ghost use Rattle.std.specs.Prelude.{ℕ, ◌<◌, length};
-ghost use Rattle.log_gather.specs.declared.marks.Details.{Details};
-ghost use Rattle.log_gather.specs.Marks.{steps_of};
-ghost use Rattle.log_gather.specs.Turns.{IsReach};
+ghost use Rattle.log_gather.specs.{declared.marks.Details.Details, Marks.steps_of, Turns.IsReach};
 
 use crate::marks::Mark;
 use mach_types::Hart;

@@ -1,19 +1,19 @@
 -- Worked examples of places, by computation: memory while a store waits and when it has entered, and threads that run nowhere.
-use Rattle.std.proofs.Common.{◌≡◌, ℕ, List, [], ◌∷◌, ◌++◌, replicate, refl, codes}
+use Rattle.std.proofs.Common.{◌≡◌, ℕ, List, [], ◌∷◌, ◌++◌, refl, codes}
 use Rattle.std.specs.Fmt.{digits}
 use Rattle.mach_types.specs.Kernel.Areas.{are_readable}
 use Rattle.mach_types.specs.Kernel.Areas as areas
 use Rattle.mach_types.specs.Kernel.Signals.{start_signalling}
 use Rattle.mach_types.specs.declared.events.Entry.{Entry}
-use Rattle.mach_types.specs.declared.events.Kind.{Kind}
 use Rattle.mach_types.specs.declared.events.Kind.TheVariants as kind
 use Rattle.mach_types.specs.declared.sequences.Area.{Area}
 use Rattle.mach_types.specs.declared.threads.ThreadState.{ThreadState}
 use Rattle.mach_types.specs.declared.threads.ThreadState.TheVariants.{Ready, Running, Waiting}
 use Rattle.rv_inst.specs.Meaning.{meaning}
-use Rattle.rv_inst.specs.Table.{row_of, rows, lui_rows, auipc_rows, jal_rows, jalr_rows, branch_rows, load_rows, store_rows, op_imm_rows, op_imm_32_rows, op_rows, op_32_rows, misc_mem_rows, amo_rows, system_rows}
+use Rattle.rv_inst.specs.Table.{row_of, rows}
 use Rattle.block_model.specs.Deciding.{done, history}
 use Rattle.block_model.specs.Setting.{Setting}
+use Rattle.block_model.proofs.ExamplePrograms.{code_and_data, entry as by, within_frames}
 use Rattle.command_words.specs.declared.spans.MemorySpan.{MemorySpan}
 use Rattle.outcomes.specs.Places.{spans_text}
 use Rattle.place_text.specs.Memory.{memory_text, number_at, word_text}
@@ -25,19 +25,7 @@ abbrev code : List ℕ
 code = 0x37 ∷ 0x04 ∷ 0x02 ∷ 0x00 ∷ 0x23 ∷ 0x30 ∷ 0x84 ∷ 0x00 ∷ []
 
 abbrev program : Setting
-program = record {
-  program = record {
-    pages = record { number = 0x10; perm = 5; bytes = replicate 0xB0 0 ++ code } ∷ record { number = 0x20; perm = 6; bytes = [] } ∷ [];
-    entry = 0x100B0;
-    phdr = 0x10040;
-    phnum = 2;
-    break_at = 0x21000;
-  };
-  limits = record { harts = 2; frames = 128; steps = 200000 };
-}
-
-abbrev by : Kind → ℕ → Entry
-by k pc = record { hart = record { 0 = 0 }; kind = k; tid = record { 0 = 1 }; pc = pc }
+program = within_frames 128 (code_and_data code)
 
 -- the store waits behind these
 abbrev stored : List Entry
@@ -50,13 +38,13 @@ bytes at count = record { at = at; length = count }
 store_waits : spans_text program (history program stored) (bytes 0x20007 2 ∷ []) ≡
     codes "memory 0000000000020000 0000000000000000\n" ++ codes "hart 0 sees 0000000000020000 0000000000020000\n"
     ++ codes "memory 0000000000020008 0000000000000000\n"
-unfolding memory_text word_text number_at digits hex_text history done meaning row_of rows lui_rows auipc_rows jal_rows jalr_rows branch_rows load_rows store_rows op_imm_rows op_imm_32_rows op_rows op_32_rows misc_mem_rows amo_rows system_rows are_readable areas.number_at
+unfolding memory_text word_text number_at digits hex_text history done meaning row_of rows are_readable areas.number_at
 store_waits = refl
 
 -- behind a drain both see what memory has; nothing is read where no page is
 store_entered : spans_text program (history program (stored ++ by kind.Drain 0x100B8 ∷ [])) (bytes 0x20000 8 ∷ bytes 0x30000 1 ∷ []) ≡
     codes "memory 0000000000020000 0000000000020000\n" ++ codes "memory 0000000000030000 none\n"
-unfolding memory_text word_text number_at digits hex_text history done meaning row_of rows lui_rows auipc_rows jal_rows jalr_rows branch_rows load_rows store_rows op_imm_rows op_imm_32_rows op_rows op_32_rows misc_mem_rows amo_rows system_rows are_readable areas.number_at
+unfolding memory_text word_text number_at digits hex_text history done meaning row_of rows are_readable areas.number_at
 store_entered = refl
 
 -- thread 1 waits and has an area, and 2 runs; what is told of each

@@ -1,19 +1,19 @@
 -- Worked examples of traces, by computation: of a whole log, of some of its lines, of sequences, and of a run that is stuck.
-use Rattle.std.proofs.Common.{◌≡◌, ℕ, List, [], ◌∷◌, ◌++◌, Option, Some, None, replicate, refl, codes}
+use Rattle.std.proofs.Common.{◌≡◌, ℕ, List, [], ◌∷◌, ◌++◌, Option, Some, None, refl, codes}
 use Rattle.std.specs.Fmt.{digits}
 use Rattle.mach_types.specs.Kernel.Areas.{are_readable, number_at}
 use Rattle.mach_types.specs.Kernel.Threads.{Thread, Threads}
 use Rattle.mach_types.specs.declared.events.Entry.{Entry}
-use Rattle.mach_types.specs.declared.events.Kind.{Kind}
 use Rattle.mach_types.specs.declared.events.Kind.TheVariants as kind
 use Rattle.mach_types.specs.declared.limits.End.TheVariants.{Limit, Stuck}
 use Rattle.mach_types.specs.declared.threads.ThreadState.TheVariants.{Waiting}
 use Rattle.rv_inst.specs.Meaning.{meaning}
-use Rattle.rv_inst.specs.Table.{row_of, rows, lui_rows, auipc_rows, jal_rows, jalr_rows, branch_rows, load_rows, store_rows, op_imm_rows, op_imm_32_rows, op_rows, op_32_rows, misc_mem_rows, amo_rows, system_rows}
+use Rattle.rv_inst.specs.Table.{row_of, rows}
 use Rattle.block_model.specs.Deciding.{done, end_of, history}
 use Rattle.block_model.specs.Setting.{Setting}
 use Rattle.block_model.specs.declared.acts.SeqEnd.{SeqEnd}
 use Rattle.block_model.specs.declared.acts.SeqEnd.TheVariants as ends
+use Rattle.block_model.proofs.ExamplePrograms.{code_and_data, entry as by, within_frames}
 use Rattle.block_view.specs.declared.forms.Form.TheVariants.{Sequence}
 use Rattle.block_view.specs.declared.turns.Turn.{Turn}
 use Rattle.block_view.specs.declared.turns.Turn.TheVariants.{Begins, Ends}
@@ -33,19 +33,7 @@ abbrev code : List ℕ
 code = 0x37 ∷ 0x04 ∷ 0x02 ∷ 0x00 ∷ 0x23 ∷ 0x30 ∷ 0x84 ∷ 0x00 ∷ 0x83 ∷ 0x32 ∷ 0x04 ∷ 0x00 ∷ []
 
 abbrev program : Setting
-program = record {
-  program = record {
-    pages = record { number = 0x10; perm = 5; bytes = replicate 0xB0 0 ++ code } ∷ record { number = 0x20; perm = 6; bytes = [] } ∷ [];
-    entry = 0x100B0;
-    phdr = 0x10040;
-    phnum = 2;
-    break_at = 0x21000;
-  };
-  limits = record { harts = 2; frames = 128; steps = 200000 };
-}
-
-abbrev by : Kind → ℕ → Entry
-by k pc = record { hart = record { 0 = 0 }; kind = k; tid = record { 0 = 1 }; pc = pc }
+program = within_frames 128 (code_and_data code)
 
 -- the store enters memory after it was loaded
 abbrev log : List Entry
@@ -71,12 +59,12 @@ all_lines : trace_text (lines 1 None) program log ≡
     ++ codes "0 exec 1 00000000000100b4\n" ++ codes "  line 3\n"
     ++ codes "  waits 0000000000020000 8 0000000000020000\n"
     ++ load_told ++ drain_told ++ codes "end open\n"
-unfolding trace_text event_text facts_text digits hex_text register_names history trace_of signal_facts thread_facts other_registers facts_of read_facts done end_of meaning row_of rows lui_rows auipc_rows jal_rows jalr_rows branch_rows load_rows store_rows op_imm_rows op_imm_32_rows op_rows op_32_rows misc_mem_rows amo_rows system_rows are_readable number_at
+unfolding trace_text event_text facts_text digits hex_text register_names history trace_of signal_facts thread_facts other_registers facts_of read_facts done end_of meaning row_of rows are_readable number_at
 all_lines = refl
 
 -- the fourth line alone
 one_line : trace_text (lines 4 (Some 4)) program log ≡ load_told ++ codes "end open\n"
-unfolding trace_text event_text facts_text digits hex_text register_names history trace_of signal_facts thread_facts other_registers facts_of read_facts done end_of meaning row_of rows lui_rows auipc_rows jal_rows jalr_rows branch_rows load_rows store_rows op_imm_rows op_imm_32_rows op_rows op_32_rows misc_mem_rows amo_rows system_rows are_readable number_at
+unfolding trace_text event_text facts_text digits hex_text register_names history trace_of signal_facts thread_facts other_registers facts_of read_facts done end_of meaning row_of rows are_readable number_at
 one_line = refl
 
 -- a sequence of 12 bytes begins; and one has ended, of lines 14 and 15: by its own last instruction, or cut

@@ -1,18 +1,14 @@
 //! Laws of the outputs, each as the contract of a function that does nothing.
 
 ghost use Rattle.std.specs.Prelude.{◌≡◌, false, ℕ, List, Option};
-ghost use Rattle.mach_types.specs.declared.events.Entry.{Entry};
-ghost use Rattle.mach_types.specs.Limits.{InRange};
+ghost use Rattle.mach_types.specs.{declared.events.Entry.Entry, Limits.InRange};
 ghost use Rattle.step_log.specs.Grammar.{log_text};
 ghost use Rattle.block_model.specs.Setting.{Setting};
 ghost use Rattle.log_gather.specs.Gathered.{gathered};
 ghost use Rattle.outcomes.specs.Needs.{needs_of};
 ghost use Rattle.outcomes.specs.Outputs.{IsOutput, IsOutputOf, IsPlainOutput, IsPlayOutput, IsRunOutput};
-ghost use Rattle.outcomes.specs.Outputs.{setting_for};
-ghost use Rattle.outcomes.specs.Programs.{Files, IsReadAs};
-ghost use Rattle.outcomes.specs.Rounds.{IsRoundsRun};
-ghost use Rattle.outcomes.specs.Runs.{IsChosenRun};
-ghost use Rattle.outcomes.specs.Told.{AreTold, TellsGoodFiles};
+ghost use Rattle.outcomes.specs.{Outputs.setting_for, Programs.Files, Programs.IsReadAs, Rounds.IsRoundsRun};
+ghost use Rattle.outcomes.specs.{Runs.IsChosenRun, Told.AreTold, Told.TellsGoodFiles};
 ghost use Rattle.command_words.specs.Shown.{Gathered, Output};
 ghost use Rattle.command_words.specs.Commands.{Command, Run, depends_on_turns};
 

@@ -5,8 +5,7 @@ ghost use Rattle.std.specs.Option.{option_map};
 ghost use Rattle.mach_types.specs.Bytes.{IsAccessSize, all_stored, each_byte};
 ghost use Rattle.hart_state.specs.State.{stores};
 ghost use Rattle.page_map.specs.Map.{can_write_in};
-ghost use Rattle.process.specs.Reservations.{lost_unless};
-ghost use Rattle.process.specs.Stored.{IsWritten};
+ghost use Rattle.process.specs.{Reservations.lost_unless, Stored.IsWritten};
 ghost use Rattle.process.specs.Refinement.{HasPlace, IsEvent, IsRefusal, MayDrain};
 
 use crate::parts::Parts;

@@ -1,17 +1,13 @@
 //! Parts that have done nothing yet: in memory that is taken for them, or in the memory that some have.
 
 ghost use Rattle.std.specs.Prelude.{◌≡◌, ◌≤◌, [], map, length, All, IfOk};
-ghost use Rattle.mach_types.specs.Kernel.Barriers.{none_registered};
-ghost use Rattle.mach_types.specs.Kernel.Scheduling.{start_scheduling};
-ghost use Rattle.mach_types.specs.Kernel.Signals.{start_signalling};
-ghost use Rattle.mach_types.specs.Limits.{InRange};
-ghost use Rattle.elf_load.specs.Images.{IsBootable};
-ghost use Rattle.elf_load.specs.Start.{program_of, start_file};
+ghost use Rattle.mach_types.specs.{Kernel.Barriers.none_registered, Kernel.Scheduling.start_scheduling};
+ghost use Rattle.mach_types.specs.{Kernel.Signals.start_signalling, Limits.InRange};
+ghost use Rattle.elf_load.specs.{Images.IsBootable, Start.program_of, Start.start_file};
 ghost use Rattle.hart_state.specs.State.{idle_hart};
 ghost use Rattle.kernel_threads.specs.Table.{IsTable, start_table};
 ghost use Rattle.page_map.specs.Map.{frames_in};
-ghost use Rattle.block_model.specs.Plain.{plain_start};
-ghost use Rattle.block_model.specs.Setting.{setting_of};
+ghost use Rattle.block_model.specs.{Plain.plain_start, Setting.setting_of};
 ghost use Rattle.process.specs.Refinement.{IsTied};
 
 use crate::parts::Parts;

@@ -1,25 +1,13 @@
 -- From what is known of a word's fields to its row.
 use Rattle.std.proofs.Common.{◌≡◌, ℕ, ◌+◌, ◌-◌, ◌*◌, ◌/◌, ◌^◌, ◌==◌, Bool, true, false, not, ◌&&◌, ◌||◌, cond, if◌then◌else◌, List, [], ◌∷◌, Option, Some, None, refl, ap, sym, ◌∙◌, eqb-true, eq-eqb}
-use Rattle.std.proofs.lemmas.Bool.{false≢true}
+use Rattle.std.proofs.lemmas.Bool.{and_from, and_parts, false≢true}
 use Rattle.std.specs.Int.Bits.{bit_and}
 use Rattle.std.proofs.lemmas.Nat.{and_assoc, and_comm, shl-shr}
 use Rattle.rv_inst.specs.declared.instruction.Inst.{Inst}
 use Rattle.rv_inst.specs.Fields.{field, rs2}
-use Rattle.rv_inst.specs.Table.{Row, is_of_row, first_row, rows, row_of, lui_rows, auipc_rows, jal_rows, jalr_rows, branch_rows, load_rows, store_rows, op_imm_rows, op_imm_32_rows, op_rows, op_32_rows, misc_mem_rows, amo_rows, system_rows}
+use Rattle.rv_inst.specs.Table.{Row, is_of_row, first_row, rows, row_of}
 use Rattle.rv_decode.specs.Selectors.{opcode, funct3, funct5, funct6, funct7}
 use Rattle.rv_decode.proofs.Masks.{and_field, and_7f, and_707f, and_fe00707f, and_fc00707f, and_f800707f, and_f9f0707f}
-
-left_true : (a b : Bool) → (a && b) ≡ true → a ≡ true
-left_true true b e = refl
-left_true false b e = e
-
-right_true : (a b : Bool) → (a && b) ≡ true → b ≡ true
-right_true true b e = e
-right_true false b e = absurd (false≢true e)
-
-both_true : (a b : Bool) → a ≡ true → b ≡ true → (a && b) ≡ true
-both_true true b p q = q
-both_true false b p q = p
 
 false_unless_true : (b : Bool) → (b ≡ true → ⊥) → b ≡ false
 false_unless_true true why = absurd (why refl)
@@ -72,8 +60,8 @@ known_list w mask value (r ∷ rs) known =
     ∙ one_decided (bit_and value r.mask == bit_and r.match mask) ((bit_and mask r.mask == r.mask) && (bit_and value r.mask == r.match)) (is_of_row w r) (Some (r.read w)) (first_known mask value rs w)
     (λ of_r. eq-eqb _ _ (agrees w mask value r known of_r))
     (λ both. matched w mask value r known
-    (eqb-true _ _ (left_true (bit_and mask r.mask == r.mask) (bit_and value r.mask == r.match) both))
-    (eqb-true _ _ (right_true (bit_and mask r.mask == r.mask) (bit_and value r.mask == r.match) both)))
+    (eqb-true _ _ (and_parts (bit_and mask r.mask == r.mask) (bit_and value r.mask == r.match) both).0)
+    (eqb-true _ _ (and_parts (bit_and mask r.mask == r.mask) (bit_and value r.mask == r.match) both).1))
 
 pub by_mask : (w mask value : ℕ) → bit_and w mask ≡ value → row_of w ≡ first_known mask value rows w
 unfolding row_of
@@ -161,7 +149,7 @@ is_none_of (m ∷ ms) n = not (n == m) && is_none_of ms n
 
 -- no row has another major opcode
 pub no_opcode : (w : ℕ) → is_none_of (0x03 ∷ 0x0f ∷ 0x13 ∷ 0x17 ∷ 0x1b ∷ 0x23 ∷ 0x2f ∷ 0x33 ∷ 0x37 ∷ 0x3b ∷ 0x63 ∷ 0x67 ∷ 0x6f ∷ 0x73 ∷ []) (opcode w) ≡ true → row_of w ≡ None
-unfolding row_of rows lui_rows auipc_rows jal_rows jalr_rows branch_rows load_rows store_rows op_imm_rows op_imm_32_rows op_rows op_32_rows misc_mem_rows amo_rows system_rows
+unfolding row_of rows
 no_opcode w passed = narrowed 0 7 (λ n. is_none_of (0x03 ∷ 0x0f ∷ 0x13 ∷ 0x17 ∷ 0x1b ∷ 0x23 ∷ 0x2f ∷ 0x33 ∷ 0x37 ∷ 0x3b ∷ 0x63 ∷ 0x67 ∷ 0x6f ∷ 0x73 ∷ []) n) rows w passed
 
 pub no_field : (op low count : ℕ) (values : List ℕ) (w : ℕ) → opcode w ≡ op → is_none_of values (field low count w) ≡ true → row_of w ≡ first_row (kept low count (is_none_of values) (kept 0 7 (λ n. n == op) rows)) w
@@ -178,7 +166,7 @@ no_two_fields op low count known below width values w is_op is_known passed =
     ∙ narrowed below width (is_none_of values) (kept low count (λ n. n == known) (kept 0 7 (λ n. n == op) rows)) w passed
 
 pub none_more : (n m : ℕ) (ms : List ℕ) → (n ≡ m → ⊥) → is_none_of ms n ≡ true → is_none_of (m ∷ ms) n ≡ true
-none_more n m ms differs rest = both_true (not (n == m)) (is_none_of ms n) (not_equal n m differs) rest
+none_more n m ms differs rest = and_from (not (n == m)) (is_none_of ms n) (not_equal n m differs) rest
 
 -- ---- one field tells the row
 
@@ -231,14 +219,13 @@ pub told : (mask base low count w : ℕ) (rs : List Row) → differ_in mask base
     bit_and w mask ≡ base + field low count w * 2 ^ low → first_row rs w ≡ by_field mask low count (field low count w) rs w
 told mask base low count w [] differ known = refl
 told mask base low count w (r ∷ rs) differ known =
-    let one = left_true (differs_in mask base low count r) (differ_in mask base low count rs) differ in
-    let fixed = left_true (bit_and r.mask (field_mask low count) == field_mask low count) (not (r.mask == mask) || (r.match == base + field low count r.match * 2 ^ low)) one in
-    let rest = right_true (bit_and r.mask (field_mask low count) == field_mask low count) (not (r.mask == mask) || (r.match == base + field low count r.match * 2 ^ low)) one in
+    let one = (and_parts (differs_in mask base low count r) (differ_in mask base low count rs) differ).0 in
+    let parts = and_parts (bit_and r.mask (field_mask low count) == field_mask low count) (not (r.mask == mask) || (r.match == base + field low count r.match * 2 ^ low)) one in
     one_told (field low count w == field low count r.match) (r.mask == mask) (is_of_row w r) (Some (r.read w)) (first_row rs w) (by_field mask low count (field low count w) rs w)
-    (λ of_r. eq-eqb _ _ (same_field low count w r (eqb-true _ _ fixed) of_r))
+    (λ of_r. eq-eqb _ _ (same_field low count w r (eqb-true _ _ parts.0) of_r))
     (λ same equal. is_told mask base low count w r (eqb-true _ _ same)
-    (eqb-true _ _ (if_not (r.mask == mask) (r.match == base + field low count r.match * 2 ^ low) rest same)) known (eqb-true _ _ equal))
-    (told mask base low count w rs (right_true (differs_in mask base low count r) (differ_in mask base low count rs) differ) known)
+    (eqb-true _ _ (if_not (r.mask == mask) (r.match == base + field low count r.match * 2 ^ low) parts.1 same)) known (eqb-true _ _ equal))
+    (told mask base low count w rs (and_parts (differs_in mask base low count r) (differ_in mask base low count rs) differ).1 known)
 
 pub of_opcode : (op w : ℕ) → opcode w ≡ op → row_of w ≡ first_row (rows_of op) w
 unfolding row_of

@@ -3,14 +3,14 @@ use Rattle.std.proofs.Common.{◌≡◌, ℕ, ◌+◌, ◌*◌, ◌^◌, ◌==�
 use Rattle.std.specs.Int.Bits.{bit_and}
 use Rattle.std.proofs.lemmas.Int.{to_z-of_z}
 use Rattle.rv_inst.specs.Fields.{field, rs2}
-use Rattle.rv_inst.specs.Table.{Row, row_of, rows, lui_rows, auipc_rows, jal_rows, jalr_rows, branch_rows, load_rows, store_rows, op_imm_rows, op_imm_32_rows, op_rows, op_32_rows, misc_mem_rows, amo_rows, system_rows}
+use Rattle.rv_inst.specs.Table.{Row, row_of, rows}
 use Rattle.rv_decode.specs.Selectors.{opcode, funct3, funct5, funct6, funct7}
 use Rattle.rv_decode.proofs.Masks.{and_707f, and_field, and_f800707f, and_f9f0707f, and_fc00707f, and_fe00707f}
 use Rattle.rv_decode.proofs.Rows.{by_field, differ_in, kept, of_field, of_opcode, of_two_fields, rows_of, rows_with, told}
 
 -- names the groups of rows, for what computes with them
 unfoldable pub table : List Row
-unfolding rows lui_rows auipc_rows jal_rows jalr_rows branch_rows load_rows store_rows op_imm_rows op_imm_32_rows op_rows op_32_rows misc_mem_rows amo_rows system_rows
+unfolding rows
 table = rows
 
 -- ---- by funct3, where the opcode is known

@@ -35,27 +35,15 @@ pub use Rattle.mach_types.specs.Kernel.Scheduling.{has_hart}
 pub use Rattle.mach_types.specs.Kernel.Signals.{next_for}
 pub use Rattle.mach_types.specs.Kernel.Threads.{Thread, Threads, is_on, is_stuck, running_on}
 pub use Rattle.mach_types.specs.Limits.{InRange}
-pub use Rattle.mach_types.specs.declared.barriers.Answer.{Answer}
-pub use Rattle.mach_types.specs.declared.barriers.Answer.TheVariants.{Begin, Value}
-pub use Rattle.mach_types.specs.declared.barriers.BarrierCommand.{BarrierCommand}
-pub use Rattle.mach_types.specs.declared.barriers.Registered.{Registered}
+pub use Rattle.mach_types.specs.declared.barriers.{Answer.Answer, Answer.TheVariants.Begin, Answer.TheVariants.Value}
+pub use Rattle.mach_types.specs.declared.barriers.{BarrierCommand.BarrierCommand, Registered.Registered}
 pub use Rattle.mach_types.specs.declared.errors.TheConstants.{ENOSYS}
-pub use Rattle.mach_types.specs.declared.events.Choice.{Choice}
-pub use Rattle.mach_types.specs.declared.events.Choice.TheVariants.{Exec}
-pub use Rattle.mach_types.specs.declared.events.Entry.{Entry}
-pub use Rattle.mach_types.specs.declared.events.Hart.{Hart}
-pub use Rattle.mach_types.specs.declared.events.Kind.{Kind}
-pub use Rattle.mach_types.specs.declared.events.Tid.{Tid}
-pub use Rattle.mach_types.specs.declared.events.Why.{Why}
+pub use Rattle.mach_types.specs.declared.events.{Choice.Choice, Choice.TheVariants.Exec, Entry.Entry, Hart.Hart, Kind.Kind, Tid.Tid, Why.Why}
 pub use Rattle.mach_types.specs.declared.events.Why.TheVariants.{Idle, NotReady, Targets}
-pub use Rattle.mach_types.specs.declared.limits.End.{End}
-pub use Rattle.mach_types.specs.declared.limits.Limits.{Limits}
+pub use Rattle.mach_types.specs.declared.limits.{End.End, Limits.Limits}
 pub use Rattle.mach_types.specs.declared.registers.Regs.{Regs}
-pub use Rattle.mach_types.specs.declared.threads.Saved.{Saved}
-pub use Rattle.mach_types.specs.declared.threads.ThreadState.{ThreadState}
-pub use Rattle.mach_types.specs.declared.user_memory.Store.{Store}
-pub use Rattle.mach_types.specs.declared.user_memory.Write.{Write}
-pub use Rattle.mach_types.specs.declared.user_memory.Write.TheVariants.{Stored}
+pub use Rattle.mach_types.specs.declared.threads.{Saved.Saved, ThreadState.ThreadState}
+pub use Rattle.mach_types.specs.declared.user_memory.{Store.Store, Write.Write, Write.TheVariants.Stored}
 pub use Rattle.page_map.proofs.Laws.{each_byte-fails, over-high, over-low}
 pub use Rattle.page_map.specs.Map.{Map, byte_in, can_write_in, held_in, may_write, permission_in}
 pub use Rattle.page_map.specs.Mapping.{IsGap}

@@ -5,7 +5,7 @@ use Rattle.std.specs.Int.{bytes_low_first}
 use Rattle.mach_types.specs.declared.events.Kind.TheVariants as kind
 use Rattle.mach_types.specs.Kernel.Barriers.{asked as asked_for}
 use Rattle.rv_inst.specs.Meaning.{meaning}
-use Rattle.rv_inst.specs.Table.{row_of, rows, lui_rows, auipc_rows, jal_rows, jalr_rows, branch_rows, load_rows, store_rows, op_imm_rows, op_imm_32_rows, op_rows, op_32_rows, misc_mem_rows, amo_rows, system_rows}
+use Rattle.rv_inst.specs.Table.{row_of, rows}
 use Rattle.shared_procs.proofs.Common.{◌≡◌, ℕ, zero, suc, ◌+◌, Bool, true, false, List, [], ◌∷◌, ◌++◌, Option, Some, None, length, map, refl, replicate, entered, Entry, executed, Kind, option_map, own_entries, OwnEntry, pair_history, PairBegun, PairSetting, Program, returning}
 
 -- a program of one page, its code at 0x10078
@@ -102,5 +102,5 @@ worked_logs :
     × (learnt registers returned_log ≡ (14, replicate 4 false ++ true ∷ replicate 9 false, [] ∷ [] ∷ (Some 1 ∷ replicate 7 (Some 0)) ∷ replicate 11 []))  -- waits and reads
     × (learnt asks_nothing unregistered_log ≡ neither)  -- neither waits nor reads
     × (learnt registers alone_log ≡ neither)  -- nor with another program that never runs
-unfolding pair_history asked_for meaning row_of rows lui_rows auipc_rows jal_rows jalr_rows branch_rows load_rows store_rows op_imm_rows op_imm_32_rows op_rows op_32_rows misc_mem_rows amo_rows system_rows
+unfolding pair_history asked_for meaning row_of rows
 worked_logs = (refl, refl, refl, refl, refl, refl)

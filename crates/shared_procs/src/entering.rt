@@ -4,15 +4,10 @@ ghost use Rattle.std.specs.Prelude.{◌≡◌, ◌<◌, ℕ, Bool, [], ◌∷◌
 ghost use Rattle.std.specs.Option.{option_map};
 ghost use Rattle.mach_types.specs.Bytes.{IsAccessSize, all_stored, each_byte};
 ghost use Rattle.hart_state.specs.State.{stores};
-ghost use Rattle.block_model.specs.Here.{Done};
-ghost use Rattle.block_model.specs.Plain.{Plain};
-ghost use Rattle.block_model.specs.Setting.{Setting};
-ghost use Rattle.block_model.specs.Stands.{aside};
-ghost use Rattle.process.specs.Refinement.{IsTied};
-ghost use Rattle.process.specs.Reservations.{lost_unless};
+ghost use Rattle.block_model.specs.{Here.Done, Plain.Plain, Setting.Setting, Stands.aside};
+ghost use Rattle.process.specs.{Refinement.IsTied, Reservations.lost_unless};
 ghost use Rattle.shared_procs.specs.Entering.{AreStorable, HaveEntered, HaveLost};
-ghost use Rattle.shared_procs.specs.Pairs.{is_shared};
-ghost use Rattle.shared_procs.specs.Segments.{storable_in};
+ghost use Rattle.shared_procs.specs.{Pairs.is_shared, Segments.storable_in};
 
 use crate::segment::{Segment, is_in_segment};
 use crate::window::set_in;

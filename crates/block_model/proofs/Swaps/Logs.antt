@@ -1,8 +1,8 @@
 -- Two neighbouring entries of a block run may be exchanged, if they are plain events of different harts of which neither touches the
 -- other's bytes.
 use Rattle.std.proofs.Common.{◌≡◌, ℕ, ◌+◌, ◌<◌, List, [], ◌∷◌, ◌++◌, length, refl, sym, ap, ◌∙◌, subst, append-nil, append_assoc, length-append, None, Ok}
-use Rattle.block_model.proofs.Common.{AreApart, Choice, Entry, IsBlockRun, IsRunHistory, Kernel, Seen, Setting, choice_of, decide, decide_in, done_of, entry_in, event, final, fold, fold-append, here_in_plain, here_of, history, plain_after, plain_next, plain_over, plain_start, refusal_of, running_on, unless}
-use Rattle.block_model.proofs.Laws.{IsFit, at_kind, decided, history-append, next_event, run_before, run_on, same_here, same_state}
+use Rattle.block_model.proofs.Common.{AreApart, Choice, Entry, IsBlockRun, IsRunHistory, Kernel, Plain, Seen, Setting, choice_of, decide, decide_in, done_of, entry_in, event, final, fold, fold-append, here_in_plain, here_of, history, plain_after, plain_next, plain_over, plain_start, refusal_of, running_on, unless}
+use Rattle.block_model.proofs.Laws.{IsFit, IsNext, at_kind, decided, history-append, next_event, run_before, run_on, same_here, same_state}
 use Rattle.block_model.specs.PlainEvents.{footprint, is_plain}
 use Rattle.block_model.specs.Swaps.{IsEquivalentRun, MaySwap, footprint_after}
 use Rattle.block_model.proofs.Swaps.Pairs.{ArePair, exchanged, kernel_stays, next}
@@ -57,50 +57,73 @@ pub record IsSwapped (s : Setting) (earlier : List Entry) (e f : Entry) : Type 0
   pub both : IsBlockRun s ((earlier ++ f ∷ []) ++ e ∷ [])
   pub same : plain_after s ((earlier ++ f ∷ []) ++ e ∷ []) ≡ plain_after s ((earlier ++ e ∷ []) ++ f ∷ [])
 
-pub swapped_ends : (s : Setting) (earlier : List Entry) (e f : Entry) → IsBlockRun s ((earlier ++ e ∷ []) ++ f ∷ []) → MaySwap s earlier e f → IsSwapped s earlier e f
-swapped_ends s earlier e f run may =
-    let run_one = run_before s (earlier ++ e ∷ []) (f ∷ []) run in
-    let run_none = run_before s earlier (e ∷ []) run_one in
-    let h = e.hart.0 in
-    let k = f.hart.0 in
-    let c = choice_of e in
-    let d = choice_of f in
-    let v = seen s earlier in
-    let w = seen s (earlier ++ e ∷ []) in
-    let m = plain_after s earlier in
-    let a = next_event v e (done_of c (here_of v h)) run_none (last_decided s earlier e run_one) refl in
-    let b = next_event w f (done_of d (here_of w k)) run_one (last_decided s (earlier ++ e ∷ []) f run) refl in
-    let on : plain_after s (earlier ++ e ∷ []) ≡ next s h c m = a.next in
-    let there : here_of w k ≡ here_in_plain s (next s h c m) k = ap (λ n. here_in_plain s n k) on in
-    let is_e = same_here v h run_none in
-    let is_f = same_here w k run_one in
-    let plain_e = ap (is_plain c) is_e ∙ may.first in
-    let fit_f = subst (λ z. IsFit z (done_of d z)) there b.fit in
-    let pair : ArePair s h k c d m = record {
-      harts = may.harts;
-      first = plain_e;
-      second = ap (is_plain d) (sym there ∙ is_f) ∙ may.second;
-      apart = subst (λ z. AreApart (footprint c (here_of v h)) (footprint d z)) (sym is_f ∙ there) (subst (λ z. AreApart (footprint c z) (footprint_after s (earlier ++ e ∷ []) f)) (sym is_e) may.apart);
-      first_file = λ t x at. a.fit.apart k t x (λ q. may.harts (sym q)) at;
-      second_file = λ t x at. fit_f.apart h t x may.harts (ap (λ (q : Kernel). running_on h q.threads) (kernel_stays s h c m plain_e) ∙ at);
-    } in
-    let x = exchanged s h k c d m pair in
-    let u = seen s (earlier ++ f ∷ []) in
-    let free_f = sym x.second_first.refusal ∙ ap (refusal_of d) (sym there) ∙ b.free in
-    let is_there = sym x.second_first.entry ∙ ap (entry_in d) (sym there) ∙ sym b.is in
-    let one = run_on v k d f run_none (allowed_here s earlier k d f run_none a.goes a.room b.lt free_f is_there) in
-    let on_f : plain_after s (earlier ++ f ∷ []) ≡ next s k d m = plain_after-append s earlier (f ∷ []) in
-    let there_e = ap (λ n. here_in_plain s n h) on_f in
-    let goes = ap plain_over on_f ∙ ap (λ o. final o (next s k d m).kernel) x.ended ∙ ap (final m.ended) x.kernel ∙ a.goes in
-    let long = length-append earlier (e ∷ []) ∙ sym (length-append earlier (f ∷ [])) in
-    let room : length (earlier ++ f ∷ []) < s.limits.steps = subst (λ n. n < s.limits.steps) long b.room in
-    let free_e = ap (refusal_of c) there_e ∙ x.first_second.refusal ∙ a.free in
-    let is_then = ap (entry_in c) there_e ∙ x.first_second.entry ∙ sym a.is in
-    record {
-      one = one;
-      both = run_on u h c e one (allowed_here s (earlier ++ f ∷ []) h c e one goes room a.lt free_e is_then);
-      same = plain_after-append s (earlier ++ f ∷ []) (e ∷ []) ∙ ap (next s h c) on_f ∙ x.same ∙ sym (plain_after-append s (earlier ++ e ∷ []) (f ∷ []) ∙ ap (next s k d) on);
-    }
+module _ (s : Setting) (earlier : List Entry) (e f : Entry) (run : IsBlockRun s ((earlier ++ e ∷ []) ++ f ∷ [])) (may : MaySwap s earlier e f) where
+  abbrev h : ℕ
+  h = e.hart.0
+
+  abbrev k : ℕ
+  k = f.hart.0
+
+  abbrev c : Choice
+  c = choice_of e
+
+  abbrev d : Choice
+  d = choice_of f
+
+  abbrev m : Plain
+  m = plain_after s earlier
+
+  run_one : IsBlockRun s (earlier ++ e ∷ [])
+  run_one = run_before s (earlier ++ e ∷ []) (f ∷ []) run
+
+  run_none : IsBlockRun s earlier
+  run_none = run_before s earlier (e ∷ []) run_one
+
+  next_e : IsNext (seen s earlier) e (done_of c (here_of (seen s earlier) h))
+  next_e = next_event (seen s earlier) e (done_of c (here_of (seen s earlier) h)) run_none (last_decided s earlier e run_one) refl
+
+  next_f : IsNext (seen s (earlier ++ e ∷ [])) f (done_of d (here_of (seen s (earlier ++ e ∷ [])) k))
+  next_f = next_event (seen s (earlier ++ e ∷ [])) f (done_of d (here_of (seen s (earlier ++ e ∷ [])) k)) run_one (last_decided s (earlier ++ e ∷ []) f run) refl
+
+  there : here_of (seen s (earlier ++ e ∷ [])) k ≡ here_in_plain s (next s h c m) k
+  there = ap (λ n. here_in_plain s n k) next_e.next
+
+  -- they are a pair where the log is without them
+  pub pair_at : ArePair s h k c d m
+  pair_at =
+      let is_e = same_here (seen s earlier) h run_none in
+      let is_f = same_here (seen s (earlier ++ e ∷ [])) k run_one in
+      let plain_e = ap (is_plain c) is_e ∙ may.first in
+      let fit_f = subst (λ z. IsFit z (done_of d z)) there next_f.fit in
+      record {
+        harts = may.harts;
+        first = plain_e;
+        second = ap (is_plain d) (sym there ∙ is_f) ∙ may.second;
+        apart = subst (λ z. AreApart (footprint c (here_of (seen s earlier) h)) (footprint d z)) (sym is_f ∙ there)
+            (subst (λ z. AreApart (footprint c z) (footprint_after s (earlier ++ e ∷ []) f)) (sym is_e) may.apart);
+        first_file = λ t x at. next_e.fit.apart k t x (λ q. may.harts (sym q)) at;
+        second_file = λ t x at. fit_f.apart h t x may.harts (ap (λ (q : Kernel). running_on h q.threads) (kernel_stays s h c m plain_e) ∙ at);
+      }
+
+  pub swapped_ends : IsSwapped s earlier e f
+  swapped_ends =
+      let x = exchanged s h k c d m pair_at in
+      let u = seen s (earlier ++ f ∷ []) in
+      let free_f = sym x.second_first.refusal ∙ ap (refusal_of d) (sym there) ∙ next_f.free in
+      let is_there = sym x.second_first.entry ∙ ap (entry_in d) (sym there) ∙ sym next_f.is in
+      let one = run_on (seen s earlier) k d f run_none (allowed_here s earlier k d f run_none next_e.goes next_e.room next_f.lt free_f is_there) in
+      let on_f : plain_after s (earlier ++ f ∷ []) ≡ next s k d m = plain_after-append s earlier (f ∷ []) in
+      let there_e = ap (λ n. here_in_plain s n h) on_f in
+      let goes = ap plain_over on_f ∙ ap (λ o. final o (next s k d m).kernel) x.ended ∙ ap (final m.ended) x.kernel ∙ next_e.goes in
+      let long = length-append earlier (e ∷ []) ∙ sym (length-append earlier (f ∷ [])) in
+      let room : length (earlier ++ f ∷ []) < s.limits.steps = subst (λ n. n < s.limits.steps) long next_f.room in
+      let free_e = ap (refusal_of c) there_e ∙ x.first_second.refusal ∙ next_e.free in
+      let is_then = ap (entry_in c) there_e ∙ x.first_second.entry ∙ sym next_e.is in
+      record {
+        one = one;
+        both = run_on u h c e one (allowed_here s (earlier ++ f ∷ []) h c e one goes room next_e.lt free_e is_then);
+        same = plain_after-append s (earlier ++ f ∷ []) (e ∷ []) ∙ ap (next s h c) on_f ∙ x.same ∙ sym (plain_after-append s (earlier ++ e ∷ []) (f ∷ []) ∙ ap (next s k d) next_e.next);
+      }
 
 pub regrouped : (earlier : List Entry) (x y : Entry) (later : List Entry) → earlier ++ x ∷ y ∷ later ≡ ((earlier ++ x ∷ []) ++ y ∷ []) ++ later
 regrouped earlier x y later = sym (append_assoc (earlier ++ x ∷ []) (y ∷ []) later ∙ append_assoc earlier (x ∷ []) (y ∷ later))

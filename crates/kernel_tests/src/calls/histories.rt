@@ -382,6 +382,13 @@ macro_rules! zeros {
     };
 }
 
+/// The words of an area at [`DATA`]: the processor and the concurrency id that it shows. The others are 0.
+macro_rules! area_words {
+    ($cpu:expr, $cid:expr) => {
+        [word!(DATA, 0), word!(DATA + 4, $cpu), word!(DATA + 20, 0), word!(DATA + 24, $cid)]
+    };
+}
+
 /// The kernel's writes, in order: numbers, the words of an area, actions and masks.
 const TOLD: [Scene; 4] = [
     &[
@@ -401,30 +408,10 @@ const TOLD: [Scene; 4] = [
     ],
     &[
         Step::Put(DATA, u64::MAX),
-        Step::Writes(
-            RSEQ,
-            REGISTER,
-            0,
-            &[
-                word!(DATA, 0),
-                word!(DATA + 4, 0),
-                word!(DATA + 20, 0),
-                word!(DATA + 24, CID as u64),
-            ],
-        ),
+        Step::Writes(RSEQ, REGISTER, 0, &area_words!(0, CID as u64)),
         Step::Memory(DATA, 0),
         Step::Memory(DATA + 24, CID as u64),
-        Step::Writes(
-            RSEQ,
-            UNREGISTER,
-            0,
-            &[
-                word!(DATA, 0),
-                word!(DATA + 4, 0xffff_ffff),
-                word!(DATA + 20, 0),
-                word!(DATA + 24, 0),
-            ],
-        ),
+        Step::Writes(RSEQ, UNREGISTER, 0, &area_words!(0xffff_ffff, 0)),
         Step::Memory(DATA, 0xffff_ffff_0000_0000),
     ],
     &[

@@ -3,8 +3,7 @@
 ghost use Rattle.std.specs.Prelude.{◌≡◌, ◌<◌, ℕ, [], None, Ok, Err, IfSome, is_none};
 ghost use Rattle.mach_types.specs.Bytes.{IsAccessSize, word_at};
 ghost use Rattle.mach_types.specs.Kernel.Signals as signals;
-ghost use Rattle.mach_types.specs.Kernel.Threads.{is_live};
-ghost use Rattle.mach_types.specs.declared.events.Entry.{Entry};
+ghost use Rattle.mach_types.specs.{Kernel.Threads.is_live, declared.events.Entry.Entry};
 ghost use Rattle.scheduler.specs.Holding as scheduling;
 ghost use Rattle.sys_calls.specs.Made.{AreSaved};
 ghost use Rattle.sys_calls.specs.Registered.{areas_by_number};
