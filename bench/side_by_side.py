@@ -3,12 +3,14 @@
 
     bench/side_by_side.py [--rounds N] [--instructions] PROGRAM PROGRAM [PROGRAM ..]
 
-The words are those of bench/threads.py, `solo` and `play` with 1 and with 64 threads, up to STEPS steps; `solo` of bench/long.elf, and
-`play`, `blocks` and `inspect` of its log lines; and `run` with 1, 4 and 8 harts, where "2 processors" means the first two of those that
-there are, and threads1 makes FEW steps. A row has a program's least seconds on the clock and of processor time among N rounds (5 where it
-isn't given), the median of those on the clock, the nanoseconds of that processor time for each step, the start included, the page faults
-of the quickest round, and the MiB at the peak. With --instructions it also has the machine instructions of a step, between FEW and MANY
-steps, counted by valgrind (`apt-get install valgrind`), which don't depend on other work. The text is written to a file.
+The words are those of bench/threads.py, `solo` and `play` with 1 and with 64 threads, up to STEPS steps;
+`solo` of bench/long.elf, and `play`, `blocks` and `inspect` of its log lines; and `run` with 1, 4 and 8
+harts, where "2 processors" means the first two of those that there are, and threads1 makes FEW steps. A row
+has a program's least seconds on the clock and of processor time among N rounds (5 where it isn't given),
+the median of those on the clock, the nanoseconds of that processor time for each step, the start included,
+the page faults of the quickest round, and the MiB at the peak. With --instructions it also has the machine
+instructions of a step, between FEW and MANY steps, counted by valgrind (`apt-get install valgrind`), which
+don't depend on other work. The text is written to a file.
 """
 import argparse
 import os
@@ -68,8 +70,8 @@ def worker_runs():
     """Each run by workers: its name, its program, its harts, its steps, and how many processors it has."""
     every = len(os.sched_getaffinity(0))
     for name, threads, harts, steps, processors in (
-            ('run, 1 hart', 64, 1, STEPS, every), ('run, 4 harts', 64, 4, STEPS, every), ('8, 2 processors', 64, 8, STEPS, 2),
-            ('8, one thread', 1, 8, FEW, every)):
+            ('run, 1 hart', 64, 1, STEPS, every), ('run, 4 harts', 64, 4, STEPS, every),
+            ('8, 2 processors', 64, 8, STEPS, 2), ('8, one thread', 1, 8, FEW, every)):
         elf = HERE / f'threads{threads}.elf'
         words = ['run', elf, '--harts', str(harts), '--seed', '1', '--steps', str(steps)]
         yield name, words, steps, processors
@@ -89,7 +91,9 @@ def main():
     asked.add_argument('programs', nargs='+', type=pathlib.Path)
     asked = asked.parse_args()
     programs = [program.resolve() for program in asked.programs]
-    print(f'{"run":<16} {"program":>7} {"clock s":>9} {"median":>9} {"cpu s":>9} {"ns a step":>9} {"faults":>7} {"MiB":>7} {"instructions":>12}')
+    columns = [('program', 7), ('clock s', 9), ('median', 9), ('cpu s', 9), ('ns a step', 9), ('faults', 7)]
+    columns.append(('MiB', 7))
+    print(f'{"run":<16}', *(f'{name:>{width}}' for name, width in columns), 'instructions')
     with tempfile.TemporaryDirectory() as place:
         room = pathlib.Path(place)
         for name, words in [*thread_runs(room), *long_runs(room, programs[0])]:
@@ -108,7 +112,8 @@ def rows(asked, programs, room, name, words, steps, counts):
         made = [one[number] for one in rounds]
         clock, median = min(one.clock for one in made), statistics.median(one.clock for one in made)
         processor, faults = min(one.processor for one in made), min(made, key=lambda one: one.clock).faults
-        line = f'{name:<16} {number + 1:>7} {clock:9.3f} {median:9.3f} {processor:9.3f} {processor * 1e9 / steps:9.1f} {faults:7}'
+        line = f'{name:<16} {number + 1:>7} {clock:9.3f} {median:9.3f} {processor:9.3f}'
+        line += f' {processor * 1e9 / steps:9.1f} {faults:7}'
         line += f' {peak(program, words, room / "text"):>7}'
         if asked.instructions and counts:
             line += f' {(counted(program, counts(MANY)) - counted(program, counts(FEW))) / (MANY - FEW):12.1f}'
