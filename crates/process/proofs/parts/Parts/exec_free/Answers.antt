@@ -3,11 +3,11 @@ use Rattle.mach_types.specs.declared.events.Choice.TheVariants as asked
 use Rattle.mach_types.specs.declared.events.Kind.TheVariants as kind
 use Rattle.block_model.specs.Deciding.{entry_in}
 use Rattle.block_model.specs.Instruction.{next_effect}
-use Rattle.process.proofs.Common.{HartState, byte_in, can_write_in, file_of, here_at, stepped}
+use Rattle.process.proofs.Common.{HartState, byte_in, can_write_in, file_of, here_at, not-false, stepped}
 use Rattle.process.proofs.Entries.{entry_here}
 use Rattle.process.proofs.FreeSteps.{free_step_is, goes, stays_idle, stays_other, stays_waiting}
 use Rattle.process.proofs.Places.{hart_is}
-use Rattle.process.proofs.PlainSteps.{plain_executed, plain_planned, ran_same, was_some}
+use Rattle.process.proofs.PlainSteps.{plain_executed, plain_planned, ran_same}
 use Rattle.process.specs.Refinement.{answered}
 use Rattle.process.proofs.parts.Parts.exec_free.Goals as goal
 
@@ -17,7 +17,7 @@ returns-clause-answer c v place alone =
     let h = c.args.hart in
     let x = c.index-state.result.now in
     let is = free_step_is (byte_in m.pages) (can_write_in m.pages) x (next_effect c.args.code.now (file_of x)) c.in-Some.step (sym c.free_step.ensures ∙ c.in-Some.is) in
-    let running = was_some _ (sym c.is_idle.ensures ∙ c.if-is_idle.false) in
+    let running = not-false _ (sym c.is_idle.ensures ∙ c.if-is_idle.false) in
     let free = sym c.is_some.ensures ∙ c.if-is_some.false in
     let plan = plain_planned v m h.0 x c.in-Some.step c.args.code.now is.asked place alone c.index-state.ensures is.is is.sizes running free is.plain in
     ap Ok (c.entry_of-made.ensures ∙ entry_here v m h kind.Exec x place c.index-state.ensures)
@@ -30,7 +30,7 @@ returns-clause-made c v place alone =
     let x = c.index-state.result.now in
     let does = c.in-Some.step in
     let is = free_step_is (byte_in m.pages) (can_write_in m.pages) x (next_effect c.args.code.now (file_of x)) does (sym c.free_step.ensures ∙ c.in-Some.is) in
-    let running = was_some _ (sym c.is_idle.ensures ∙ c.if-is_idle.false) in
+    let running = not-false _ (sym c.is_idle.ensures ∙ c.if-is_idle.false) in
     let free = sym c.is_some.ensures ∙ c.if-is_some.false in
     let plan = plain_planned v m h.0 x does c.args.code.now is.asked place alone c.index-state.ensures is.is is.sizes running free is.plain in
     let same : c.index_mut-state.result.now ≡ x = hart_is v m h.0 c.index_mut-state.result.now place c.index_mut-state.ensures.value ∙ sym (hart_is v m h.0 x place c.index-state.ensures) in
