@@ -8,8 +8,8 @@ ghost use Rattle.block_model.specs.Deciding.{end_of, history};
 ghost use Rattle.block_model.specs.History.{kernel};
 ghost use Rattle.block_model.specs.Run.{IsBlockRun};
 ghost use Rattle.block_model.specs.Setting.{Seen, setting_of};
+ghost use Rattle.block_view.specs.Following.{IsFollowing};
 ghost use Rattle.block_view.specs.Ledgers.{kept_in};
-ghost use Rattle.block_view.specs.Tied.{IsOfLog};
 ghost use Rattle.block_view.specs.Turns.{acts_left_open};
 ghost use Rattle.command_runs.specs.Tracing.{HasTold, IsFollowed, turn_text};
 ghost use Rattle.event_facts.specs.Lines.{next_line};
@@ -186,7 +186,7 @@ fn push_unended(
     ledger: Ledger,
     machine: &Machine,
 ) -> Result<(), AllocError>
-    requires { IsOfLog machine.now (kept_in ledger) }
+    requires { IsFollowing machine.now (kept_in ledger) }
     ensures { let s = machine.now.setting in OnOk result (text.new.items
         ≡ text.old.items ++ flat_map ends_line (acts_left_open s (history s machine.now.log))) }
 {
@@ -203,7 +203,7 @@ fn push_open(
     ledger: Ledger,
     machine: &Machine,
 ) -> Result<(), AllocError>
-    requires { IsOfLog machine.now (kept_in ledger) }
+    requires { IsFollowing machine.now (kept_in ledger) }
     ensures { OnOk result (text.new.items
         ≡ text.old.items ++ open_text span.now machine.now.setting machine.now.log) }
 {
