@@ -1,9 +1,7 @@
-use Rattle.std.proofs.Common.{List, Option, option_to_list, sym, ap, ◌∙◌, subst}
-use Rattle.block_view.specs.Following.{IsFollowing, behind}
-use Rattle.block_view.specs.Ledgers.{Kept, kept_in}
+use Rattle.std.proofs.Common.{Option, option_to_list, sym, ap, ◌∙◌, subst}
+use Rattle.block_view.specs.Following.{IsFollowing}
+use Rattle.block_view.specs.Ledgers.{kept_in}
 use Rattle.block_view.specs.declared.turns.Turn.{Turn}
-use Rattle.block_view.proofs.Closing.{has_places}
-use Rattle.block_view.proofs.Entering.{hart_of_more}
 use Rattle.block_view.proofs.FollowedLogs.{follows_more, follows_so, hart_followed, places_followed, told_followed}
 use Rattle.block_view.proofs.ledger.Ledger.follow.Goals as goal
 
