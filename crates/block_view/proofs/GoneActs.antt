@@ -1,9 +1,9 @@
 -- A ledger does the same whatever acts are gone before those that it lists.
-use Rattle.std.proofs.Common.{◌≡◌, ℕ, zero, suc, ◌+◌, ◌<◌, List, [], ◌∷◌, ◌++◌, ◌||◌, append_assoc, append-nil, length, length-append, map, map-append, set, slice_get, get_or, find, filter, refl, sym, ap, ◌∙◌, arith, eqb, Bool, true, false, cond, not, Option, Some, None, is_none}
+use Rattle.std.proofs.Common.{◌≡◌, ℕ, zero, suc, ◌+◌, ◌<◌, List, [], ◌∷◌, ◌++◌, ◌||◌, append_assoc, append-nil, length, length-append, map, set, slice_get, get_or, find, filter, refl, sym, ap, ◌∙◌, arith, eqb, Bool, true, false, cond, not, Option, Some, None, is_none}
 use Rattle.std.specs.List.{list_all}
 use Rattle.std.specs.Option.{option_map}
 use Rattle.std.proofs.lemmas.Bool.{eqb-true, false_from_ne_true, false≢true}
-use Rattle.std.proofs.lemmas.List.{length-map}
+use Rattle.std.proofs.lemmas.List.{map-append}
 use Rattle.mach_types.proofs.Laws.{eqb_same}
 use Rattle.mach_types.specs.declared.events.Tid.{Tid}
 use Rattle.block_model.specs.declared.acts.SeqEnd.{SeqEnd}
@@ -331,14 +331,20 @@ let_go_behind gone k rests = λ i. record {
 }
 
 -- no act is gone
+zero_moved : (g : Going) → moved 0 g ≡ g
+zero_moved g = let same : 0 + g.place ≡ g.place = omega arith in ap (λ place. record g { place = place }) same
+
+zero_hung : (x : Hanging) → hung_moved 0 x ≡ x
+zero_hung x = let same : 0 + x.place ≡ x.place = omega arith in ap (λ place. record x { place = place }) same
+
 nowhere_moved : (xs : List (Option Going)) → map (option_map (moved 0)) xs ≡ xs
 nowhere_moved [] = refl
 nowhere_moved (None ∷ xs) = ap (λ ys. None ∷ ys) (nowhere_moved xs)
-nowhere_moved (Some g ∷ xs) = ap (λ ys. Some g ∷ ys) (nowhere_moved xs)
+nowhere_moved (Some g ∷ xs) = λ i. Some (zero_moved g i) ∷ nowhere_moved xs i
 
 none_hung_moved : (xs : List Hanging) → map (hung_moved 0) xs ≡ xs
 none_hung_moved [] = refl
-none_hung_moved (x ∷ xs) = ap (λ ys. x ∷ ys) (none_hung_moved xs)
+none_hung_moved (x ∷ xs) = λ i. zero_hung x i ∷ none_hung_moved xs i
 
 pub behind_none : (k : Kept) → behind [] k ≡ k
 behind_none k = λ i. record { acts = k.acts; going = nowhere_moved k.going i; hanging = none_hung_moved k.hanging i }
