@@ -8,6 +8,8 @@ mod Edits
 mod Endings
 mod Entering
 mod Extents
+mod FollowedLogs
+mod GoneActs
 mod Growing
 mod HangingPlaces
 mod Indices
