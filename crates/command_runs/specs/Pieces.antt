@@ -4,12 +4,11 @@ use Rattle.mach_types.specs.declared.events.Entry.{Entry}
 use Rattle.step_log.specs.Grammar.{log_text}
 use Rattle.command_runs.specs.declared.output.Lines.{Lines}
 use Rattle.command_runs.specs.declared.output.Log.{Log}
-use Rattle.command_runs.specs.declared.output.Log.TheVariants.{OfMachine, OfPair, Own}
+use Rattle.command_runs.specs.declared.output.Log.TheVariants.{OfMachine, Own}
 
 -- the entries of a log
 abbrev pub entries_of : Log → List Entry
-entries_of (OfMachine machine) = machine.log
-entries_of (OfPair pair) = pair.log
+entries_of (OfMachine machine) = machine.value.log
 entries_of (Own entries) = entries.items
 
 -- the text of its lines, where there are any

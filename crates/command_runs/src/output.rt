@@ -15,17 +15,14 @@ use mach_types::Entry;
 use machine_core::Machine;
 use outside::{Failed, Sink, emit};
 use place_text::{push_end, push_number_line};
-use shared_procs::Pair;
 use std::alloc::{AllocError, Global};
 use std::marker::Model;
 
-/// The entries of a log: those of a machine or a pair, or others.
+/// The entries of a log: those of a machine, or others. A machine stands behind a pointer, so that an output is moved by a few words.
 #[derive(Drop)]
 pub(crate) enum Log {
     /// Those that a machine made.
-    OfMachine(Machine),
-    /// Those that a pair made.
-    OfPair(Pair),
+    OfMachine(Box<Machine>),
     /// A log of its own.
     Own(Vec<Entry>),
 }
@@ -39,7 +36,6 @@ impl Log {
     {
         match self {
             Log::OfMachine(machine) => machine.log(),
-            Log::OfPair(pair) => pair.log(),
             Log::Own(entries) => entries,
         }
     }
@@ -124,7 +120,8 @@ pub(crate) fn run_output(alloc: Global, machine: Machine) -> Result<Output, Allo
 {
     let head = head_of(alloc, &machine, machine.log().len())?;
     let tail = tail_of(alloc, &machine)?;
-    Output::with_log(alloc, head, Log::OfMachine(machine), tail)
+    let log = Log::OfMachine(Box::new(alloc, machine)?);
+    Output::with_log(alloc, head, log, tail)
 }
 
 /// The output of a run with another log. All memory is taken here.

@@ -117,7 +117,7 @@ pub fn pair_output(alloc: Global, pair: Pair) -> Result<Output, AllocError>
 {
     let head = head_of(alloc, &pair)?;
     let tail = tail_of(alloc, &pair)?;
-    Output::with_log(alloc, head, Log::OfPair(pair), tail)
+    Output::with_log(alloc, head, Log::Own(pair.into_log()), tail)
 }
 
 /// What stands before the lines of the log: both consoles, and how many lines there are.

@@ -38,19 +38,18 @@ of_all labels base (m ∷ ks) zero k all at =
 of_all labels base (m ∷ ks) (suc i) k all at =
     of_all labels base ks i k (and_parts (is_free (slice_get labels (base + m))) _ all).1 at
 
-eight : List ℕ
-eight = 0 ∷ 1 ∷ 2 ∷ 3 ∷ 4 ∷ 5 ∷ 6 ∷ 7 ∷ []
+-- so many numbers from one on
+abbrev from_on : ℕ → ℕ → List ℕ
+from_on m zero = []
+from_on m (suc n) = m ∷ from_on (m + 1) n
+
+number_at : (m n k : ℕ) → k < n → slice_get (from_on m n) k ≡ Some (m + k)
+number_at m zero k lt = absurd (omega arith)
+number_at m (suc n) zero lt = ap Some (omega arith)
+number_at m (suc n) (suc k) lt = number_at (m + 1) n k (omega arith) ∙ ap Some (omega arith)
 
 eight_at : (k : ℕ) → k < 8 → slice_get (0 ∷ 1 ∷ 2 ∷ 3 ∷ 4 ∷ 5 ∷ 6 ∷ 7 ∷ []) k ≡ Some k
-eight_at zero lt = refl
-eight_at (suc zero) lt = refl
-eight_at (suc (suc zero)) lt = refl
-eight_at (suc (suc (suc zero))) lt = refl
-eight_at (suc (suc (suc (suc zero)))) lt = refl
-eight_at (suc (suc (suc (suc (suc zero))))) lt = refl
-eight_at (suc (suc (suc (suc (suc (suc zero)))))) lt = refl
-eight_at (suc (suc (suc (suc (suc (suc (suc zero))))))) lt = refl
-eight_at (suc (suc (suc (suc (suc (suc (suc (suc k)))))))) lt = absurd (omega arith)
+eight_at k lt = number_at 0 8 k lt ∙ ap Some (omega arith)
 
 pub room_is : (labels : List (Option ℕ)) (base : ℕ) → are_free labels base ≡ true → HasRoom labels base
 room_is labels base free k lt = of_all labels base (0 ∷ 1 ∷ 2 ∷ 3 ∷ 4 ∷ 5 ∷ 6 ∷ 7 ∷ []) k k free (eight_at k lt)

@@ -55,12 +55,12 @@ fn append_worked<M: Chronicle>(machine: &mut M, hart: Hart, worked: Option<M::St
 const EVENTS_ALONE: u32 = 255;
 
 /// How many events a hart tries to make beyond one in a turn of one of several workers, by a word of a generator:
-/// none by every other word, and else 1 to 15. (own)
+/// none by every other word, and else 1 to 39. (own)
 fn more_events(word: u64) -> u32
-    ensures { result < 16 }
+    ensures { result < 40 }
 {
-    let drawn = word % 30;
-    if drawn < 15 { drawn as u32 + 1 } else { 0 }
+    let drawn = word % 78;
+    if drawn < 39 { drawn as u32 + 1 } else { 0 }
 }
 
 /// What a hart does in one turn: what was worked on is appended before any other event. Then it makes one
@@ -130,17 +130,22 @@ fn work_on<M: Chronicle>(code: &M::Code, stretch: &mut Option<M::Stretch>)
     }
 }
 
-/// How many turns in a row at whose end its hart has nothing to do a worker takes before it gives its
-/// processor away between turns. (own)
+/// How many turns in a row at whose end its hart has nothing to do a worker takes before it rests between turns. (own)
 const IDLE_TURNS: u32 = 1_000;
 
+/// How often a worker gives its processor away at most in one rest. (own)
+const LONGEST_REST: u32 = 256;
+
 /// What a worker does behind so many turns in a row at whose end its hart had nothing to do, and how many they
-/// are with this one: behind many of them it gives its processor away.
+/// are with this one: behind many of them it gives its processor away, once more with each turn, so that workers
+/// with nothing to do leave the turns to those that have something.
 fn rest(idle_turns: u32) -> u32 {
-    if idle_turns < IDLE_TURNS {
+    for _ in IDLE_TURNS..idle_turns {
+        thread::yield_now();
+    }
+    if idle_turns < IDLE_TURNS + LONGEST_REST {
         idle_turns + 1
     } else {
-        thread::yield_now();
         idle_turns
     }
 }

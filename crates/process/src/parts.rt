@@ -145,7 +145,7 @@ impl Parts {
 
     /// The event of a choice other than `exec` that is allowed on a hart, but for its count ([`Parts::count`]). A store that enters
     /// memory by a `drain` must lie on pages of the process.
-    #[inline]
+    #[inline(always)]
     pub fn event(&mut self, hart: Hart, choice: Choice)
         requires free { MayMake self.old hart.0 choice }
         requires other { choice ≢ Choice.Exec }
@@ -178,7 +178,7 @@ impl Parts {
     /// The first condition of a choice other than `exec` on a hart that fails; None exactly where the choice is allowed. The parts
     /// must stand at some place at which their process goes on and has room for one more entry, and the hart must be one of the
     /// machine's. What is answered is what is due at whichever such place that is, whatever stands beside the process.
-    #[inline]
+    #[inline(always)]
     pub fn refusal_unless_exec(&self, hart: Hart, choice: Choice) -> Option<Why>
         requires place { HasPlace self.now hart.0 }
         requires other { choice ≢ Choice.Exec }

@@ -199,6 +199,13 @@ impl Pair {
         &self.log
     }
 
+    /// The events so far, without the pair.
+    pub fn into_log(self) -> Vec<Entry>
+        ensures { result.items ≡ self.log }
+    {
+        self.log
+    }
+
     /// The bytes that a process, 1 or 2, wrote to its console.
     pub fn console(&self, process: u8) -> &[u8]
         requires { (process ≡ 1) ⊎ (process ≡ 2) }

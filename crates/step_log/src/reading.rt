@@ -46,7 +46,7 @@ impl<'a> LineReader<'a> {
     ///
     /// A malformed line is refused with its number, counted from 1, and the reader stays before it: each
     /// later call gives the same refusal.
-    #[inline]
+    #[inline(always)]
     pub fn next_line(&mut self) -> Result<Option<Line>, BadLine>
         ensures answer { result ≡ next_answer self.old }
         ensures left { self.new ≡ after_next self.old }

@@ -250,11 +250,11 @@ fn traced_text<S: Shelf>(
 {
     let image = taken(alloc, program, &limits, shelf)?;
     let lines = read_file(alloc, traced.script, FileRole::Script, shelf)?;
-    let run = play_traced(alloc, &image, limits, &traced.span, &lines)?;
+    let told = play_traced(alloc, &image, limits, &traced.span, &lines)?;
     let TracedRun {
         machine: _machine,
         text,
-    } = run;
+    } = told;
     Ok(Output::whole(text))
 }
 

@@ -49,10 +49,8 @@ use Rattle.urcu_lib.proofs.CounterLaw.{in_word, new_count, same_count, seen_last
 use Rattle.fence_laws.proofs.ExecLaw.{after_load, exec_of}
 use Rattle.urcu_lib.proofs.SlotLaw.{is_later}
 use Rattle.urcu_lib.proofs.SyncState.{ArePassed, HasNone, IsOpen, IsOrderly, IsPast, Stands, all_set, base}
-use Rattle.urcu_lib.proofs.SyncState.{counts, has_called, has_grown, has_loaded, has_looked, has_slots}
-use Rattle.urcu_lib.proofs.SyncState.{has_stored, is_over, is_some, left_at, looks, moves, one_set}
-use Rattle.urcu_lib.proofs.SyncState.{open_next, passes, quiet_next, some_left, stands_next, three_set}
-use Rattle.urcu_lib.proofs.SyncState.{two_set}
+use Rattle.urcu_lib.proofs.SyncState.{has_called, has_grown, has_looked, is_over, is_some, left_at, looks}
+use Rattle.urcu_lib.proofs.SyncState.{moves, open_next, passes, place_of, quiet_next, some_left, stands_next}
 use Rattle.urcu_lib.proofs.SyncSteps.{AreBelow, IsNext, base_is, entered_now, next_first, next_of}
 use Rattle.urcu_lib.proofs.SyncSteps.{none_waits, past_last, sync_stores}
 use Rattle.fence_laws.proofs.Calls.{outside_of}
@@ -94,103 +92,38 @@ module _ (s : Setting) (u : Urcu) (first at t : ℕ) (f : Regs) (now : History) 
     entered : HaveEntered o.grace now
     five : register f 5 ≡ (base s u first at t now o + 1) % 2 ^ 64
 
+  -- a thread isn't at two places
+  apart_from : (k m : ℕ) → k ≡ m → (x : Stands s u first at t f now k)
+      → (place_of s u first k x).0 ≢ m → ⊥
+  apart_from k m is x other = other (sym (place_of s u first k x).1 ∙ is)
+
   grown_at : (k : ℕ) → k ≡ 7 → Stands s u first at t f now k → IsGrown
   grown_at k seven (has_grown is o quiet entered five) = record
       { o = o; quiet = quiet; entered = entered; five = five }
-  grown_at k seven (one_set is a none) = let no : ⊥ = omega arith in absurd no
-  grown_at k seven (two_set is a b none) = let no : ⊥ = omega arith in absurd no
-  grown_at k seven (three_set is a b none) = let no : ⊥ = omega arith in absurd no
-  grown_at k seven (all_set is a b c none) = let no : ⊥ = omega arith in absurd no
-  grown_at k seven (has_called is o quiet) = let no : ⊥ = omega arith in absurd no
-  grown_at k seven (has_loaded is o quiet entered five) = let no : ⊥ = omega arith in absurd no
-  grown_at k seven (has_stored is p) = let no : ⊥ = omega arith in absurd no
-  grown_at k seven (has_slots is p six) = let no : ⊥ = omega arith in absurd no
-  grown_at k seven (looks is p i lt six x passed) = let no : ⊥ = omega arith in absurd no
-  grown_at k seven (has_looked is p i lt six x passed shows) = let no : ⊥ = omega arith in absurd no
-  grown_at k seven (is_some is p i lt six x passed shows) = let no : ⊥ = omega arith in absurd no
-  grown_at k seven (passes is p i lt six x passed) = let no : ⊥ = omega arith in absurd no
-  grown_at k seven (moves is p i lt six x passed) = let no : ⊥ = omega arith in absurd no
-  grown_at k seven (counts is p i lt six x passed) = let no : ⊥ = omega arith in absurd no
-  grown_at k seven (is_over is p passed) = let no : ⊥ = omega arith in absurd no
+  grown_at k seven x = absurd (apart_from k 7 seven x (omega arith))
 
   called_at : (k : ℕ) → k ≡ 5 → Stands s u first at t f now k
       → (o : IsOpen s u first at t now) × AreQuiet (counter_bytes u) o.since
   called_at k five (has_called is o quiet) = (o, quiet)
-  called_at k five (has_grown is o quiet entered x) = let no : ⊥ = omega arith in absurd no
-  called_at k five (one_set is a none) = let no : ⊥ = omega arith in absurd no
-  called_at k five (two_set is a b none) = let no : ⊥ = omega arith in absurd no
-  called_at k five (three_set is a b none) = let no : ⊥ = omega arith in absurd no
-  called_at k five (all_set is a b c none) = let no : ⊥ = omega arith in absurd no
-  called_at k five (has_loaded is o quiet entered x) = let no : ⊥ = omega arith in absurd no
-  called_at k five (has_stored is p) = let no : ⊥ = omega arith in absurd no
-  called_at k five (has_slots is p six) = let no : ⊥ = omega arith in absurd no
-  called_at k five (looks is p i lt six x passed) = let no : ⊥ = omega arith in absurd no
-  called_at k five (has_looked is p i lt six x passed shows) = let no : ⊥ = omega arith in absurd no
-  called_at k five (is_some is p i lt six x passed shows) = let no : ⊥ = omega arith in absurd no
-  called_at k five (passes is p i lt six x passed) = let no : ⊥ = omega arith in absurd no
-  called_at k five (moves is p i lt six x passed) = let no : ⊥ = omega arith in absurd no
-  called_at k five (counts is p i lt six x passed) = let no : ⊥ = omega arith in absurd no
-  called_at k five (is_over is p passed) = let no : ⊥ = omega arith in absurd no
+  called_at k five x = absurd (apart_from k 5 five x (omega arith))
 
   -- at the call its number stands in x17, and no grace period goes on
   call_at : (k : ℕ) → k ≡ 4 → Stands s u first at t f now k
       → (register f 17 ≡ 283) × HasNone s u first at t now
   call_at k four (all_set is a b c none) = (c, none)
-  call_at k four (one_set is a none) = let no : ⊥ = omega arith in absurd no
-  call_at k four (two_set is a b none) = let no : ⊥ = omega arith in absurd no
-  call_at k four (three_set is a b none) = let no : ⊥ = omega arith in absurd no
-  call_at k four (has_called is o quiet) = let no : ⊥ = omega arith in absurd no
-  call_at k four (has_grown is o quiet entered x) = let no : ⊥ = omega arith in absurd no
-  call_at k four (has_loaded is o quiet entered x) = let no : ⊥ = omega arith in absurd no
-  call_at k four (has_stored is p) = let no : ⊥ = omega arith in absurd no
-  call_at k four (has_slots is p six) = let no : ⊥ = omega arith in absurd no
-  call_at k four (looks is p i lt six x passed) = let no : ⊥ = omega arith in absurd no
-  call_at k four (has_looked is p i lt six x passed shows) = let no : ⊥ = omega arith in absurd no
-  call_at k four (is_some is p i lt six x passed shows) = let no : ⊥ = omega arith in absurd no
-  call_at k four (passes is p i lt six x passed) = let no : ⊥ = omega arith in absurd no
-  call_at k four (moves is p i lt six x passed) = let no : ⊥ = omega arith in absurd no
-  call_at k four (counts is p i lt six x passed) = let no : ⊥ = omega arith in absurd no
-  call_at k four (is_over is p passed) = let no : ⊥ = omega arith in absurd no
+  call_at k four x = absurd (apart_from k 4 four x (omega arith))
 
   looked_at : (k : ℕ) → k ≡ 11 → Stands s u first at t f now k → IsPast s u first at t f now
-  looked_at k looked (has_looked is p i lt six x passed shows) = p
-  looked_at k looked (looks is p i lt six x passed) = let no : ⊥ = omega arith in absurd no
-  looked_at k looked (all_set is a b c none) = let no : ⊥ = omega arith in absurd no
-  looked_at k looked (one_set is a none) = let no : ⊥ = omega arith in absurd no
-  looked_at k looked (two_set is a b none) = let no : ⊥ = omega arith in absurd no
-  looked_at k looked (three_set is a b none) = let no : ⊥ = omega arith in absurd no
-  looked_at k looked (has_called is o quiet) = let no : ⊥ = omega arith in absurd no
-  looked_at k looked (has_grown is o quiet entered x) = let no : ⊥ = omega arith in absurd no
-  looked_at k looked (has_loaded is o quiet entered x) = let no : ⊥ = omega arith in absurd no
-  looked_at k looked (has_stored is p) = let no : ⊥ = omega arith in absurd no
-  looked_at k looked (has_slots is p six) = let no : ⊥ = omega arith in absurd no
-  looked_at k looked (is_some is p i lt six x passed shows) = let no : ⊥ = omega arith in absurd no
-  looked_at k looked (passes is p i lt six x passed) = let no : ⊥ = omega arith in absurd no
-  looked_at k looked (moves is p i lt six x passed) = let no : ⊥ = omega arith in absurd no
-  looked_at k looked (counts is p i lt six x passed) = let no : ⊥ = omega arith in absurd no
-  looked_at k looked (is_over is p passed) = let no : ⊥ = omega arith in absurd no
+  looked_at k looked (has_looked is x passed shows) = x.past
+  looked_at k looked x = absurd (apart_from k 11 looked x (omega arith))
 
   -- at the load x6 is the address of the slot at which the thread looks, and x7 says how many are left
   abbrev LooksAt : Type 0
   LooksAt = (i : ℕ) × (register f 6 ≡ slot_at u i) × (register f 7 + i ≡ u.readers at)
 
   looks_at : (k : ℕ) → k ≡ 10 → Stands s u first at t f now k → LooksAt
-  looks_at k ten (looks is p i lt six seven passed) = (i, six, seven)
-  looks_at k ten (all_set is a b c none) = let no : ⊥ = omega arith in absurd no
-  looks_at k ten (one_set is a none) = let no : ⊥ = omega arith in absurd no
-  looks_at k ten (two_set is a b none) = let no : ⊥ = omega arith in absurd no
-  looks_at k ten (three_set is a b none) = let no : ⊥ = omega arith in absurd no
-  looks_at k ten (has_called is o quiet) = let no : ⊥ = omega arith in absurd no
-  looks_at k ten (has_grown is o quiet entered x) = let no : ⊥ = omega arith in absurd no
-  looks_at k ten (has_loaded is o quiet entered x) = let no : ⊥ = omega arith in absurd no
-  looks_at k ten (has_stored is p) = let no : ⊥ = omega arith in absurd no
-  looks_at k ten (has_slots is p six) = let no : ⊥ = omega arith in absurd no
-  looks_at k ten (has_looked is p i lt six x passed shows) = let no : ⊥ = omega arith in absurd no
-  looks_at k ten (is_some is p i lt six x passed shows) = let no : ⊥ = omega arith in absurd no
-  looks_at k ten (passes is p i lt six x passed) = let no : ⊥ = omega arith in absurd no
-  looks_at k ten (moves is p i lt six x passed) = let no : ⊥ = omega arith in absurd no
-  looks_at k ten (counts is p i lt six x passed) = let no : ⊥ = omega arith in absurd no
-  looks_at k ten (is_over is p passed) = let no : ⊥ = omega arith in absurd no
+  looks_at k ten (looks is x passed) = (x.i, x.six, x.seven)
+  looks_at k ten x = absurd (apart_from k 10 ten x (omega arith))
 
   -- at another instruction than the last at least two are left
   abbrev left_of : ℕ → ℕ
@@ -200,41 +133,18 @@ module _ (s : Setting) (u : Urcu) (first at t : ℕ) (f : Regs) (now : History) 
   two_by k m is some = subst (λ n. 2 ≤ left_of n) (sym is) some
 
   two_left : (k : ℕ) → k ≢ 16 → Stands s u first at t f now k → 2 ≤ left_of k
-  two_left k other (all_set is a b c none) = two_by k 4 is (omega arith)
-  two_left k other (one_set is a none) = two_by k 1 is (omega arith)
-  two_left k other (two_set is a b none) = two_by k 2 is (omega arith)
-  two_left k other (three_set is a b none) = two_by k 3 is (omega arith)
-  two_left k other (has_called is o quiet) = two_by k 5 is (omega arith)
-  two_left k other (has_grown is o quiet entered x) = two_by k 7 is (omega arith)
-  two_left k other (has_loaded is o quiet entered x) = two_by k 6 is (omega arith)
-  two_left k other (has_stored is p) = two_by k 8 is (omega arith)
-  two_left k other (has_slots is p six) = two_by k 9 is (omega arith)
-  two_left k other (looks is p i lt six x passed) = two_by k 10 is (omega arith)
-  two_left k other (has_looked is p i lt six x passed shows) = two_by k 11 is (omega arith)
-  two_left k other (is_some is p i lt six x passed shows) = two_by k 12 is (omega arith)
-  two_left k other (passes is p i lt six x passed) = two_by k 13 is (omega arith)
-  two_left k other (moves is p i lt six x passed) = two_by k 14 is (omega arith)
-  two_left k other (counts is p i lt six x passed) = two_by k 15 is (omega arith)
   two_left k other (is_over is p passed) = absurd (other is)
+  two_left k other (looks is x passed) = two_by k 10 is (omega arith)
+  two_left k other (has_looked is x passed shows) = two_by k 11 is (omega arith)
+  two_left k other (is_some is x passed shows) = two_by k 12 is (omega arith)
+  two_left k other (passes is x passed) = two_by k 13 is (omega arith)
+  two_left k other (moves is p i lt six x passed) = two_by k 14 is (omega arith)
+  two_left k other x = two_by k (place_of s u first k x).0 (place_of s u first k x).1 (omega arith)
 
   over_at : (k : ℕ) → k ≡ 16 → Stands s u first at t f now k
       → (p : IsPast s u first at t f now) × ArePassed s u first p.opened.grace (u.readers at) now
   over_at k last (is_over is p passed) = (p, passed)
-  over_at k last (has_called is o quiet) = let no : ⊥ = omega arith in absurd no
-  over_at k last (has_grown is o quiet entered x) = let no : ⊥ = omega arith in absurd no
-  over_at k last (one_set is a none) = let no : ⊥ = omega arith in absurd no
-  over_at k last (two_set is a b none) = let no : ⊥ = omega arith in absurd no
-  over_at k last (three_set is a b none) = let no : ⊥ = omega arith in absurd no
-  over_at k last (all_set is a b c none) = let no : ⊥ = omega arith in absurd no
-  over_at k last (has_loaded is o quiet entered x) = let no : ⊥ = omega arith in absurd no
-  over_at k last (has_stored is p) = let no : ⊥ = omega arith in absurd no
-  over_at k last (has_slots is p six) = let no : ⊥ = omega arith in absurd no
-  over_at k last (looks is p i lt six x passed) = let no : ⊥ = omega arith in absurd no
-  over_at k last (has_looked is p i lt six x passed shows) = let no : ⊥ = omega arith in absurd no
-  over_at k last (is_some is p i lt six x passed shows) = let no : ⊥ = omega arith in absurd no
-  over_at k last (passes is p i lt six x passed) = let no : ⊥ = omega arith in absurd no
-  over_at k last (moves is p i lt six x passed) = let no : ⊥ = omega arith in absurd no
-  over_at k last (counts is p i lt six x passed) = let no : ⊥ = omega arith in absurd no
+  over_at k last x = absurd (apart_from k 16 last x (omega arith))
 
 same_event : (x y : Event) (xs ys : History) → x ∷ xs ≡ y ∷ ys → x ≡ y
 same_event x y xs ys is = cc

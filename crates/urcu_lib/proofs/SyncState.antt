@@ -53,17 +53,21 @@ pub record IsOrderly (s : Setting) (u : Urcu) (first : ℕ) (e : Event) (before 
   pub low : counted u.counter first before < 2 ^ 64
 
 module _ (s : Setting) (u : Urcu) (first : ℕ) where
-  -- a grace period of thread t in the sync block goes on, the newest one, since a call that is a barrier for
-  -- each hart
-  pub record IsOpen (at t : ℕ) (now : History) : Type 0 where
+  -- a grace period of thread t in the sync block began by a call that is a barrier for each hart
+  pub record HasOpened (at t : ℕ) : Type 0 where
     pub regs : SyncRegs
     pub block : u.syncs at ≡ Some regs
     pub grace : History
     pub call : Event
+    pub fence : IsFence s call grace
+    pub begins : IsGraceBegin at t call
+
+  -- it goes on, and is the newest one
+  pub record IsOpen (at t : ℕ) (now : History) : Type 0 where
+    pub began : HasOpened at t
+    pub open began use *
     pub since : List Event
     pub parts : now ≡ since ++ call ∷ grace
-    pub begins : IsGraceBegin at t call
-    pub fence : IsFence s call grace
     pub on : IsGrace at t grace now
     pub newest : (g : History) → IsGrace at t g now → length g ≤ length grace
 
@@ -87,9 +91,24 @@ module _ (s : Setting) (u : Urcu) (first : ℕ) where
     pub count : counted u.counter first now ≡ counted u.counter first opened.grace + 1
     pub apart : (h : ℕ) → running s h now ≢ Some t → AreBeside (counter_bytes u) (waiting h now)
 
+  -- at slot i of the first ones: x6 is its address, and x7 says how many are left
+  pub record IsAtSlot (at t : ℕ) (f : Regs) (now : History) : Type 0 where
+    pub past : IsPast at t f now
+    pub i : ℕ
+    pub lt : i < u.readers at
+    pub six : register f 6 ≡ slot_at u i
+    pub seven : register f 7 + i ≡ u.readers at
+
   -- no grace period of the thread in the block goes on
   abbrev pub HasNone : (at t : ℕ) (now : History) → Type 0
   HasNone at t now = (g : History) → IsGrace at t g now → ⊥
+
+  -- where what was loaded of the slot is 0 or at least the new counter, no section of it goes on that began
+  -- before
+  abbrev pub ShowsEnd : (at t : ℕ) (f : Regs) (now : History) → IsAtSlot at t f now → Type 0
+  ShowsEnd at t f now x =
+      (register f 10 ≡ 0) ⊎ (base at t now x.past.opened + 1 ≤ register f 10)
+      → HasEnded x.past.opened.grace x.i now
 
   -- the thread is at instruction k of the block
   pub data Stands (at t : ℕ) (f : Regs) (now : History) (k : ℕ) : Type 0 where
@@ -105,22 +124,13 @@ module _ (s : Setting) (u : Urcu) (first : ℕ) where
         → register f 5 ≡ (base at t now o + 1) % 2 ^ 64 → Stands at t f now k
     has_stored : k ≡ 8 → IsPast at t f now → Stands at t f now k
     has_slots : k ≡ 9 → IsPast at t f now → register f 6 ≡ u.slots → Stands at t f now k
-    looks : k ≡ 10 → (p : IsPast at t f now) → (i : ℕ) → i < u.readers at → register f 6 ≡ slot_at u i
-        → register f 7 + i ≡ u.readers at
-        → ArePassed p.opened.grace i now → Stands at t f now k
-    has_looked : k ≡ 11 → (p : IsPast at t f now) → (i : ℕ) → i < u.readers at → register f 6 ≡ slot_at u i
-        → register f 7 + i ≡ u.readers at
-        → ArePassed p.opened.grace i now
-        → ((register f 10 ≡ 0) ⊎ (base at t now p.opened + 1 ≤ register f 10) → HasEnded p.opened.grace i now)
+    looks : k ≡ 10 → (x : IsAtSlot at t f now) → ArePassed x.past.opened.grace x.i now → Stands at t f now k
+    has_looked : k ≡ 11 → (x : IsAtSlot at t f now) → ArePassed x.past.opened.grace x.i now
+        → ShowsEnd at t f now x → Stands at t f now k
+    is_some : k ≡ 12 → (x : IsAtSlot at t f now) → ArePassed x.past.opened.grace x.i now
+        → ShowsEnd at t f now x → Stands at t f now k
+    passes : k ≡ 13 → (x : IsAtSlot at t f now) → ArePassed x.past.opened.grace (suc x.i) now
         → Stands at t f now k
-    is_some : k ≡ 12 → (p : IsPast at t f now) → (i : ℕ) → i < u.readers at → register f 6 ≡ slot_at u i
-        → register f 7 + i ≡ u.readers at
-        → ArePassed p.opened.grace i now
-        → ((register f 10 ≡ 0) ⊎ (base at t now p.opened + 1 ≤ register f 10) → HasEnded p.opened.grace i now)
-        → Stands at t f now k
-    passes : k ≡ 13 → (p : IsPast at t f now) → (i : ℕ) → i < u.readers at → register f 6 ≡ slot_at u i
-        → register f 7 + i ≡ u.readers at
-        → ArePassed p.opened.grace (suc i) now → Stands at t f now k
     moves : k ≡ 14 → (p : IsPast at t f now) → (i : ℕ) → i < u.readers at
         → (suc i < u.readers at → register f 6 ≡ slot_at u (suc i)) → register f 7 + i ≡ u.readers at
         → ArePassed p.opened.grace (suc i) now → Stands at t f now k
@@ -129,6 +139,26 @@ module _ (s : Setting) (u : Urcu) (first : ℕ) where
         → ArePassed p.opened.grace (suc i) now → Stands at t f now k
     is_over : k ≡ 16 → (p : IsPast at t f now) → ArePassed p.opened.grace (u.readers at) now
         → Stands at t f now k
+
+  -- the number of its place
+  abbrev pub place_of : {at t : ℕ} {f : Regs} {now : History} (k : ℕ) → Stands at t f now k
+      → (n : ℕ) × (k ≡ n)
+  place_of k (one_set is a none) = (1, is)
+  place_of k (two_set is a b none) = (2, is)
+  place_of k (three_set is a b none) = (3, is)
+  place_of k (all_set is a b c none) = (4, is)
+  place_of k (has_called is o quiet) = (5, is)
+  place_of k (has_loaded is o quiet entered five) = (6, is)
+  place_of k (has_grown is o quiet entered five) = (7, is)
+  place_of k (has_stored is p) = (8, is)
+  place_of k (has_slots is p six) = (9, is)
+  place_of k (looks is x passed) = (10, is)
+  place_of k (has_looked is x passed shows) = (11, is)
+  place_of k (is_some is x passed shows) = (12, is)
+  place_of k (passes is x passed) = (13, is)
+  place_of k (moves is p i lt six seven passed) = (14, is)
+  place_of k (counts is p i lt six seven passed) = (15, is)
+  place_of k (is_over is p passed) = (16, is)
 
   module _ (at t : ℕ) (e : Event) (before : History) (run : IsRunHistory s (e ∷ before))
       (has : IsOrderly s u first e before) where
@@ -145,14 +175,9 @@ module _ (s : Setting) (u : Urcu) (first : ℕ) where
     -- an event that doesn't end the grace period
     abbrev pub open_next : (IsGraceEnd at t e → ⊥) → IsOpen at t before → IsOpen at t (e ∷ before)
     open_next not_end o = record {
-      regs = o.regs;
-      block = o.block;
-      grace = o.grace;
-      call = o.call;
+      began = o.began;
       since = e ∷ o.since;
       parts = ap (λ (b : History). e ∷ b) o.parts;
-      begins = o.begins;
-      fence = o.fence;
       on = waits e before o.on not_end;
       newest = newest_next o;
     }
@@ -199,6 +224,19 @@ module _ (s : Setting) (u : Urcu) (first : ℕ) where
             (inl (is_quiet p.opened not_store).executed) p.apart;
       }
 
+      -- and leaves x5, x6 and x7
+      abbrev pub slot_next : (f g : Regs) → (IsGraceEnd at t e → ⊥)
+          → (e.entry.tid.0 ≡ t → IsExecAt (at + 28) e → ⊥)
+          → ((j : ℕ) → 5 ≤ j → j < 8 → register g j ≡ register f j)
+          → IsAtSlot at t f before → IsAtSlot at t g (e ∷ before)
+      slot_next f g not_end not_store same x = record {
+        past = past_next f g not_end not_store (same 5 (omega arith) (omega arith)) x.past;
+        i = x.i;
+        lt = x.lt;
+        six = same 6 (omega arith) (omega arith) ∙ x.six;
+        seven = ap (λ m. m + x.i) (same 7 (omega arith) (omega arith)) ∙ x.seven;
+      }
+
       -- an event that executes nothing of the block
       module _ (f : Regs) (elsewhere : IsElsewhere at 17 t e) where
         not_end : IsGraceEnd at t e → ⊥
@@ -212,6 +250,9 @@ module _ (s : Setting) (u : Urcu) (first : ℕ) where
 
         abbrev p_next : IsPast at t f before → IsPast at t f (e ∷ before)
         p_next p = past_next f f not_end not_store refl p
+
+        abbrev x_next : IsAtSlot at t f before → IsAtSlot at t f (e ∷ before)
+        x_next x = slot_next f f not_end not_store (λ j from to. refl) x
 
         not_begun : IsGraceBegin at t e → ⊥
         not_begun begins = elsewhere begins.exec.executes begins.of (4, omega arith, begins.exec.pc)
@@ -228,16 +269,15 @@ module _ (s : Setting) (u : Urcu) (first : ℕ) where
             (quiet_next o not_store quiet) (entered_next o.grace e before entered) five
         stands_next k (has_stored is p) = has_stored is (p_next p)
         stands_next k (has_slots is p six) = has_slots is (p_next p) six
-        stands_next k (looks is p i lt six seven passed) = looks is (p_next p) i lt six seven
-            (passed_next p.opened i passed)
-        stands_next k (has_looked is p i lt six seven passed shows) =
-            has_looked is (p_next p) i lt six seven (passed_next p.opened i passed)
-            (λ is. ended_next p.opened i (shows is))
-        stands_next k (is_some is p i lt six seven passed shows) =
-            is_some is (p_next p) i lt six seven (passed_next p.opened i passed)
-            (λ is. ended_next p.opened i (shows is))
-        stands_next k (passes is p i lt six seven passed) = passes is (p_next p) i lt six seven
-            (passed_next p.opened (suc i) passed)
+        stands_next k (looks is x passed) = looks is (x_next x) (passed_next x.past.opened x.i passed)
+        stands_next k (has_looked is x passed shows) =
+            has_looked is (x_next x) (passed_next x.past.opened x.i passed)
+            (λ is. ended_next x.past.opened x.i (shows is))
+        stands_next k (is_some is x passed shows) =
+            is_some is (x_next x) (passed_next x.past.opened x.i passed)
+            (λ is. ended_next x.past.opened x.i (shows is))
+        stands_next k (passes is x passed) = passes is (x_next x)
+            (passed_next x.past.opened (suc x.i) passed)
         stands_next k (moves is p i lt six seven passed) = moves is (p_next p) i lt six seven
             (passed_next p.opened (suc i) passed)
         stands_next k (counts is p i lt six seven passed) = counts is (p_next p) i lt six seven

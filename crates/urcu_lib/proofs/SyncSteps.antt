@@ -2,7 +2,7 @@
 use Rattle.std.proofs.Common.{◌≡◌, ◌≢◌, ℕ, suc, ◌+◌, ◌*◌, ◌-◌, ◌<◌, ◌≤◌, ◌%◌, ◌^◌, List, [], ◌∷◌, ◌++◌, ◌⊎◌}
 use Rattle.std.proofs.Common.{length, append-nil, append_assoc, arith, refl, sym, ap, ◌∙◌, subst, Bool, true}
 use Rattle.std.proofs.Common.{false, cond, eqb, ltb, inl, inr, Some, slice_get, ℤ, pos, negsuc}
-use Rattle.std.proofs.lemmas.Bool.{cases_eq, eqb-false, eqb-true, false≢true, ltb-true, ltb-false}
+use Rattle.std.proofs.lemmas.Bool.{cases_Bool, cases_eq, eqb-false, eqb-true, false≢true, ltb-true, ltb-false}
 use Rattle.mach_types.specs.Bytes.{each_byte, word_at}
 use Rattle.mach_types.specs.Events.{choice_of}
 use Rattle.mach_types.specs.Kernel.Threads.{is_live}
@@ -43,42 +43,45 @@ use Rattle.fence_laws.proofs.OwnerLaw.{owned_next}
 use Rattle.fence_laws.proofs.ThreadLaw.{runner_lives}
 use Rattle.percpu_lib.proofs.BlockWords.{held_aligned}
 use Rattle.urcu_lib.proofs.SlotLaw.{HasBegun, has_begun, lock_value, slot_holds}
-use Rattle.urcu_lib.proofs.SyncState.{ArePassed, HasEnded, HasNone, IsOrderly, IsOpen, IsPast, Stands}
+use Rattle.urcu_lib.proofs.SyncState.{ArePassed, HasEnded, HasNone, IsAtSlot, IsOrderly, IsOpen, IsPast}
+use Rattle.urcu_lib.proofs.SyncState.{ShowsEnd, Stands}
 use Rattle.urcu_lib.proofs.SyncState.{all_set, base, counts, ended_next, has_called, has_grown, has_loaded}
 use Rattle.urcu_lib.proofs.SyncState.{has_looked, has_slots, has_stored, is_over, is_some, left_at, looks}
 use Rattle.urcu_lib.proofs.SyncState.{moves, none_next, one_set, open_next, passed_next, passes, past_next}
-use Rattle.urcu_lib.proofs.SyncState.{quiet_next, three_set, two_set}
+use Rattle.urcu_lib.proofs.SyncState.{quiet_next, slot_next, three_set, two_set}
 use Rattle.fence_laws.proofs.WordLaw.{entered_beside}
 
-module _ (f : Regs) (at to : ℕ) (on : sum_64 at 4 ≡ to) where
-  means_beq_not : (rs1 rs2 : ℕ) (imm : ℤ) → eqb (register f rs1) (register f rs2) ≡ false
+-- a branch that goes on, and one that is taken
+past_branch : (test : Bool) (at target to : ℕ) → sum_64 at 4 ≡ to → test ≡ false
+    → branch test target at ≡ effect.Next 0 0 to
+past_branch test at target to on isnt = ap (λ b. branch b target at) isnt ∙ ap (effect.Next 0 0) on
+
+by_branch : (test : Bool) (at target to : ℕ) → to % 4 ≡ 0 → target ≡ to → test ≡ true
+    → branch test target at ≡ effect.Next 0 0 to
+by_branch test at target to aligned same is =
+    ap (λ b. branch b target at) is ∙ ap (go_to 0 0) same
+    ∙ ap (λ n. cond (eqb n 0) (effect.Next 0 0 to) effect.Misaligned) aligned
+
+module _ (f : Regs) (at to rs1 rs2 : ℕ) (imm : ℤ) where
+  means_beq_not : sum_64 at 4 ≡ to → eqb (register f rs1) (register f rs2) ≡ false
       → meaning (inst.Beq rs1 rs2 imm) f at ≡ effect.Next 0 0 to
   unfolding meaning
-  means_beq_not rs1 rs2 imm differs = ap (λ b. branch b (sum_64 at (word imm)) at) differs
-      ∙ ap (effect.Next 0 0) on
+  means_beq_not = past_branch (eqb (register f rs1) (register f rs2)) at (sum_64 at (word imm)) to
 
-  means_bltu_not : (rs1 rs2 : ℕ) (imm : ℤ) → ltb (register f rs1) (register f rs2) ≡ false
+  means_bltu_not : sum_64 at 4 ≡ to → ltb (register f rs1) (register f rs2) ≡ false
       → meaning (inst.Bltu rs1 rs2 imm) f at ≡ effect.Next 0 0 to
   unfolding meaning
-  means_bltu_not rs1 rs2 imm isnt = ap (λ b. branch b (sum_64 at (word imm)) at) isnt
-      ∙ ap (effect.Next 0 0) on
+  means_bltu_not = past_branch (ltb (register f rs1) (register f rs2)) at (sum_64 at (word imm)) to
 
-module _ (f : Regs) (at to : ℕ) (aligned : to % 4 ≡ 0) where
-  means_beq : (rs1 rs2 : ℕ) (imm : ℤ) → sum_64 at (word imm) ≡ to
-      → eqb (register f rs1) (register f rs2) ≡ true
+  means_beq : to % 4 ≡ 0 → sum_64 at (word imm) ≡ to → eqb (register f rs1) (register f rs2) ≡ true
       → meaning (inst.Beq rs1 rs2 imm) f at ≡ effect.Next 0 0 to
   unfolding meaning
-  means_beq rs1 rs2 imm target is =
-      ap (λ b. branch b (sum_64 at (word imm)) at) is ∙ ap (go_to 0 0) target
-      ∙ ap (λ n. cond (eqb n 0) (effect.Next 0 0 to) effect.Misaligned) aligned
+  means_beq = by_branch (eqb (register f rs1) (register f rs2)) at (sum_64 at (word imm)) to
 
-  means_bltu : (rs1 rs2 : ℕ) (imm : ℤ) → sum_64 at (word imm) ≡ to
-      → ltb (register f rs1) (register f rs2) ≡ true
+  means_bltu : to % 4 ≡ 0 → sum_64 at (word imm) ≡ to → ltb (register f rs1) (register f rs2) ≡ true
       → meaning (inst.Bltu rs1 rs2 imm) f at ≡ effect.Next 0 0 to
   unfolding meaning
-  means_bltu rs1 rs2 imm target is =
-      ap (λ b. branch b (sum_64 at (word imm)) at) is ∙ ap (go_to 0 0) target
-      ∙ ap (λ n. cond (eqb n 0) (effect.Next 0 0 to) effect.Misaligned) aligned
+  means_bltu = by_branch (ltb (register f rs1) (register f rs2)) at (sum_64 at (word imm)) to
 
 pub first_run : (s : Setting) (since : List Event) (x : History) → IsRunHistory s (since ++ x)
     → IsRunHistory s x
@@ -169,19 +172,50 @@ module _ (s : Setting) (u : Urcu) (first : ℕ) (blocks : AreBlocks (code_of s.p
       → code_of s.program.pages (at + 4 * k) ≡ Some i
   holds k i is = (blocks.syncs at r block).holds k i is
 
-  -- registers after a write
-  wrote : (rd v to : ℕ) → now ≡ record { file = with_register f rd v; pc = to } → eqb rd 0 ≡ false → rd < 32
-      → register now.file rd ≡ v
-  wrote rd v to is some few =
-      ap (λ (x : Saved). register x.file rd) is
-      ∙ written_same f rd v some (subst (λ n. rd < n) (sym (has.many t)) few)
+  -- what an instruction left that wrote a register
+  record HasLeft (rd v : ℕ) : Type 0 where
+    value : eqb rd 0 ≡ false → rd < 32 → register now.file rd ≡ v
+    others : (j : ℕ) → j ≢ rd → register now.file j ≡ register f j
 
-  kept : (rd v to j : ℕ) → now ≡ record { file = with_register f rd v; pc = to } → j ≢ rd
-      → register now.file j ≡ register f j
-  kept rd v to j is other = ap (λ (x : Saved). register x.file j) is ∙ written_other f rd v j other
+  left : (rd v to : ℕ) → now ≡ record { file = with_register f rd v; pc = to } → HasLeft rd v
+  left rd v to is = record {
+    value = λ some few. ap (λ (x : Saved). register x.file rd) is
+        ∙ written_same f rd v some (subst (λ n. rd < n) (sym (has.many t)) few);
+    others = λ j other. ap (λ (x : Saved). register x.file j) is ∙ written_other f rd v j other;
+  }
 
-  goes_to : (rd v to : ℕ) → now ≡ record { file = with_register f rd v; pc = to } → now.pc ≡ to
-  goes_to rd v to is = ap (λ (x : Saved). x.pc) is
+  -- so many instructions are left less
+  abbrev Falls : ℕ → ℕ → Type 0
+  Falls k to =
+      (k ≡ 12 → register f 5 ≤ register f 10) → to < 17
+      → left_at (u.readers at) to (register now.file 7) + 1 ≤ left_at (u.readers at) k (register f 7)
+
+  -- from a place to one at which something is asked of the load of a slot
+  looks_on : (k rd v to : ℕ) → now ≡ record { file = with_register f rd v; pc = at + 4 * to }
+      → (HasLeft rd v → to ≡ 11 → (k ≡ 10 → IsPassing now.file) → IsPassing now.file)
+      → (HasLeft rd v → to ≡ 12 → (k ≡ 11 → IsPassing f) → IsPassing now.file × (register now.file 10 ≢ 0))
+      → (k ≢ 16 → to < 17) → ((j : ℕ) → j ≢ 0 → IsKept j → j ≢ rd) → (HasLeft rd v → Falls k to)
+      → (HasLeft rd v → to < 17 → Stands s u first at t now.file (e ∷ before) to) → IsNext k
+  looks_on k rd v to after looked tested inside others falls stands =
+      let l = left rd v (at + 4 * to) after in
+      record {
+        to = to;
+        inside = inside;
+        looked = looked l;
+        tested = tested l;
+        falls = falls l;
+        keeps = λ j some free. l.others j (others j some free);
+        pc = ap (λ (x : Saved). x.pc) after;
+        stands = stands l;
+      }
+
+  -- and to another
+  leads : (k rd v to : ℕ) → now ≡ record { file = with_register f rd v; pc = at + 4 * to }
+      → to ≢ 11 → to ≢ 12 → (k ≢ 16 → to < 17) → ((j : ℕ) → j ≢ 0 → IsKept j → j ≢ rd)
+      → (HasLeft rd v → Falls k to)
+      → (HasLeft rd v → to < 17 → Stands s u first at t now.file (e ∷ before) to) → IsNext k
+  leads k rd v to after not_11 not_12 =
+      looks_on k rd v to after (λ l is had. absurd (not_11 is)) (λ l is had. absurd (not_12 is))
 
   -- one that works on registers alone
   nexts : (k : ℕ) (i : Inst) (rd v to : ℕ) → e.entry.pc ≡ at + 4 * k
@@ -200,83 +234,63 @@ module _ (s : Setting) (u : Urcu) (first : ℕ) (blocks : AreBlocks (code_of s.p
   begins_not : (k : ℕ) → e.entry.pc ≡ at + 4 * k → k ≢ 4 → IsGraceBegin at t e → ⊥
   begins_not k pc other begins = let p = begins.exec.pc in other (omega arith)
 
+  -- a branch
+  turns : (k : ℕ) (i : Inst) (to : ℕ) → e.entry.pc ≡ at + 4 * k
+      → slice_get (sync_block r (u.readers at)) k ≡ Some (Some i)
+      → meaning i f (at + 4 * k) ≡ effect.Next 0 0 (at + 4 * to) → to ≢ 11 → to ≢ 12 → to < 17
+      → (HasLeft 0 0 → Falls k to)
+      → (HasLeft 0 0 → to < 17 → Stands s u first at t now.file (e ∷ before) to) → IsNext k
+  turns k i to pc there means not_11 not_12 inside =
+      leads k 0 0 to (nexts k i 0 0 (at + 4 * to) pc there means) not_11 not_12 (λ other. inside)
+      (λ j some free. some)
+
+  -- one that sets a register
+  sets : (k rd v : ℕ) → e.entry.pc ≡ at + 4 * k
+      → slice_get (sync_block r (u.readers at)) k ≡ Some (Some (inst.Addi rd 0 (pos v))) → k < 17 → v < 2 ^ 11
+      → now ≡ record { file = with_register f rd v; pc = at + 4 * (k + 1) }
+  sets k rd v pc there inside small =
+      let low = at_low in
+      nexts k (inst.Addi rd 0 (pos v)) rd v (at + 4 * (k + 1)) pc there
+      (means_addi f (at + 4 * k) (at + 4 * (k + 1)) (omega arith) rd 0 (pos v) 0 v refl (omega arith))
+
   -- THE CALL
 
   next_0 : e.entry.pc ≡ at + 4 * 0 → IsNext 0
   next_0 pc =
-      let low = at_low in
-      let after = nexts 0 (inst.Addi 10 0 (pos 8)) 10 8 (at + 4 * 1) pc refl
-      (means_addi f (at + 4 * 0) (at + 4 * 1) (omega arith) 10 0 (pos 8) 0 8 refl refl) in
-      record {
-        to = 1;
-        looked = λ is_it had. let no : ⊥ = omega arith in absurd no;
-        tested = λ is_it had. let no : ⊥ = omega arith in absurd no;
-        inside = λ other. omega arith;
-        falls = λ good le_17. omega arith;
-        keeps = λ j some free. kept 10 8 (at + 4 * 1) j after free.not_10;
-        pc = goes_to 10 8 (at + 4 * 1) after;
-        stands = λ lt. one_set refl (wrote 10 8 (at + 4 * 1) after refl (omega arith))
-            (none_next s u first at t e before run has (begins_not 0 pc (omega arith))
-            (λ g on. has.anew at t r g block on lives
-            (record { executes = executes; pc = pc ∙ omega arith })));
-      }
+      leads 0 10 8 1 (sets 0 10 8 pc refl (omega arith) (omega arith)) (omega arith) (omega arith)
+      (λ other. omega arith) (λ j some free. free.not_10) (λ l good lt. omega arith)
+      (λ l lt. one_set refl (l.value refl (omega arith))
+      (none_next s u first at t e before run has (begins_not 0 pc (omega arith))
+      (λ g on. has.anew at t r g block on lives (record { executes = executes; pc = pc ∙ omega arith }))))
+
+  -- one behind it up to the call
+  sets_up : (k rd v : ℕ) → e.entry.pc ≡ at + 4 * k
+      → slice_get (sync_block r (u.readers at)) k ≡ Some (Some (inst.Addi rd 0 (pos v))) → k < 4 → v < 2 ^ 11
+      → ((j : ℕ) → IsKept j → j ≢ rd) → (HasLeft rd v → Falls k (k + 1)) → HasNone s u first at t before
+      → (HasLeft rd v → HasNone s u first at t (e ∷ before)
+      → Stands s u first at t now.file (e ∷ before) (k + 1)) → IsNext k
+  sets_up k rd v pc there early small others falls none stands =
+      leads k rd v (k + 1) (sets k rd v pc there (omega arith) small) (omega arith) (omega arith)
+      (λ other. omega arith) (λ j some free. others j free) falls
+      (λ l lt. stands l (none_next s u first at t e before run has (begins_not k pc (omega arith)) none))
 
   next_1 : e.entry.pc ≡ at + 4 * 1 → register f 10 ≡ 8 → HasNone s u first at t before → IsNext 1
   next_1 pc ten none =
-      let low = at_low in
-      let after = nexts 1 (inst.Addi 11 0 (pos 0)) 11 0 (at + 4 * 2) pc refl
-      (means_addi f (at + 4 * 1) (at + 4 * 2) (omega arith) 11 0 (pos 0) 0 0 refl refl) in
-      record {
-        to = 2;
-        looked = λ is_it had. let no : ⊥ = omega arith in absurd no;
-        tested = λ is_it had. let no : ⊥ = omega arith in absurd no;
-        inside = λ other. omega arith;
-        falls = λ good le_17. omega arith;
-        keeps = λ j some free. kept 11 0 (at + 4 * 2) j after free.not_11;
-        pc = goes_to 11 0 (at + 4 * 2) after;
-        stands = λ lt. two_set refl (kept 11 0 (at + 4 * 2) 10 after (omega arith) ∙ ten)
-            (wrote 11 0 (at + 4 * 2) after refl (omega arith))
-            (none_next s u first at t e before run has (begins_not 1 pc (omega arith)) none);
-      }
+      sets_up 1 11 0 pc refl (omega arith) (omega arith) (λ j free. free.not_11) (λ l good lt. omega arith) none
+      (λ l still. two_set refl (l.others 10 (omega arith) ∙ ten) (l.value refl (omega arith)) still)
 
   next_2 : e.entry.pc ≡ at + 4 * 2 → register f 10 ≡ 8 → register f 11 ≡ 0 → HasNone s u first at t before
       → IsNext 2
   next_2 pc ten eleven none =
-      let low = at_low in
-      let after = nexts 2 (inst.Addi 12 0 (pos 0)) 12 0 (at + 4 * 3) pc refl
-      (means_addi f (at + 4 * 2) (at + 4 * 3) (omega arith) 12 0 (pos 0) 0 0 refl refl) in
-      record {
-        to = 3;
-        looked = λ is_it had. let no : ⊥ = omega arith in absurd no;
-        tested = λ is_it had. let no : ⊥ = omega arith in absurd no;
-        inside = λ other. omega arith;
-        falls = λ good le_17. omega arith;
-        keeps = λ j some free. kept 12 0 (at + 4 * 3) j after free.not_12;
-        pc = goes_to 12 0 (at + 4 * 3) after;
-        stands = λ lt. three_set refl (kept 12 0 (at + 4 * 3) 10 after (omega arith) ∙ ten)
-            (kept 12 0 (at + 4 * 3) 11 after (omega arith) ∙ eleven)
-            (none_next s u first at t e before run has (begins_not 2 pc (omega arith)) none);
-      }
+      sets_up 2 12 0 pc refl (omega arith) (omega arith) (λ j free. free.not_12) (λ l good lt. omega arith) none
+      (λ l still. three_set refl (l.others 10 (omega arith) ∙ ten) (l.others 11 (omega arith) ∙ eleven) still)
 
   next_3 : e.entry.pc ≡ at + 4 * 3 → register f 10 ≡ 8 → register f 11 ≡ 0 → HasNone s u first at t before
       → IsNext 3
   next_3 pc ten eleven none =
-      let low = at_low in
-      let after = nexts 3 (inst.Addi 17 0 (pos 283)) 17 283 (at + 4 * 4) pc refl
-      (means_addi f (at + 4 * 3) (at + 4 * 4) (omega arith) 17 0 (pos 283) 0 283 refl refl) in
-      record {
-        to = 4;
-        looked = λ is_it had. let no : ⊥ = omega arith in absurd no;
-        tested = λ is_it had. let no : ⊥ = omega arith in absurd no;
-        inside = λ other. omega arith;
-        falls = λ good le_17. omega arith;
-        keeps = λ j some free. kept 17 283 (at + 4 * 4) j after free.not_17;
-        pc = goes_to 17 283 (at + 4 * 4) after;
-        stands = λ lt. all_set refl (kept 17 283 (at + 4 * 4) 10 after (omega arith) ∙ ten)
-            (kept 17 283 (at + 4 * 4) 11 after (omega arith) ∙ eleven)
-            (wrote 17 283 (at + 4 * 4) after refl (omega arith))
-            (none_next s u first at t e before run has (begins_not 3 pc (omega arith)) none);
-      }
+      sets_up 3 17 283 pc refl (omega arith) (omega arith) (λ j free. free.not_17) (λ l good lt. omega arith) none
+      (λ l still. all_set refl (l.others 10 (omega arith) ∙ ten) (l.others 11 (omega arith) ∙ eleven)
+      (l.value refl (omega arith)) still)
 
   next_4 : e.entry.pc ≡ at + 4 * 4 → register f 10 ≡ 8 → register f 11 ≡ 0 → register f 17 ≡ 283
       → HasNone s u first at t before → IsNext 4
@@ -302,14 +316,16 @@ module _ (s : Setting) (u : Urcu) (first : ℕ) (blocks : AreBlocks (code_of s.p
         keeps = λ j some free. call_keeps s e before step executes call j free.not_10;
         pc = past_call s e before step executes call ∙ ap (λ n. sum_64 n 4) stands_at ∙ omega arith;
         stands = λ lt. has_called refl (record {
-          regs = r;
-          block = block;
-          grace = before;
-          call = e;
+          began = record {
+            regs = r;
+            block = block;
+            grace = before;
+            call = e;
+            fence = is_fence s e before step executes call;
+            begins = begins;
+          };
           since = [];
           parts = refl;
-          begins = begins;
-          fence = is_fence s e before step executes call;
           on = calls e begins;
           newest = newest begins;
         }) tt;
@@ -383,20 +399,11 @@ module _ (s : Setting) (u : Urcu) (first : ℕ) (blocks : AreBlocks (code_of s.p
       ∙ ap (λ m. record { file = with_register f 5 (loaded n 8 true); pc = m }) on in
       let value : loaded n 8 true ≡ base s u first at t before o = loaded_word n ∙ omega arith
       ∙ base_is o quiet in
-      let not_end = ends_not 5 pc (omega arith) in
-      record {
-        to = 6;
-        looked = λ is_it had. let no : ⊥ = omega arith in absurd no;
-        tested = λ is_it had. let no : ⊥ = omega arith in absurd no;
-        inside = λ other. omega arith;
-        falls = λ good le_17. omega arith;
-        keeps = λ j some free. kept 5 (loaded n 8 true) (at + 4 * 6) j after free.not_5;
-        pc = goes_to 5 (loaded n 8 true) (at + 4 * 6) after;
-        stands = λ lt. has_loaded refl (open_next s u first at t e before run has not_end o)
-            (quiet_next s u first at t e before run has lives o (stores_not 5 pc (omega arith)) quiet)
-            (entered_next o.grace e before entered)
-            (wrote 5 (loaded n 8 true) (at + 4 * 6) after refl (omega arith) ∙ value);
-      }
+      leads 5 5 (loaded n 8 true) 6 after (omega arith) (omega arith) (λ other. omega arith)
+      (λ j some free. free.not_5) (λ l good lt. omega arith)
+      (λ l lt. has_loaded refl (open_next s u first at t e before run has (ends_not 5 pc (omega arith)) o)
+      (quiet_next s u first at t e before run has lives o (stores_not 5 pc (omega arith)) quiet)
+      (entered_next o.grace e before entered) (l.value refl (omega arith) ∙ value))
 
   next_6 : e.entry.pc ≡ at + 4 * 6 → (o : IsOpen s u first at t before) → AreQuiet (counter_bytes u) o.since
       → HaveEntered o.grace before
@@ -409,19 +416,11 @@ module _ (s : Setting) (u : Urcu) (first : ℕ) (blocks : AreBlocks (code_of s.p
       let same = base_is o quiet in
       let after = nexts 6 (inst.Addi 5 5 (pos 1)) 5 v (at + 4 * 7) pc refl
       (means_addi f (at + 4 * 6) (at + 4 * 7) (omega arith) 5 5 (pos 1) n v five (omega arith)) in
-      record {
-        to = 7;
-        looked = λ is_it had. let no : ⊥ = omega arith in absurd no;
-        tested = λ is_it had. let no : ⊥ = omega arith in absurd no;
-        inside = λ other. omega arith;
-        falls = λ good le_17. omega arith;
-        keeps = λ j some free. kept 5 v (at + 4 * 7) j after free.not_5;
-        pc = goes_to 5 v (at + 4 * 7) after;
-        stands = λ lt. has_grown refl
-            (open_next s u first at t e before run has (ends_not 6 pc (omega arith)) o)
-            (quiet_next s u first at t e before run has lives o (stores_not 6 pc (omega arith)) quiet)
-            (entered_next o.grace e before entered) (wrote 5 v (at + 4 * 7) after refl (omega arith));
-      }
+      leads 6 5 v 7 after (omega arith) (omega arith) (λ other. omega arith) (λ j some free. free.not_5)
+      (λ l good lt. omega arith)
+      (λ l lt. has_grown refl (open_next s u first at t e before run has (ends_not 6 pc (omega arith)) o)
+      (quiet_next s u first at t e before run has lives o (stores_not 6 pc (omega arith)) quiet)
+      (entered_next o.grace e before entered) (l.value refl (omega arith)))
 
   -- where it is stored it doesn't wrap
   small_at : e.entry.pc ≡ at + 4 * 7 → counted u.counter first before + 1 < 2 ^ 64
@@ -454,28 +453,22 @@ module _ (s : Setting) (u : Urcu) (first : ℕ) (blocks : AreBlocks (code_of s.p
       let same = base_is o quiet in
       let new :
       (base s u first at t before o + 1) % 2 ^ 64 ≡ base s u first at t before o + 1 = omega arith in
-      let after = (sync_stores pc o quiet five).0 in
       let on : sum_64 (at + 4 * 7) 4 ≡ at + 4 * 8 = omega arith in
-      record {
-        to = 8;
-        looked = λ is_it had. let no : ⊥ = omega arith in absurd no;
-        tested = λ is_it had. let no : ⊥ = omega arith in absurd no;
-        inside = λ other. omega arith;
-        falls = λ good le_17. omega arith;
-        keeps = λ j some free. kept 0 0 (sum_64 (at + 4 * 7) 4) j after some;
-        pc = goes_to 0 0 (sum_64 (at + 4 * 7) 4) after ∙ on;
-        stands = λ lt. has_stored refl (record {
-          opened = open_next s u first at t e before run has (ends_not 7 pc (omega arith)) o;
-          entered = entered_next o.grace e before entered;
-          five = kept 0 0 (sum_64 (at + 4 * 7) 4) 5 after (omega arith) ∙ five ∙ new;
-          count = ap (λ (ws : List Store). stored_over u.counter ws (counted u.counter first before))
-              (sync_stores pc o quiet five).1
-              ∙ own_store u.counter (counted u.counter first before + 1) (counted u.counter first before)
-              ∙ ap (λ m. m + 1) (base_is o quiet);
-          apart = owned_next (counter_bytes u) s t e before run (inr (exec_of s e before step executes).runs)
-              (λ h other. none_waits o quiet entered h);
-        });
-      }
+      let after = (sync_stores pc o quiet five).0
+      ∙ ap (λ m. record { file = with_register f 0 0; pc = m }) on in
+      leads 7 0 0 8 after (omega arith) (omega arith) (λ other. omega arith) (λ j some free. some)
+      (λ l good lt. omega arith)
+      (λ l lt. has_stored refl (record {
+        opened = open_next s u first at t e before run has (ends_not 7 pc (omega arith)) o;
+        entered = entered_next o.grace e before entered;
+        five = l.others 5 (omega arith) ∙ five ∙ new;
+        count = ap (λ (ws : List Store). stored_over u.counter ws (counted u.counter first before))
+            (sync_stores pc o quiet five).1
+            ∙ own_store u.counter (counted u.counter first before + 1) (counted u.counter first before)
+            ∙ ap (λ m. m + 1) (base_is o quiet);
+        apart = owned_next (counter_bytes u) s t e before run (inr (exec_of s e before step executes).runs)
+            (λ h other. none_waits o quiet entered h);
+      }))
 
   -- THE SLOTS
 
@@ -483,6 +476,18 @@ module _ (s : Setting) (u : Urcu) (first : ℕ) (blocks : AreBlocks (code_of s.p
       → IsPast s u first at t f before → IsPast s u first at t now.file (e ∷ before)
   past k pc other seven same p = past_next s u first at t e before run has lives f now.file (ends_not k pc other)
       (stores_not k pc seven) same p
+
+  -- a thread that is at a slot is at it after an instruction that leaves x5, x6 and x7
+  abbrev at_slot : (k : ℕ) → e.entry.pc ≡ at + 4 * k → k ≢ 16 → k ≢ 7
+      → ((j : ℕ) → 5 ≤ j → j < 8 → register now.file j ≡ register f j) → IsAtSlot s u first at t f before
+      → IsAtSlot s u first at t now.file (e ∷ before)
+  at_slot k pc other seven same x = slot_next s u first at t e before run has lives f now.file
+      (ends_not k pc other) (stores_not k pc seven) same x
+
+  -- as a branch does
+  abbrev still_at : (k : ℕ) → e.entry.pc ≡ at + 4 * k → k ≢ 16 → k ≢ 7 → HasLeft 0 0
+      → IsAtSlot s u first at t f before → IsAtSlot s u first at t now.file (e ∷ before)
+  still_at k pc other seven l x = at_slot k pc other seven (λ j from to. l.others j (omega arith)) x
 
   next_8 : e.entry.pc ≡ at + 4 * 8 → IsPast s u first at t f before → IsNext 8
   next_8 pc p =
@@ -493,43 +498,26 @@ module _ (s : Setting) (u : Urcu) (first : ℕ) (blocks : AreBlocks (code_of s.p
       let after = nexts 8 (inst.Addi 6 r.slots (pos 0)) 6 u.slots (at + 4 * 9) pc refl
       (means_addi f (at + 4 * 8) (at + 4 * 9) (omega arith) 6 r.slots (pos 0) u.slots u.slots slots
       (omega arith)) in
-      record {
-        to = 9;
-        looked = λ is_it had. let no : ⊥ = omega arith in absurd no;
-        tested = λ is_it had. let no : ⊥ = omega arith in absurd no;
-        inside = λ other. omega arith;
-        falls = λ good le_17. omega arith;
-        keeps = λ j some free. kept 6 u.slots (at + 4 * 9) j after free.not_6;
-        pc = goes_to 6 u.slots (at + 4 * 9) after;
-        stands = λ lt. has_slots refl
-            (past 8 pc (omega arith) (omega arith) (kept 6 u.slots (at + 4 * 9) 5 after (omega arith)) p)
-            (wrote 6 u.slots (at + 4 * 9) after refl (omega arith));
-      }
+      leads 8 6 u.slots 9 after (omega arith) (omega arith) (λ other. omega arith) (λ j some free. free.not_6)
+      (λ l good lt. omega arith)
+      (λ l lt. has_slots refl (past 8 pc (omega arith) (omega arith) (l.others 5 (omega arith)) p)
+      (l.value refl (omega arith)))
 
   next_9 : e.entry.pc ≡ at + 4 * 9 → IsPast s u first at t f before → register f 6 ≡ u.slots → IsNext 9
   next_9 pc p six =
       let low = at_low in
       let few = blocks.few at r block in
       let one = blocks.one at r block in
-      let after = nexts 9 (inst.Addi 7 0 (pos (u.readers at))) 7 (u.readers at) (at + 4 * 10) pc refl
-      (means_addi f (at + 4 * 9) (at + 4 * 10) (omega arith) 7 0 (pos (u.readers at)) 0 (u.readers at) refl
-      (omega arith)) in
-      let seven = wrote 7 (u.readers at) (at + 4 * 10) after refl (omega arith) in
-      record {
-        to = 10;
-        looked = λ is_it had. let no : ⊥ = omega arith in absurd no;
-        tested = λ is_it had. let no : ⊥ = omega arith in absurd no;
-        inside = λ other. omega arith;
-        falls = λ good le_17. omega arith;
-        keeps = λ j some free. kept 7 (u.readers at) (at + 4 * 10) j after free.not_7;
-        pc = goes_to 7 (u.readers at) (at + 4 * 10) after;
-        stands = λ lt. looks refl
-            (past 9 pc (omega arith) (omega arith)
-            (kept 7 (u.readers at) (at + 4 * 10) 5 after (omega arith)) p) 0
-            (omega arith)
-            (kept 7 (u.readers at) (at + 4 * 10) 6 after (omega arith) ∙ six ∙ omega arith) (omega arith)
-            (λ j none. let no : ⊥ = omega arith in absurd no);
-      }
+      leads 9 7 (u.readers at) 10 (sets 9 7 (u.readers at) pc refl (omega arith) (omega arith)) (omega arith)
+      (omega arith) (λ other. omega arith) (λ j some free. free.not_7)
+      (λ l good lt. let seven = l.value refl (omega arith) in omega arith)
+      (λ l lt. looks refl (record {
+        past = past 9 pc (omega arith) (omega arith) (l.others 5 (omega arith)) p;
+        i = 0;
+        lt = omega arith;
+        six = l.others 6 (omega arith) ∙ six ∙ omega arith;
+        seven = let seven = l.value refl (omega arith) in omega arith;
+      }) (λ j none. let no : ⊥ = omega arith in absurd no))
 
   one_more : (grace : History) (i : ℕ) → ArePassed s u first grace i before
       → HasEnded s u first grace i before → ArePassed s u first grace (suc i) before
@@ -538,44 +526,36 @@ module _ (s : Setting) (u : Urcu) (first : ℕ) (blocks : AreBlocks (code_of s.p
   same_word : {a b : ℕ} → Some a ≡ Some b → a ≡ b
   same_word is = cc
 
-  next_10 : e.entry.pc ≡ at + 4 * 10 → AreUses s u first before → (p : IsPast s u first at t f before)
-      → AreBelow s u first blocks before p.opened.grace → (i : ℕ) → (lt : i < u.readers at)
-      → register f 6 ≡ slot_at u i → register f 7 + i ≡ u.readers at
-      → ArePassed s u first p.opened.grace i before → IsNext 10
-  next_10 pc uses p below i lt six seven passed =
+  next_10 : e.entry.pc ≡ at + 4 * 10 → AreUses s u first before → (x : IsAtSlot s u first at t f before)
+      → AreBelow s u first blocks before x.past.opened.grace → ArePassed s u first x.past.opened.grace x.i before
+      → IsNext 10
+  next_10 pc uses x below passed =
       let low = at_low in
       let slots_low = blocks.low_slots in
       let all = blocks.counted at r block in
       let is_slot : i < u.slot_count = omega arith in
-      let h = e.entry.hart.0 in
-      let w = some_word (sees s h before) (slot_at u i) 8 in
+      let w = some_word (sees s e.entry.hart.0 before) (slot_at u i) 8 in
       let v = loaded w.0 8 true in
       let on : sum_64 (at + 4 * 10) 4 ≡ at + 4 * 11 = omega arith in
       let after = after_load s e before step executes (at + 4 * 10) (inst.Ld 10 6 (pos 0)) pc
       (holds 10 (inst.Ld 10 6 (pos 0)) refl) (slot_bytes u i) (has.used.slot_usable i is_slot executes)
       (slot_at u i) 10 w.0
-      (means_ld f (at + 4 * 10) 10 6 (pos 0) (slot_at u i) (slot_at u i) six (omega arith))
+      (means_ld f (at + 4 * 10) 10 6 (pos 0) (slot_at u i) (slot_at u i) x.six (omega arith))
       (each_among (slot_at u i) 8 (slot_at u i) 8 (omega arith) (omega arith)) w.1
       ∙ ap (λ m. record { file = with_register f 10 v; pc = m }) on in
-      let ten = wrote 10 v (at + 4 * 11) after refl (omega arith) in
-      let past_it = past 10 pc (omega arith) (omega arith)
-      (kept 10 v (at + 4 * 11) 5 after (omega arith)) p in
-      record {
-        to = 11;
-        looked = λ is_it had. had refl;
-        tested = λ is_it had. let no : ⊥ = omega arith in absurd no;
-        inside = λ other. omega arith;
-        falls = λ good le_17. let r = kept 10 v (at + 4 * 11) 7 after (omega arith) in omega arith;
-        keeps = λ j some free. kept 10 v (at + 4 * 11) j after free.not_10;
-        pc = goes_to 10 v (at + 4 * 11) after;
-        stands = λ le. has_looked refl past_it i lt (kept 10 v (at + 4 * 11) 6 after (omega arith) ∙ six)
-            (ap (λ m. m + i) (kept 10 v (at + 4 * 11) 7 after (omega arith)) ∙ seven)
-            (passed_next s u first at t e before run has p.opened i passed)
-            (λ shows. ended_next s u first at t e before run has p.opened i
-            (λ section on earlier. shown w.0 w.1 (loaded_word w.0) section on earlier
-            (subst (λ m. (m ≡ 0) ⊎ (counted u.counter first p.opened.grace + 1 ≤ m)) ten shows)));
-      }
+      looks_on 10 10 v 11 after (λ l is had. had refl)
+      (λ l is had. let no : ⊥ = omega arith in absurd no) (λ other. omega arith)
+      (λ j some free. free.not_10) (λ l good le. let r = l.others 7 (omega arith) in omega arith)
+      (λ l le. has_looked refl
+      (at_slot 10 pc (omega arith) (omega arith) (λ j from to. l.others j (omega arith)) x)
+      (passed_next s u first at t e before run has p.opened i passed)
+      (λ shows. ended_next s u first at t e before run has p.opened i
+      (λ section on earlier. shown w.0 w.1 (loaded_word w.0) section on earlier
+      (subst (λ m. (m ≡ 0) ⊎ (counted u.counter first p.opened.grace + 1 ≤ m)) (l.value refl (omega arith))
+      shows))))
     where
+      open x use {past as p, i}
+
       shown : (w : ℕ) → word_at (seen_at s e.entry.hart.0 before) (slot_at u i) 8 ≡ Some w
           → loaded w 8 true ≡ w % 2 ^ 64 → (section : History) → IsSection s u i section before
           → length section < length p.opened.grace
@@ -603,135 +583,85 @@ module _ (s : Setting) (u : Urcu) (first : ℕ) (blocks : AreBlocks (code_of s.p
               (inr le) = let same_le : counted u.counter first p.opened.grace + 1 ≤ w % 2 ^ 64 = subst
               (λ m. counted u.counter first p.opened.grace + 1 ≤ m) is le in omega arith
 
-  next_11 : e.entry.pc ≡ at + 4 * 11 → (p : IsPast s u first at t f before) → (i : ℕ) → i < u.readers at
-      → register f 6 ≡ slot_at u i → register f 7 + i ≡ u.readers at
-      → ArePassed s u first p.opened.grace i before
-      → ((register f 10 ≡ 0) ⊎ (base s u first at t before p.opened + 1 ≤ register f 10)
-      → HasEnded s u first p.opened.grace i before) → IsNext 11
-  next_11 pc p i lt six seven passed shows = by_test (eqb (register f 10) (register f 0)) refl
+  next_11 : e.entry.pc ≡ at + 4 * 11 → (x : IsAtSlot s u first at t f before)
+      → ArePassed s u first x.past.opened.grace x.i before → ShowsEnd s u first at t f before x → IsNext 11
+  next_11 pc x passed shows =
+      elim (cases_Bool (eqb (register f 10) (register f 0))) [
+        | inl is ↦
+            let low = at_low in
+            let aligned = at_aligned in
+            turns 11 (inst.Beq 10 0 (pos 8)) 13 pc refl
+            (means_beq f (at + 4 * 11) (at + 4 * 13) 10 0 (pos 8) (omega arith) (omega arith) is) (omega arith)
+            (omega arith) (omega arith) (λ l good le. let r = l.others 7 (omega arith) in omega arith)
+            (λ l le. passes refl (still_at 11 pc (omega arith) (omega arith) l x)
+            (passed_next s u first at t e before run has p.opened (suc i)
+            (one_more p.opened.grace i passed (shows (inl (eqb-true (register f 10) 0 is))))))
+        | inr is ↦
+            let low = at_low in
+            let after = nexts 11 (inst.Beq 10 0 (pos 8)) 0 0 (at + 4 * 12) pc refl
+            (means_beq_not f (at + 4 * 11) (at + 4 * 12) 10 0 (pos 8) (omega arith) is) in
+            looks_on 11 0 0 12 after (λ l is_it had. let no : ⊥ = omega arith in absurd no)
+            (λ l is_it had. (
+              still_passing (l.others 5 (omega arith)) (l.others 10 (omega arith)) (had refl),
+              λ none. eqb-false (register f 10) 0 is (sym (l.others 10 (omega arith)) ∙ none),
+            ))
+            (λ other. omega arith) (λ j some free. some)
+            (λ l good le. let r = l.others 7 (omega arith) in omega arith)
+            (λ l le. is_some refl (still_at 11 pc (omega arith) (omega arith) l x)
+            (passed_next s u first at t e before run has p.opened i passed)
+            (λ now_shows. ended_next s u first at t e before run has p.opened i
+            (shows (subst (λ m. (m ≡ 0) ⊎ (counted u.counter first p.opened.grace + 1 ≤ m))
+            (l.others 10 (omega arith)) now_shows))))
+      ]
     where
-      by_test : (b : Bool) → eqb (register f 10) (register f 0) ≡ b → IsNext 11
-      by_test true is =
-          let low = at_low in
-          let aligned = at_aligned in
-          let after = nexts 11 (inst.Beq 10 0 (pos 8)) 0 0 (at + 4 * 13) pc refl
-          (means_beq f (at + 4 * 11) (at + 4 * 13) (omega arith) 10 0 (pos 8) (omega arith) is) in
-          let past_it = past 11 pc (omega arith) (omega arith)
-          (kept 0 0 (at + 4 * 13) 5 after (omega arith)) p in
-          record {
-            to = 13;
-            looked = λ is_it had. let no : ⊥ = omega arith in absurd no;
-            tested = λ is_it had. let no : ⊥ = omega arith in absurd no;
-            inside = λ other. omega arith;
-            falls = λ good le_17. let r = kept 0 0 (at + 4 * 13) 7 after (omega arith) in omega arith;
-            keeps = λ j some free. kept 0 0 (at + 4 * 13) j after some;
-            pc = goes_to 0 0 (at + 4 * 13) after;
-            stands = λ le. passes refl past_it i lt (kept 0 0 (at + 4 * 13) 6 after (omega arith) ∙ six)
-                (ap (λ m. m + i) (kept 0 0 (at + 4 * 13) 7 after (omega arith)) ∙ seven)
-                (passed_next s u first at t e before run has p.opened (suc i)
-                (one_more p.opened.grace i passed (shows (inl (eqb-true (register f 10) 0 is)))));
-          }
-      by_test false is =
-          let low = at_low in
-          let after = nexts 11 (inst.Beq 10 0 (pos 8)) 0 0 (at + 4 * 12) pc refl
-          (means_beq_not f (at + 4 * 11) (at + 4 * 12) (omega arith) 10 0 (pos 8) is) in
-          let past_it = past 11 pc (omega arith) (omega arith)
-          (kept 0 0 (at + 4 * 12) 5 after (omega arith)) p in
-          let ten = kept 0 0 (at + 4 * 12) 10 after (omega arith) in
-          record {
-            to = 12;
-            looked = λ is_it had. let no : ⊥ = omega arith in absurd no;
-            tested = λ is_it had. (
-              still_passing (kept 0 0 (at + 4 * 12) 5 after (omega arith)) ten
-                  (had refl),
-              λ none. eqb-false (register f 10) 0 is (sym ten ∙ none),
-            );
-            inside = λ other. omega arith;
-            falls = λ good le_17. let r = kept 0 0 (at + 4 * 12) 7 after (omega arith) in omega arith;
-            keeps = λ j some free. kept 0 0 (at + 4 * 12) j after some;
-            pc = goes_to 0 0 (at + 4 * 12) after;
-            stands = λ le. is_some refl past_it i lt (kept 0 0 (at + 4 * 12) 6 after (omega arith) ∙ six)
-                (ap (λ m. m + i) (kept 0 0 (at + 4 * 12) 7 after (omega arith)) ∙ seven)
-                (passed_next s u first at t e before run has p.opened i passed)
-                (λ now_shows. ended_next s u first at t e before run has p.opened i
-                (shows (subst
-                (λ m. (m ≡ 0) ⊎ (counted u.counter first p.opened.grace + 1 ≤ m)) ten now_shows)));
-          }
+      open x use {past as p, i}
 
-  next_12 : e.entry.pc ≡ at + 4 * 12 → (p : IsPast s u first at t f before) → (i : ℕ) → i < u.readers at
-      → register f 6 ≡ slot_at u i → register f 7 + i ≡ u.readers at
-      → ArePassed s u first p.opened.grace i before
-      → ((register f 10 ≡ 0) ⊎ (base s u first at t before p.opened + 1 ≤ register f 10)
-      → HasEnded s u first p.opened.grace i before) → IsNext 12
-  next_12 pc p i lt six seven passed shows = by_test (ltb (register f 10) (register f 5)) refl
+  next_12 : e.entry.pc ≡ at + 4 * 12 → (x : IsAtSlot s u first at t f before)
+      → ArePassed s u first x.past.opened.grace x.i before → ShowsEnd s u first at t f before x → IsNext 12
+  next_12 pc x passed shows =
+      elim (cases_Bool (ltb (register f 10) (register f 5))) [
+        | inl is ↦
+            let low = at_low in
+            let aligned = at_aligned in
+            let lower = ltb-true (register f 10) (register f 5) is in
+            turns 12 (inst.Bltu 10 5 (negsuc 7)) 10 pc refl
+            (means_bltu f (at + 4 * 12) (at + 4 * 10) 10 5 (negsuc 7) (omega arith) (omega arith) is)
+            (omega arith) (omega arith) (omega arith)
+            (λ l good lt_17. let le : register f 5 ≤ register f 10 = good refl in
+            let no : ⊥ = omega arith in absurd no)
+            (λ l le. looks refl (still_at 12 pc (omega arith) (omega arith) l x)
+            (passed_next s u first at t e before run has p.opened i passed))
+        | inr is ↦
+            let low = at_low in
+            let le : register f 5 ≤ register f 10 = ltb-false (register f 10) (register f 5) is in
+            let five : register f 5 ≡ counted u.counter first p.opened.grace + 1 = p.five in
+            turns 12 (inst.Bltu 10 5 (negsuc 7)) 13 pc refl
+            (means_bltu_not f (at + 4 * 12) (at + 4 * 13) 10 5 (negsuc 7) (omega arith) is) (omega arith)
+            (omega arith) (omega arith) (λ l good lt_17. let r = l.others 7 (omega arith) in omega arith)
+            (λ l lt_17. passes refl (still_at 12 pc (omega arith) (omega arith) l x)
+            (passed_next s u first at t e before run has p.opened (suc i)
+            (one_more p.opened.grace i passed (shows (inr (omega arith))))))
+      ]
     where
-      by_test : (b : Bool) → ltb (register f 10) (register f 5) ≡ b → IsNext 12
-      by_test true is =
-          let low = at_low in
-          let aligned = at_aligned in
-          let after = nexts 12 (inst.Bltu 10 5 (negsuc 7)) 0 0 (at + 4 * 10) pc refl
-          (means_bltu f (at + 4 * 12) (at + 4 * 10) (omega arith) 10 5 (negsuc 7) (omega arith) is) in
-          let past_it = past 12 pc (omega arith) (omega arith)
-          (kept 0 0 (at + 4 * 10) 5 after (omega arith)) p in
-          record {
-            to = 10;
-            looked = λ is_it had. let no : ⊥ = omega arith in absurd no;
-            tested = λ is_it had. let no : ⊥ = omega arith in absurd no;
-            inside = λ other. omega arith;
-            falls = λ good le_17. let le : register f 5 ≤ register f 10 = good refl in let lower = ltb-true
-                (register f 10) (register f 5) is in let no : ⊥ = omega arith in absurd no;
-            keeps = λ j some free. kept 0 0 (at + 4 * 10) j after some;
-            pc = goes_to 0 0 (at + 4 * 10) after;
-            stands = λ le. looks refl past_it i lt (kept 0 0 (at + 4 * 10) 6 after (omega arith) ∙ six)
-                (ap (λ m. m + i) (kept 0 0 (at + 4 * 10) 7 after (omega arith)) ∙ seven)
-                (passed_next s u first at t e before run has p.opened i passed);
-          }
-      by_test false is =
-          let low = at_low in
-          let after = nexts 12 (inst.Bltu 10 5 (negsuc 7)) 0 0 (at + 4 * 13) pc refl
-          (means_bltu_not f (at + 4 * 12) (at + 4 * 13) (omega arith) 10 5 (negsuc 7) is) in
-          let past_it = past 12 pc (omega arith) (omega arith)
-          (kept 0 0 (at + 4 * 13) 5 after (omega arith)) p in
-          let le : register f 5 ≤ register f 10 = ltb-false (register f 10) (register f 5) is in
-          let five : register f 5 ≡ counted u.counter first p.opened.grace + 1 = p.five in
-          record {
-            to = 13;
-            looked = λ is_it had. let no : ⊥ = omega arith in absurd no;
-            tested = λ is_it had. let no : ⊥ = omega arith in absurd no;
-            inside = λ other. omega arith;
-            falls = λ good le_17. let r = kept 0 0 (at + 4 * 13) 7 after (omega arith) in omega arith;
-            keeps = λ j some free. kept 0 0 (at + 4 * 13) j after some;
-            pc = goes_to 0 0 (at + 4 * 13) after;
-            stands = λ lt_17. passes refl past_it i lt (kept 0 0 (at + 4 * 13) 6 after (omega arith) ∙ six)
-                (ap (λ m. m + i) (kept 0 0 (at + 4 * 13) 7 after (omega arith)) ∙ seven)
-                (passed_next s u first at t e before run has p.opened (suc i)
-                (one_more p.opened.grace i passed (shows (inr (omega arith)))));
-          }
+      open x use {past as p, i}
 
-  next_13 : e.entry.pc ≡ at + 4 * 13 → (p : IsPast s u first at t f before) → (i : ℕ) → i < u.readers at
-      → register f 6 ≡ slot_at u i → register f 7 + i ≡ u.readers at
-      → ArePassed s u first p.opened.grace (suc i) before → IsNext 13
-  next_13 pc p i lt six seven passed =
+  next_13 : e.entry.pc ≡ at + 4 * 13 → (x : IsAtSlot s u first at t f before)
+      → ArePassed s u first x.past.opened.grace (suc x.i) before → IsNext 13
+  next_13 pc x passed =
       let low = at_low in
       let slots_low = blocks.low_slots in
       let v = sum_64 (slot_at u i) 64 in
       let after = nexts 13 (inst.Addi 6 6 (pos 64)) 6 v (at + 4 * 14) pc refl
-      (means_addi f (at + 4 * 13) (at + 4 * 14) (omega arith) 6 6 (pos 64) (slot_at u i) v six refl) in
-      let past_it = past 13 pc (omega arith) (omega arith) (kept 6 v (at + 4 * 14) 5 after (omega arith)) p in
-      record {
-        to = 14;
-        looked = λ is_it had. let no : ⊥ = omega arith in absurd no;
-        tested = λ is_it had. let no : ⊥ = omega arith in absurd no;
-        inside = λ other. omega arith;
-        falls = λ good le_17. let r = kept 6 v (at + 4 * 14) 7 after (omega arith) in omega arith;
-        keeps = λ j some free. kept 6 v (at + 4 * 14) j after free.not_6;
-        pc = goes_to 6 v (at + 4 * 14) after;
-        stands = λ le. moves refl past_it i lt
-            (λ more. wrote 6 v (at + 4 * 14) after refl (omega arith) ∙ next_slot more)
-            (ap (λ m. m + i) (kept 6 v (at + 4 * 14) 7 after (omega arith)) ∙ seven)
-            (passed_next s u first at t e before run has p.opened (suc i) passed);
-      }
+      (means_addi f (at + 4 * 13) (at + 4 * 14) (omega arith) 6 6 (pos 64) (slot_at u i) v x.six refl) in
+      leads 13 6 v 14 after (omega arith) (omega arith) (λ other. omega arith) (λ j some free. free.not_6)
+      (λ l good le. let r = l.others 7 (omega arith) in omega arith)
+      (λ l le. moves refl (past 13 pc (omega arith) (omega arith) (l.others 5 (omega arith)) p) i x.lt
+      (λ more. l.value refl (omega arith) ∙ next_slot more)
+      (ap (λ m. m + i) (l.others 7 (omega arith)) ∙ x.seven)
+      (passed_next s u first at t e before run has p.opened (suc i) passed))
     where
+      open x use {past as p, i}
+
       next_slot : suc i < u.readers at → sum_64 (slot_at u i) 64 ≡ slot_at u (suc i)
       next_slot more =
           let slots_low = blocks.low_slots in let all = blocks.counted at r block in omega arith
@@ -746,96 +676,61 @@ module _ (s : Setting) (u : Urcu) (first : ℕ) (blocks : AreBlocks (code_of s.p
       let after = nexts 14 (inst.Addi 7 7 (negsuc 0)) 7 v (at + 4 * 15) pc refl
       (means_addi f (at + 4 * 14) (at + 4 * 15) (omega arith) 7 7 (negsuc 0) (register f 7) v refl
       (omega arith)) in
-      let past_it = past 14 pc (omega arith) (omega arith) (kept 7 v (at + 4 * 15) 5 after (omega arith)) p in
-      let value = wrote 7 v (at + 4 * 15) after refl (omega arith) in
-      record {
-        to = 15;
-        looked = λ is_it had. let no : ⊥ = omega arith in absurd no;
-        tested = λ is_it had. let no : ⊥ = omega arith in absurd no;
-        inside = λ other. omega arith;
-        falls = λ good le_17. omega arith;
-        keeps = λ j some free. kept 7 v (at + 4 * 15) j after free.not_7;
-        pc = goes_to 7 v (at + 4 * 15) after;
-        stands = λ le. counts refl past_it i lt
-            (λ more. kept 7 v (at + 4 * 15) 6 after (omega arith) ∙ six more)
-            (ap (λ m. m + suc i) value ∙ omega arith)
-            (passed_next s u first at t e before run has p.opened (suc i) passed);
-      }
+      leads 14 7 v 15 after (omega arith) (omega arith) (λ other. omega arith) (λ j some free. free.not_7)
+      (λ l good le. let value = l.value refl (omega arith) in omega arith)
+      (λ l le. counts refl (past 14 pc (omega arith) (omega arith) (l.others 5 (omega arith)) p) i lt
+      (λ more. l.others 6 (omega arith) ∙ six more)
+      (ap (λ m. m + suc i) (l.value refl (omega arith)) ∙ omega arith)
+      (passed_next s u first at t e before run has p.opened (suc i) passed))
 
   next_15 : e.entry.pc ≡ at + 4 * 15 → (p : IsPast s u first at t f before) → (i : ℕ) → i < u.readers at
       → (suc i < u.readers at → register f 6 ≡ slot_at u (suc i)) → register f 7 + suc i ≡ u.readers at
       → ArePassed s u first p.opened.grace (suc i) before → IsNext 15
-  next_15 pc p i lt six seven passed = by_test (eqb (register f 7) 0) refl
-    where
-      by_test : (b : Bool) → eqb (register f 7) 0 ≡ b → IsNext 15
-      by_test true is =
-          let low = at_low in
-          let none = eqb-true (register f 7) 0 is in
-          let all : suc i ≡ u.readers at = omega arith in
-          let after = nexts 15 (inst.Bne 7 0 (negsuc 19)) 0 0 (at + 4 * 16) pc refl
-          (means_bne_not f (at + 4 * 15) (at + 4 * 16) (omega arith) 7 0 (negsuc 19)
-          (register f 7) 0 refl refl is) in
-          let past_it = past 15 pc (omega arith) (omega arith)
-          (kept 0 0 (at + 4 * 16) 5 after (omega arith)) p in
-          record {
-            to = 16;
-            looked = λ is_it had. let no : ⊥ = omega arith in absurd no;
-            tested = λ is_it had. let no : ⊥ = omega arith in absurd no;
-            inside = λ other. omega arith;
-            falls = λ good le_17. let r = kept 0 0 (at + 4 * 16) 7 after (omega arith) in omega arith;
-            keeps = λ j some free. kept 0 0 (at + 4 * 16) j after some;
-            pc = goes_to 0 0 (at + 4 * 16) after;
-            stands = λ le. is_over refl past_it
-                (passed_next s u first at t e before run has p.opened (u.readers at)
-                (subst (λ n. ArePassed s u first p.opened.grace n before) all passed));
-          }
-      by_test false is =
-          let low = at_low in
-          let aligned = at_aligned in
-          let some = eqb-false (register f 7) 0 is in
-          let more : suc i < u.readers at = omega arith in
-          let after = nexts 15 (inst.Bne 7 0 (negsuc 19)) 0 0 (at + 4 * 10) pc refl
-          (means_bne_taken f (at + 4 * 15) 7 0 (negsuc 19) (register f 7) 0 (at + 4 * 10) refl refl is
-          (omega arith) (omega arith)) in
-          let past_it = past 15 pc (omega arith) (omega arith)
-          (kept 0 0 (at + 4 * 10) 5 after (omega arith)) p in
-          record {
-            to = 10;
-            looked = λ is_it had. let no : ⊥ = omega arith in absurd no;
-            tested = λ is_it had. let no : ⊥ = omega arith in absurd no;
-            inside = λ other. omega arith;
-            falls = λ good le_17. let r = kept 0 0 (at + 4 * 10) 7 after (omega arith) in omega arith;
-            keeps = λ j some free. kept 0 0 (at + 4 * 10) j after some;
-            pc = goes_to 0 0 (at + 4 * 10) after;
-            stands = λ le. looks refl past_it (suc i) more
-                (kept 0 0 (at + 4 * 10) 6 after (omega arith) ∙ six more)
-                (ap (λ m. m + suc i) (kept 0 0 (at + 4 * 10) 7 after (omega arith)) ∙ seven)
-                (passed_next s u first at t e before run has p.opened (suc i) passed);
-          }
+  next_15 pc p i lt six seven passed =
+      elim (cases_Bool (eqb (register f 7) 0)) [
+        | inl is ↦
+            let low = at_low in
+            let none = eqb-true (register f 7) 0 is in
+            let all : suc i ≡ u.readers at = omega arith in
+            turns 15 (inst.Bne 7 0 (negsuc 19)) 16 pc refl
+            (means_bne_not f (at + 4 * 15) (at + 4 * 16) (omega arith) 7 0 (negsuc 19) (register f 7) 0 refl refl
+            is)
+            (omega arith) (omega arith) (omega arith)
+            (λ l good le. let r = l.others 7 (omega arith) in omega arith)
+            (λ l le. is_over refl (past 15 pc (omega arith) (omega arith) (l.others 5 (omega arith)) p)
+            (passed_next s u first at t e before run has p.opened (u.readers at)
+            (subst (λ n. ArePassed s u first p.opened.grace n before) all passed)))
+        | inr is ↦
+            let low = at_low in
+            let aligned = at_aligned in
+            let some = eqb-false (register f 7) 0 is in
+            let more : suc i < u.readers at = omega arith in
+            turns 15 (inst.Bne 7 0 (negsuc 19)) 10 pc refl
+            (means_bne_taken f (at + 4 * 15) 7 0 (negsuc 19) (register f 7) 0 (at + 4 * 10) refl refl is
+            (omega arith) (omega arith))
+            (omega arith) (omega arith) (omega arith)
+            (λ l good le. let r = l.others 7 (omega arith) in omega arith)
+            (λ l le. looks refl (record {
+              past = past 15 pc (omega arith) (omega arith) (l.others 5 (omega arith)) p;
+              i = suc i;
+              lt = more;
+              six = l.others 6 (omega arith) ∙ six more;
+              seven = ap (λ m. m + suc i) (l.others 7 (omega arith)) ∙ seven;
+            }) (passed_next s u first at t e before run has p.opened (suc i) passed))
+      ]
+
+  abbrev last_sets : e.entry.pc ≡ at + 4 * 16 → now ≡ record { file = with_register f 10 0; pc = at + 4 * 17 }
+  last_sets pc = sets 16 10 0 pc refl (omega arith) (omega arith)
 
   next_16 : e.entry.pc ≡ at + 4 * 16 → IsNext 16
   next_16 pc =
-      let low = at_low in
-      let after = nexts 16 (inst.Addi 10 0 (pos 0)) 10 0 (at + 4 * 17) pc refl
-      (means_addi f (at + 4 * 16) (at + 4 * 17) (omega arith) 10 0 (pos 0) 0 0 refl refl) in
-      record {
-        to = 17;
-        looked = λ is_it had. let no : ⊥ = omega arith in absurd no;
-        tested = λ is_it had. let no : ⊥ = omega arith in absurd no;
-        inside = λ other. absurd (other refl);
-        falls = λ good le_17. let no : ⊥ = omega arith in absurd no;
-        keeps = λ j some free. kept 10 0 (at + 4 * 17) j after free.not_10;
-        pc = goes_to 10 0 (at + 4 * 17) after;
-        stands = λ lt. let no : ⊥ = omega arith in absurd no;
-      }
+      leads 16 10 0 17 (last_sets pc) (omega arith) (omega arith) (λ other. absurd (other refl))
+      (λ j some free. free.not_10) (λ l good lt. let no : ⊥ = omega arith in absurd no)
+      (λ l lt. let no : ⊥ = omega arith in absurd no)
 
   -- the last instruction leaves the block
   pub past_last : e.entry.pc ≡ at + 4 * 16 → now.pc ≡ at + 4 * 17
-  past_last pc =
-      let low = at_low in
-      goes_to 10 0 (at + 4 * 17)
-      (nexts 16 (inst.Addi 10 0 (pos 0)) 10 0 (at + 4 * 17) pc refl
-      (means_addi f (at + 4 * 16) (at + 4 * 17) (omega arith) 10 0 (pos 0) 0 0 refl refl))
+  past_last pc = ap (λ (x : Saved). x.pc) (last_sets pc)
 
   -- ONE INSTRUCTION
 
@@ -856,14 +751,13 @@ module _ (s : Setting) (u : Urcu) (first : ℕ) (blocks : AreBlocks (code_of s.p
         (next_7 (at_k k 7 is pc) o quiet entered five)
     next_of k pc (has_stored is p) = subst IsNext (sym is) (next_8 (at_k k 8 is pc) p)
     next_of k pc (has_slots is p six) = subst IsNext (sym is) (next_9 (at_k k 9 is pc) p six)
-    next_of k pc (looks is p i lt six seven passed) = subst IsNext (sym is)
-        (next_10 (at_k k 10 is pc) uses p (below p) i lt six seven passed)
-    next_of k pc (has_looked is p i lt six seven passed shows) = subst IsNext (sym is)
-        (next_11 (at_k k 11 is pc) p i lt six seven passed shows)
-    next_of k pc (is_some is p i lt six seven passed shows) = subst IsNext (sym is)
-        (next_12 (at_k k 12 is pc) p i lt six seven passed shows)
-    next_of k pc (passes is p i lt six seven passed) = subst IsNext (sym is)
-        (next_13 (at_k k 13 is pc) p i lt six seven passed)
+    next_of k pc (looks is x passed) = subst IsNext (sym is)
+        (next_10 (at_k k 10 is pc) uses x (below x.past) passed)
+    next_of k pc (has_looked is x passed shows) = subst IsNext (sym is)
+        (next_11 (at_k k 11 is pc) x passed shows)
+    next_of k pc (is_some is x passed shows) = subst IsNext (sym is)
+        (next_12 (at_k k 12 is pc) x passed shows)
+    next_of k pc (passes is x passed) = subst IsNext (sym is) (next_13 (at_k k 13 is pc) x passed)
     next_of k pc (moves is p i lt six seven passed) = subst IsNext (sym is)
         (next_14 (at_k k 14 is pc) p i lt six seven passed)
     next_of k pc (counts is p i lt six seven passed) = subst IsNext (sym is)

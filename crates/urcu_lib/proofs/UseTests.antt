@@ -79,21 +79,16 @@ pub exec_is : (c : Choice) → is_exec c ≡ true → c ≡ asked.Exec
 exec_is asked.Exec is = refl
 exec_is other is = absurd (false≢true is)
 
-abbrev is_drain : Choice → Bool
-is_drain asked.Drain = true
-is_drain other = false
+-- the same of two others
+abbrev is_asked : Choice → Choice → Bool
+is_asked asked.Drain asked.Drain = true
+is_asked asked.Done asked.Done = true
+is_asked a c = false
 
-drain_is : (c : Choice) → is_drain c ≡ true → c ≡ asked.Drain
-drain_is asked.Drain is = refl
-drain_is other is = absurd (false≢true is)
-
-abbrev is_done : Choice → Bool
-is_done asked.Done = true
-is_done other = false
-
-done_is : (c : Choice) → is_done c ≡ true → c ≡ asked.Done
-done_is asked.Done is = refl
-done_is other is = absurd (false≢true is)
+asked_is : (a c : Choice) → is_asked a c ≡ true → c ≡ a
+asked_is asked.Drain asked.Drain is = refl
+asked_is asked.Done asked.Done is = refl
+asked_is a c is = absurd (false≢true is)
 
 -- each number below another
 abbrev all_below : ℕ → (ℕ → Bool) → Bool
@@ -174,22 +169,22 @@ apart_leaves at (Stored w ∷ ws) is a b has =
 -- an event leaves eight bytes alone, but that a waiting store may enter them
 abbrev is_quiet : ℕ → Event → Bool
 is_quiet at e =
-    are_beside at e.done.executed && (is_drain (choice_of e.entry) || are_apart at e.done.entered)
+    are_beside at e.done.executed && (is_asked asked.Drain (choice_of e.entry) || are_apart at e.done.entered)
 
 quiet_is : (at : ℕ) (e : Event) → is_quiet at e ≡ true → IsQuiet (among at 8) e
 quiet_is at e is =
     let parts = and_parts (are_beside at e.done.executed)
-    (is_drain (choice_of e.entry) || are_apart at e.done.entered) is in
+    (is_asked asked.Drain (choice_of e.entry) || are_apart at e.done.entered) is in
     record {
       executed = beside_is at e.done.executed parts.0;
       entered = λ other. by_drain other
-          (either (is_drain (choice_of e.entry)) (are_apart at e.done.entered) parts.1);
+          (either (is_asked asked.Drain (choice_of e.entry)) (are_apart at e.done.entered) parts.1);
     }
   where
     by_drain : choice_of e.entry ≢ asked.Drain
-        → (is_drain (choice_of e.entry) ≡ true) ⊎ (are_apart at e.done.entered ≡ true)
+        → (is_asked asked.Drain (choice_of e.entry) ≡ true) ⊎ (are_apart at e.done.entered ≡ true)
         → Leaves (among at 8) e.done.entered
-    by_drain other (inl drains) = absurd (other (drain_is (choice_of e.entry) drains))
+    by_drain other (inl drains) = absurd (other (asked_is asked.Drain (choice_of e.entry) drains))
     by_drain other (inr apart) = apart_leaves at e.done.entered apart
 
 -- ADDRESSES
@@ -318,7 +313,7 @@ module _ (s : Setting) (x : Layout) (first : ℕ) where
 
   -- each thread whose file is set comes to stand in a block as it should
   abbrev is_returned : Event → History → ℕ → ℕ → Bool
-  is_returned e before t pc = is_done (choice_of e.entry) &&
+  is_returned e before t pc = is_asked asked.Done (choice_of e.entry) &&
       (eqb (file s t before).pc (x.sync_at + 20) && eqb pc (x.sync_at + 20))
 
   -- since a thread last executed an instruction of the sync block, it has had this file
@@ -677,10 +672,10 @@ module _ (s : Setting) (x : Layout) (first : ℕ) where
 
       returned : is_returned e before t f.pc ≡ true → HasCome s x.sync_at 17 17 t e before
       returned is =
-          let parts = and_parts (is_done (choice_of e.entry))
+          let parts = and_parts (is_asked asked.Done (choice_of e.entry))
           (eqb (file s t before).pc (x.sync_at + 20) && eqb f.pc (x.sync_at + 20)) is in
           let more = and_parts (eqb (file s t before).pc (x.sync_at + 20)) (eqb f.pc (x.sync_at + 20)) parts.1 in
-          returns (done_is (choice_of e.entry) parts.0)
+          returns (asked_is asked.Done (choice_of e.entry) parts.0)
           (eqb-true (file s t before).pc (x.sync_at + 20) more.0) (eqb-true f.pc (x.sync_at + 20) more.1)
 
       came_back : acts_in 17 x.sync_at e t ≡ false → has_stood true e before t f ≡ true

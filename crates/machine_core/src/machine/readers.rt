@@ -143,6 +143,7 @@ impl Machine {
     }
 
     /// Whether a signal can be delivered to the thread on a hart (signal(7)). No signal can where the hart is idle.
+    #[inline(always)]
     pub fn has_signal(&self, hart: Hart) -> bool
         requires { hart.0 < self.now.setting.limits.harts }
         ensures { result ≡ is_deliverable_on

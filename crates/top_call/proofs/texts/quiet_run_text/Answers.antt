@@ -37,19 +37,19 @@ returns-in-Some-clause-cause g c =
     c.summed_text.ensures.cause
 
 -- the trace of a run by a script, told while it was made
-pub returns-in-Some-2-clause-output : goal.returns-in-Some-2-clause-output
-returns-in-Some-2-clause-output g c =
+pub returns-in-Some-traced_script-clause-output : goal.returns-in-Some-traced_script-clause-output
+returns-in-Some-traced_script-clause-output g c =
     let run = c.args.run.now in
-    let traced = c.in-Some-2.traced in
+    let traced = c.in-Some-traced_script.traced in
     let told : Run = record { program = run.program.now; source = Script traced.script.now; shown = Trace traced.span; limits = run.limits } in
     let same : told ≡ run_said run =
-    λ i. record { program = run.program.now; source = sym c.in-Some-2.ensures.source i; shown = sym c.in-Some-2.ensures.shown i; limits = run.limits } in
+    λ i. record { program = run.program.now; source = sym c.in-Some-traced_script.ensures.source i; shown = sym c.in-Some-traced_script.ensures.shown i; limits = run.limits } in
     subst (λ (asked : Run). IfOk c.traced_text.result (IsRunOutput (g.S.Shelf.file c.args.shelf.now) asked)) same c.traced_text.ensures.output
 
-pub returns-in-Some-2-clause-cause : goal.returns-in-Some-2-clause-cause
-returns-in-Some-2-clause-cause g c =
+pub returns-in-Some-traced_script-clause-cause : goal.returns-in-Some-traced_script-clause-cause
+returns-in-Some-traced_script-clause-cause g c =
     let run = c.args.run.now in
     subst (λ (source : Source). IfErr c.traced_text.result
     (IsReasonFor (g.S.Shelf.file c.args.shelf.now) (needs_by run.program.now source run.limits) (g.S.Shelf.faults c.args.shelf.now)
-    (g.S.Shelf.faults c.traced_text.new.shelf) (g.S.Shelf.last_trouble c.traced_text.new.shelf))) (sym c.in-Some-2.ensures.source)
+    (g.S.Shelf.faults c.traced_text.new.shelf) (g.S.Shelf.last_trouble c.traced_text.new.shelf))) (sym c.in-Some-traced_script.ensures.source)
     c.traced_text.ensures.cause

@@ -39,10 +39,10 @@ pub returns-clause-output : goal.returns-clause-output
 returns-clause-output g c =
     let files = g.S.Shelf.file c.args.shelf.now in
     let asked : Run = record { program = c.args.program.now; source = Script c.args.script.now; shown = Summary; limits = c.args.limits } in
-    output_of_run files asked c.in_ok-image.image c.in_ok-run.run.machine c.in_ok-counted_summary.field-0
+    output_of_run files asked c.in_ok-image.image c.in_ok-run.run'.machine c.in_ok-counted_summary.field-0
     (run_by_script files (g.S.Shelf.file c.taken.new.shelf) c.args.program.now
     c.args.script.now c.in_ok-lines.lines.items c.deref.result.now c.args.limits c.in_ok-image.image
-    c.in_ok-run.run.machine c.taken.ensures.files c.deref.ensures.value c.in_ok-image.ensures.taken
+    c.in_ok-run.run'.machine c.taken.ensures.files c.deref.ensures.value c.in_ok-image.ensures.taken
     (record { read = c.in_ok-lines.ensures.read; fits = c.in_ok-lines.ensures.fits })
     c.in_ok-run.ensures.whole)
     c.in_ok-counted_summary.ensures
