@@ -77,14 +77,7 @@ impl Followed {
     }
 }
 
-/// Whether an entry is an `exec` by a thread whose number is one digit, as most are.
-fn is_short(entry: Entry) -> bool
-    ensures { IsTrue result → (entry.kind ≡ Kind.Exec) × (entry.tid.0 < 10) }
-{
-    entry.kind == Kind::Exec && entry.tid.0 < 10
-}
-
-/// Puts the line of such an entry, and that of its number but for the newline, before the end of a line or of several.
+/// Puts the line of an `exec` by a thread whose number is one digit, as most are, and that of its number but for the newline, before the end of a line or of several.
 #[inline(always)]
 fn put_head(line: &mut LineEnd, entry: Entry, number: usize)
     requires room { length line.old ≤ 60 }
@@ -104,7 +97,7 @@ fn push_head(text: &mut Vec<u8>, entry: Entry, number: usize) -> Result<(), Allo
     ensures { OnOk result (text.new.items ≡ text.old.items ++ (entry_text entry
         ++ number_line (codes "  line") number)) }
 {
-    if is_short(entry) {
+    if entry.kind == Kind::Exec && entry.tid.0 < 10 {
         let mut line = LineEnd::newline();
         put_head(&mut line, entry, number);
         return line.append_to(text);
@@ -146,7 +139,7 @@ fn push_told(
         ++ number_line (codes "  line") number ++ facts_text facts.now)) }
 {
     if let Some(changed) = changed_alone(facts) {
-        if is_short(entry) {
+        if entry.kind == Kind::Exec && entry.tid.0 < 10 {
             let mut line = LineEnd::newline();
             put_changed(&mut line, changed.number, changed.value);
             line.put(b"\n");
