@@ -1,5 +1,5 @@
-//! A trace: the lines of a run's log, below each what came of its event, and the run's end. That of a run by a script is told
-//! while the run is made.
+//! A trace: the lines of a run's log, below each what came of its event, and the run's end. That of a run by a
+//! script is told while the run is made.
 
 ghost use Rattle.std.specs.Prelude.{◌≡◌, ◌<◌, ◌≤◌, ◌++◌, ◌∷◌, [], Some, false, IfOk, IfErr, IfSome, IsTrue, OnOk, codes, if◌then◌else◌, length};
 ghost use Rattle.std.specs.List.{flat_map};
@@ -409,7 +409,8 @@ pub fn play_traced(
     Ok(TracedRun { machine, text })
 }
 
-/// Plays the next line of a script, and appends what is told of its event, where its line is told; false where none is left.
+/// Plays the next line of a script, and appends what is told of its event, where its line is told; false where
+/// none is left.
 fn tell_next(
     alloc: Global,
     text: &mut Vec<u8>,
@@ -451,7 +452,8 @@ fn tell_next(
     }
 }
 
-/// The entry of the event of a line, which is yet to be made; unless it isn't allowed, or its thread or pc isn't as the line says.
+/// The entry of the event of a line, which is yet to be made; unless it isn't allowed, or its thread or pc isn't
+/// as the line says.
 fn due_entry(machine: &Machine, line: &Line) -> Result<Entry, LineFault>
     ensures decided { IfOk result (IsDecided machine.now) }
     ensures made { IfOk result

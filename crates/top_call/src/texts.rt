@@ -241,7 +241,12 @@ fn traced_text<S: Shelf>(
     shelf: &mut S,
 ) -> Result<Output, Reason>
     requires { InRange limits }
-    ensures output { IfOk result (λ text. IsRunOutput (S.file shelf.old) (record { program = program.now; source = Script traced.script.now; shown = Trace traced.span; limits = limits }) text) }
+    ensures output { IfOk result (λ text. IsRunOutput (S.file shelf.old) (record {
+      program = program.now;
+      source = Script traced.script.now;
+      shown = Trace traced.span;
+      limits = limits;
+    }) text) }
     ensures cause { let needs = needs_by program.now (Script traced.script.now) limits in
         IfErr result (IsReasonFor (S.file shelf.old) needs (S.faults shelf.old) (S.faults shelf.new)
         (S.last_trouble shelf.new)) }
