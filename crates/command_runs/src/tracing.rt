@@ -77,7 +77,8 @@ impl Followed {
     }
 }
 
-/// Puts the line of an `exec` by a thread whose number is one digit, as most are, and that of its number but for the newline, before the end of a line or of several.
+/// Puts the line of an `exec` by a thread whose number is one digit, as most are, and that of its number but for
+/// the newline, before the end of a line or of several.
 #[inline(always)]
 fn put_head(line: &mut LineEnd, entry: Entry, number: usize)
     requires room { length line.old ≤ 60 }
@@ -126,8 +127,8 @@ fn changed_alone(facts: &[Fact]) -> Option<Changed>
     }
 }
 
-/// Appends the line of an entry, the number of that, and the lines of what came of it: by one append, where that is one register alone, as
-/// it mostly is.
+/// Appends the line of an entry, the number of that, and the lines of what came of it: by one append, where that
+/// is one register alone, as it mostly is.
 fn push_told(
     text: &mut Vec<u8>,
     entry: Entry,
