@@ -1,7 +1,7 @@
 //! A trace: the lines of a run's log, below each what came of its event, and the run's end. That of a run by a
 //! script is told while the run is made.
 
-ghost use Rattle.std.specs.Prelude.{◌≡◌, ◌<◌, ◌++◌, ◌∷◌, [], Some, false, IfOk, IfErr, IsTrue, OnOk, codes, if◌then◌else◌, length};
+ghost use Rattle.std.specs.Prelude.{◌≡◌, ◌<◌, ◌≤◌, ◌++◌, ◌∷◌, [], Some, false, IfOk, IfErr, IfSome, IsTrue, OnOk, codes, if◌then◌else◌, length};
 ghost use Rattle.std.specs.List.{flat_map};
 ghost use Rattle.mach_types.specs.Limits.{InRange};
 ghost use Rattle.elf_load.specs.Images.{IsBootable};
@@ -17,9 +17,10 @@ ghost use Rattle.command_runs.specs.Playing.{IsPlaying};
 ghost use Rattle.command_runs.specs.Tracing.{HasTold, IsFollowed, IsTraced, turn_text};
 ghost use Rattle.event_facts.specs.Lines.{next_line};
 ghost use Rattle.event_facts.specs.Telling.{IsDecided, past_of};
-ghost use Rattle.fact_text.specs.Lines.{facts_text};
+ghost use Rattle.fact_text.specs.Lines.{changed_line, facts_text};
 ghost use Rattle.place_text.specs.Ends.{number_line};
-ghost use Rattle.step_log.specs.Text.{entry_text};
+ghost use Rattle.step_log.specs.Text.{entry_text, space};
+ghost use Rattle.std.specs.Fmt.{decimal};
 ghost use Rattle.outcomes.specs.Delivery.{IsPlayReason};
 ghost use Rattle.outcomes.specs.Programs.{ask_of};
 ghost use Rattle.outcomes.specs.Reasons.{line_fault};
@@ -33,7 +34,7 @@ use block_view::{Ledger, Turn, seen_after, seen_ahead};
 use command_words::LineSpan;
 use elf_load::Image;
 use event_facts::{Fact, Lines, trace};
-use fact_text::push_facts;
+use fact_text::{push_facts, put_changed};
 use log_lines::push_lines;
 use mach_types::{End, Entry, Kind, Limits, ThreadState, Tid};
 use machine_core::Machine;
@@ -76,7 +77,22 @@ impl Followed {
     }
 }
 
-/// Appends the line of an entry, and the number of that. Most are those of an `exec` by a thread whose number is one digit.
+/// Puts the line of an `exec` by a thread whose number is one digit, as most are, and that of its number but for
+/// the newline, before the end of a line or of several.
+#[inline(always)]
+fn put_head(line: &mut LineEnd, entry: Entry, number: usize)
+    requires room { length line.old ≤ 60 }
+    requires hart { entry.hart.0 < 8 }
+    requires kind { entry.kind ≡ Kind.Exec }
+    requires digit { entry.tid.0 < 10 }
+    ensures { line.new ≡ entry_text entry ++ codes "  line" ++ space ∷ decimal number ++ line.old }
+{
+    line.put_number(number as u64);
+    line.put(b"  line");
+    line.put(&exec_line(entry.hart, entry.tid, entry.pc));
+}
+
+/// Appends the line of an entry, and the number of that.
 fn push_head(text: &mut Vec<u8>, entry: Entry, number: usize) -> Result<(), AllocError>
     requires { entry.hart.0 < 8 }
     ensures { OnOk result (text.new.items ≡ text.old.items ++ (entry_text entry
@@ -84,13 +100,56 @@ fn push_head(text: &mut Vec<u8>, entry: Entry, number: usize) -> Result<(), Allo
 {
     if entry.kind == Kind::Exec && entry.tid.0 < 10 {
         let mut line = LineEnd::newline();
-        line.put_number(number as u64);
-        line.put(b"  line");
-        line.put(&exec_line(entry.hart, entry.tid, entry.pc));
+        put_head(&mut line, entry, number);
         return line.append_to(text);
     }
     push_lines(text, &[entry])?;
     push_number_line(text, b"  line", number)
+}
+
+/// A register that has another value.
+#[derive(Clone, Copy, Drop)]
+struct Changed {
+    number: u8,
+    value: u64,
+}
+
+/// The register that changed, where nothing else is told.
+fn changed_alone(facts: &[Fact]) -> Option<Changed>
+    ensures { IfSome result (λ x. facts_text facts.now ≡ changed_line x.number x.value) }
+{
+    match facts {
+        [Fact::Register { number, value }] => Some(Changed {
+            number: *number,
+            value: *value,
+        }),
+        _ => None,
+    }
+}
+
+/// Appends the line of an entry, the number of that, and the lines of what came of it: by one append, where that
+/// is one register alone, as it mostly is.
+fn push_told(
+    text: &mut Vec<u8>,
+    entry: Entry,
+    number: usize,
+    facts: &[Fact],
+) -> Result<(), AllocError>
+    requires { entry.hart.0 < 8 }
+    ensures { OnOk result (text.new.items ≡ text.old.items ++ (entry_text entry
+        ++ number_line (codes "  line") number ++ facts_text facts.now)) }
+{
+    if let Some(changed) = changed_alone(facts) {
+        if entry.kind == Kind::Exec && entry.tid.0 < 10 {
+            let mut line = LineEnd::newline();
+            put_changed(&mut line, changed.number, changed.value);
+            line.put(b"\n");
+            put_head(&mut line, entry, number);
+            return line.append_to(text);
+        }
+    }
+    push_head(text, entry, number)?;
+    push_facts(text, facts)
 }
 
 /// Appends what is told of an entry: its line, the number of that, the lines of what came of it, and what it made of
@@ -106,8 +165,7 @@ fn push_event(
     ensures { OnOk result (text.new.items ≡ text.old.items ++ (entry_text entry
         ++ number_line (codes "  line") number ++ facts_text facts.now ++ turn_text turn)) }
 {
-    push_head(text, entry, number)?;
-    push_facts(text, facts)?;
+    push_told(text, entry, number, facts)?;
     push_turn(text, turn)?;
     Ok(())
 }

@@ -63,7 +63,10 @@ address_line word at = line word (value_text at ∷ [])
 abbrev pub lost_line : ℕ → ℕ → ℕ → List ℕ
 lost_line h at by = line (codes "  lost") (decimal h ∷ value_text at ∷ codes "by" ∷ value_text by ∷ [])
 
--- `xN NAME VALUE`
+-- `xN NAME VALUE`: but for its newline, and with it
+abbrev pub changed_fields : ℕ → ℕ → List ℕ
+changed_fields n value = codes "  x" ++ decimal n ++ behind (register_name n ∷ value_text value ∷ [])
+
 abbrev pub changed_line : ℕ → ℕ → List ℕ
 changed_line n value = line (codes "  x" ++ decimal n) (register_name n ∷ value_text value ∷ [])
 

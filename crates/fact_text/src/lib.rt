@@ -4,4 +4,4 @@
 mod call_names;
 mod lines;
 
-pub use lines::{push_fact, push_facts};
+pub use lines::{push_fact, push_facts, put_changed};

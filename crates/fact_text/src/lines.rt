@@ -134,14 +134,24 @@ fn push_lost(text: &mut Vec<u8>, hart: Hart, at: u64, by: u64) -> Result<(), All
     Ok(())
 }
 
+/// Puts the line of a register that changed, but for its newline, before the end of a line or of several.
+#[inline(always)]
+pub fn put_changed(line: &mut LineEnd, number: u8, value: u64)
+    requires { length line.old ≤ 60 }
+    ensures text { line.new ≡ spec.changed_fields number value ++ line.old }
+    ensures length { length line.new ≤ length line.old + 50 }
+{
+    line.put_value(value);
+    put_register(line, number);
+    line.put(b" ");
+}
+
 /// Appends the line of a register that changed.
 fn push_changed(text: &mut Vec<u8>, number: u8, value: u64) -> Result<(), AllocError>
     ensures { OnOk result (text.new.items ≡ text.old.items ++ spec.changed_line number value) }
 {
     let mut line = LineEnd::newline();
-    line.put_value(value);
-    put_register(&mut line, number);
-    line.put(b" ");
+    put_changed(&mut line, number, value);
     line.append_to(text)
 }
 
