@@ -77,13 +77,21 @@ impl Followed {
     }
 }
 
-/// Puts the line of an `exec` by a thread whose number is one digit, as most are, and that of its number but for
-/// the newline, before the end of a line or of several.
+/// Whether an entry is an `exec` by a thread whose number is one digit, as most are.
+#[inline(always)]
+fn is_short(entry: Entry) -> bool
+    ensures exec { IsTrue result → entry.kind ≡ Kind.Exec }
+    ensures digit { IsTrue result → entry.tid.0 < 10 }
+{
+    entry.kind == Kind::Exec && entry.tid.0 < 10
+}
+
+/// Puts the line of such an entry, and that of its number but for the newline, before the end of a line or of several.
 #[inline(always)]
 fn put_head(line: &mut LineEnd, entry: Entry, number: usize)
     requires room { length line.old ≤ 60 }
     requires hart { entry.hart.0 < 8 }
-    requires kind { entry.kind ≡ Kind.Exec }
+    requires exec { entry.kind ≡ Kind.Exec }
     requires digit { entry.tid.0 < 10 }
     ensures { line.new ≡ entry_text entry ++ codes "  line" ++ space ∷ decimal number ++ line.old }
 {
@@ -98,7 +106,7 @@ fn push_head(text: &mut Vec<u8>, entry: Entry, number: usize) -> Result<(), Allo
     ensures { OnOk result (text.new.items ≡ text.old.items ++ (entry_text entry
         ++ number_line (codes "  line") number)) }
 {
-    if entry.kind == Kind::Exec && entry.tid.0 < 10 {
+    if is_short(entry) {
         let mut line = LineEnd::newline();
         put_head(&mut line, entry, number);
         return line.append_to(text);
@@ -115,6 +123,8 @@ struct Changed {
 }
 
 /// The register that changed, where nothing else is told.
+#[inline(always)]
+#[tactic(auto, unfolding(fact_text::specs::Lines::facts_text))]
 fn changed_alone(facts: &[Fact]) -> Option<Changed>
     ensures { IfSome result (λ x. facts_text facts.now ≡ changed_line x.number x.value) }
 {
@@ -127,8 +137,28 @@ fn changed_alone(facts: &[Fact]) -> Option<Changed>
     }
 }
 
-/// Appends the line of an entry, the number of that, and the lines of what came of it: by one append, where that
-/// is one register alone, as it mostly is.
+/// Appends the line of such an entry, the number of that, and the line of a register, by one append.
+#[inline(always)]
+fn push_short(
+    text: &mut Vec<u8>,
+    entry: Entry,
+    number: usize,
+    changed: Changed,
+) -> Result<(), AllocError>
+    requires hart { entry.hart.0 < 8 }
+    requires exec { entry.kind ≡ Kind.Exec }
+    requires digit { entry.tid.0 < 10 }
+    ensures { OnOk result (text.new.items ≡ text.old.items ++ (entry_text entry
+        ++ number_line (codes "  line") number ++ changed_line changed.number changed.value)) }
+{
+    let mut line = LineEnd::newline();
+    put_changed(&mut line, changed.number, changed.value);
+    line.put(b"\n");
+    put_head(&mut line, entry, number);
+    line.append_to(text)
+}
+
+/// Appends the line of an entry, the number of that, and the lines of what came of it. Mostly that is one register alone.
 fn push_told(
     text: &mut Vec<u8>,
     entry: Entry,
@@ -139,13 +169,9 @@ fn push_told(
     ensures { OnOk result (text.new.items ≡ text.old.items ++ (entry_text entry
         ++ number_line (codes "  line") number ++ facts_text facts.now)) }
 {
-    if let Some(changed) = changed_alone(facts) {
-        if entry.kind == Kind::Exec && entry.tid.0 < 10 {
-            let mut line = LineEnd::newline();
-            put_changed(&mut line, changed.number, changed.value);
-            line.put(b"\n");
-            put_head(&mut line, entry, number);
-            return line.append_to(text);
+    if is_short(entry) {
+        if let Some(changed) = changed_alone(facts) {
+            return push_short(text, entry, number, changed);
         }
     }
     push_head(text, entry, number)?;
