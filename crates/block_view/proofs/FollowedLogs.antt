@@ -1,5 +1,5 @@
 -- A ledger that follows a log: at the start, after one entry more, and where the log ends.
-use Rattle.std.proofs.Common.{◌≡◌, ℕ, ◌+◌, ◌<◌, List, [], ◌++◌, length, map, option_to_list, sym, ap, ◌∙◌, subst, arith}
+use Rattle.std.proofs.Common.{◌≡◌, ℕ, ◌+◌, ◌<◌, List, [], ◌++◌, length, map, option_to_list, sym, ap, ◌∙◌, subst, arith, false, Option, None}
 use Rattle.std.proofs.lemmas.List.{length-map}
 use Rattle.std.specs.Option.{option_map}
 use Rattle.mach_types.specs.declared.events.Entry.{Entry}
@@ -7,14 +7,16 @@ use Rattle.block_model.specs.Deciding.{event, history}
 use Rattle.block_model.specs.Setting.{Seen}
 use Rattle.block_view.specs.Following.{IsFollowing, IsLetGo, behind, moved}
 use Rattle.block_view.specs.Following.IsLetGo.{Same, Gone}
-use Rattle.block_view.specs.Ledgers.{HasPlaces, Kept, noted, nothing_kept, turn_noted}
+use Rattle.block_view.specs.Ledgers.{HasPlaces, Kept, begins, noted, nothing_kept, turn_noted}
 use Rattle.block_view.specs.Passing.{IsMadeAgain}
 use Rattle.block_view.specs.Tied.{IsOfLog}
 use Rattle.block_view.specs.Turns.{turns}
 use Rattle.block_view.specs.declared.passing.Passed.{Passed}
+use Rattle.block_view.specs.declared.turns.Turn.{Turn}
 use Rattle.block_view.proofs.Closing.{has_places}
 use Rattle.block_view.proofs.Entering.{hart_of_more, tied_to_more, tied_to_none, told_of_more}
 use Rattle.block_view.proofs.GoneActs.{behind_none, let_go_behind, noted_behind, places_left, turn_behind}
+use Rattle.block_view.proofs.IdleLedgers.{lets_go, no_turn}
 
 -- one that is tied to a log follows it
 pub follows_whole : (m : Seen) (k : Kept) → IsOfLog m k → IsFollowing m k
@@ -52,3 +54,15 @@ follows_so m k k' (Same is) follows = subst (IsFollowing m) (sym is) follows
 follows_so m k k' (Gone rests is) follows =
     subst (IsFollowing m) (sym is)
     (record { gone = follows.gone ++ k.acts; tied = subst (IsOfLog m) (sym (let_go_behind follows.gone k rests)) follows.tied })
+
+-- an entry that makes nothing of a ledger with no acts
+module _ (m m' : Seen) (k : Kept) (entry : Entry) (passed : Passed) (none : k.acts ≡ []) (other : begins passed ≡ false) where
+  pub follows_idle : IsFollowing m k → IsMadeAgain m m' entry passed → IsFollowing m' k
+  follows_idle follows again =
+      follows_so m' (noted passed k) k (lets_go k (places_followed m k follows) none passed other) (follows_more m m' k entry passed follows again)
+
+  pub told_idle : IsFollowing m k → IsMadeAgain m m' entry passed
+      → option_to_list None ≡ turns m.setting (event m.setting (history m.setting m.log) entry) (history m.setting m.log)
+  told_idle follows again =
+      ap (λ (turn : Option Turn). option_to_list turn) (no_turn k (places_followed m k follows) none passed other)
+      ∙ told_followed m m' k entry passed follows again

@@ -12,6 +12,7 @@ mod FollowedLogs
 mod GoneActs
 mod Growing
 mod HangingPlaces
+mod IdleLedgers
 mod Indices
 mod Interruptions
 pub mod Laws

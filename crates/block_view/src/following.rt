@@ -46,6 +46,9 @@ impl Ledger {
             → IfOk result (λ turn. let before = history m.setting m.log in
             option_to_list turn ≡ turns m.setting (event m.setting before entry) before) }
     {
+        if self.passes_by(passed) {
+            return Ok(None);
+        }
         let turn = self.note(passed)?;
         self.let_go();
         Ok(turn)
