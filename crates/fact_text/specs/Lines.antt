@@ -18,7 +18,7 @@ use Rattle.event_facts.specs.declared.interruptions.Interruption.TheVariants as 
 use Rattle.event_facts.specs.declared.threads.ThreadChange.{ThreadChange}
 use Rattle.event_facts.specs.declared.threads.ThreadChange.TheVariants as becomes
 use Rattle.fact_text.specs.CallNames.{argument_count, call_name, errno_name}
-use Rattle.place_text.specs.Fields.{harts_fields, line, value_or_none, value_text, yes_or_no}
+use Rattle.place_text.specs.Fields.{behind, harts_fields, line, value_or_none, value_text, yes_or_no}
 use Rattle.place_text.specs.Registers.{register_name}
 use Rattle.place_text.specs.Sequences.{bad_word}
 use Rattle.step_log.specs.Text.{newline, space}
