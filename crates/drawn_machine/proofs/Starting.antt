@@ -249,7 +249,9 @@ listed_begin harts ts s opened h holds = go (list_any (may s opened h) s.order) 
 
 -- of a hart that is open no more is asked than that the thread may run there, of another that it may run on none that is open
 pub open_bar : (opened h set : ℕ) → h < opened → (has_hart set h && eqb (set % 2 ^ 0) 0) ≡ may_begin opened h set
-open_bar opened h set is = rw (lt-ltb h opened is) (ap (λ n. has_hart set h && eqb n 0) (omega arith))
+open_bar opened h set is =
+    let none : set % 2 ^ 0 ≡ 0 = omega arith in
+    rw (lt-ltb h opened is) (ap (λ (n : ℕ). has_hart set h && eqb n 0) none)
 
 pub shut_bar : (opened h set : ℕ) → opened ≤ h → (has_hart set h && eqb (set % 2 ^ opened) 0) ≡ may_begin opened h set
 shut_bar opened h set is = rw (le-ltb h opened is) refl
