@@ -108,6 +108,15 @@ same_first files program script limits n both refused =
     (same_start files program script limits refused.image both refused.taken) refused.first in
     subst (λ text. IsFirstBadLine (setting_of both.image limits) text n) lines first
 
+-- none but a guest is outside its range
+of_guest : (P : Needs → Type 0) (needs : Needs) (n : ℕ)
+    → ((guest : AskedGuest) → IsOutsideGuest (Guest guest) n → P (Guest guest)) → IsOutsideGuest needs n → P needs
+of_guest P Nothing n holds outside = absurd outside
+of_guest P (Program program limits) n holds outside = absurd outside
+of_guest P (Script program script limits) n holds outside = absurd outside
+of_guest P (Guest guest) n holds outside = holds guest outside
+of_guest P (Pair pair) n holds outside = absurd outside
+
 -- what can't be where good files are told
 no_big_when_good : (files : Files) (needs : Needs) → TellsGoodFiles files needs → ¬ (HasBigFile files needs)
 no_big_when_good files Nothing told big = absurd told
@@ -139,11 +148,8 @@ no_bad_line_when_good files (Pair pair) n told refused = no_line_when_good_pair 
 
 no_guest_when_good : (files : Files) (needs : Needs) (n : ℕ) → TellsGoodFiles files needs
     → ¬ (IsOutsideGuest needs n)
-no_guest_when_good files Nothing n told outside = outside
-no_guest_when_good files (Program program limits) n told outside = outside
-no_guest_when_good files (Script program script limits) n told outside = outside
-no_guest_when_good files (Pair pair) n told outside = outside
-no_guest_when_good files (Guest guest) n told outside = absurd (cc (sym told ∙ outside.0))
+no_guest_when_good files needs n told outside =
+    of_guest (λ asked. ¬ (TellsGoodFiles files asked)) needs n (λ guest is size. absurd (cc (sym size ∙ is.0))) outside told
 
 -- a fault comes for a command's needs, for want of memory, or where there is no command
 no_usage : (files : Files) (command : Option words.Command) (Tells : Files → Needs → Type 0)
@@ -186,15 +192,6 @@ status_left files command old new status Big leaves unread cause = inl (leaves.b
 status_left files command old new status (Elf found) leaves unread cause = inl (leaves.refused found cause)
 status_left files command old new status (fault.Guest number) leaves unread cause = inl (leaves.guest number cause)
 status_left files command old new status (fault.Script number) leaves unread cause = inl (leaves.line number cause)
-
--- none but a guest is outside its range
-no_guest : (Tells : Needs → Type 0) (needs : Needs) (n : ℕ) → ((guest : AskedGuest) → ¬ (Tells (Guest guest))) → Tells needs
-    → ¬ (IsOutsideGuest needs n)
-no_guest Tells Nothing n never told outside = outside
-no_guest Tells (Program program limits) n never told outside = outside
-no_guest Tells (Script program script limits) n never told outside = outside
-no_guest Tells (Guest guest) n never told outside = never guest told
-no_guest Tells (Pair pair) n never told outside = outside
 
 -- a line is bad of a script beside a program, or of a pair's
 no_bad_line : (files : Files) (Tells : Needs → Type 0) (needs : Needs) (n : ℕ)
@@ -249,7 +246,7 @@ left_by_faulty files needs told = record {
   big = λ big. absurd (no_big_when_faulty files needs told big);
   refused = λ found refused. refl;
   line = λ n refused. absurd (no_bad_line_when_faulty files needs n told refused);
-  guest = λ n outside. absurd (no_guest (TellsFaultyProgram files) needs n (λ asked never. never) told outside);
+  guest = λ n outside. absurd (of_guest (λ asked. ¬ (TellsFaultyProgram files asked)) needs n (λ guest is never. never) outside told);
 }
 
 -- what can't be where a bad line is told
@@ -291,7 +288,7 @@ left_by_bad_line files needs told = record {
   big = λ big. absurd (no_big_when_bad_line files needs told big);
   refused = λ found refused. absurd (no_refusal_when_bad_line files needs found told refused);
   line = λ n refused. refl;
-  guest = λ n outside. absurd (no_guest (TellsBadScript files) needs n (λ asked never. never) told outside);
+  guest = λ n outside. absurd (of_guest (λ asked. ¬ (TellsBadScript files asked)) needs n (λ guest is never. never) outside told);
 }
 
 -- what can't be where a file that is too big is told
@@ -340,45 +337,21 @@ left_by_big files needs told = record {
   big = λ big. refl;
   refused = λ found refused. absurd (no_refusal_when_big files needs found told refused);
   line = λ n refused. absurd (no_bad_line_when_big files needs n told refused);
-  guest = λ n outside. absurd (no_guest (TellsBigFile files) needs n (λ asked never. never) told outside);
+  guest = λ n outside. absurd (of_guest (λ asked. ¬ (TellsBigFile files asked)) needs n (λ guest is never. never) outside told);
 }
 
 -- a guest that doesn't take its size leaves nothing else: no output, and no other fault but want of memory
 pub unused_when_outside : (files : Files) (needs : Needs) (n : ℕ) → IsOutsideGuest needs n → ¬ (AreUsed files needs)
-unused_when_outside files Nothing n outside used = outside
-unused_when_outside files (Program program limits) n outside used = outside
-unused_when_outside files (Script program script limits) n outside used = outside
-unused_when_outside files (Guest guest) n outside used = absurd (cc (sym used ∙ outside.0))
-unused_when_outside files (Pair pair) n outside used = outside
-
-no_big_when_outside : (files : Files) (needs : Needs) (n : ℕ) → IsOutsideGuest needs n → ¬ (HasBigFile files needs)
-no_big_when_outside files Nothing n outside big = outside
-no_big_when_outside files (Program program limits) n outside big = outside
-no_big_when_outside files (Script program script limits) n outside big = outside
-no_big_when_outside files (Guest guest) n outside big = big
-no_big_when_outside files (Pair pair) n outside big = outside
-
-no_refusal_when_outside : (files : Files) (needs : Needs) (n : ℕ) (fault : ElfFault) → IsOutsideGuest needs n
-    → ¬ (IsRefusalOf files needs fault)
-no_refusal_when_outside files Nothing n fault outside refused = outside
-no_refusal_when_outside files (Program program limits) n fault outside refused = outside
-no_refusal_when_outside files (Script program script limits) n fault outside refused = outside
-no_refusal_when_outside files (Guest guest) n fault outside refused = refused
-no_refusal_when_outside files (Pair pair) n fault outside refused = outside
-
-no_bad_line_when_outside : (files : Files) (needs : Needs) (n line : ℕ) → IsOutsideGuest needs n
-    → ¬ (IsScriptRefusalOf files needs line)
-no_bad_line_when_outside files Nothing n line outside refused = outside
-no_bad_line_when_outside files (Program program limits) n line outside refused = outside
-no_bad_line_when_outside files (Script program script limits) n line outside refused = outside
-no_bad_line_when_outside files (Guest guest) n line outside refused = refused
-no_bad_line_when_outside files (Pair pair) n line outside refused = outside
+unused_when_outside files needs n outside used =
+    of_guest (λ asked. ¬ (AreUsed files asked)) needs n (λ guest is size. absurd (cc (sym size ∙ is.0))) outside used
 
 pub left_by_outside : (files : Files) (needs : Needs) (n : ℕ) → IsOutsideGuest needs n → Leaves files needs 9
 left_by_outside files needs n outside = record {
   some = λ none. subst (λ (asked : Needs). IsOutsideGuest asked n) none outside;
-  big = λ big. absurd (no_big_when_outside files needs n outside big);
-  refused = λ found refused. absurd (no_refusal_when_outside files needs n found outside refused);
-  line = λ number refused. absurd (no_bad_line_when_outside files needs n number outside refused);
+  big = λ big. absurd (of_guest (λ asked. ¬ (HasBigFile files asked)) needs n (λ guest is never. never) outside big);
+  refused = λ found refused.
+      absurd (of_guest (λ asked. ¬ (IsRefusalOf files asked found)) needs n (λ guest is never. never) outside refused);
+  line = λ number refused.
+      absurd (of_guest (λ asked. ¬ (IsScriptRefusalOf files asked number)) needs n (λ guest is never. never) outside refused);
   guest = λ number also. refl;
 }
