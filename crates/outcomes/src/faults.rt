@@ -55,11 +55,11 @@ impl Fault {
         match self {
             Fault::Usage => line_of("usage"),
             Fault::Elf(fault) => elf_line(fault),
-            Fault::Script(number) => script_line(*number),
+            Fault::Script(number) => numbered_line("script ", *number),
             Fault::Read => line_of("read"),
             Fault::Memory => line_of("memory"),
             Fault::Big => line_of("big"),
-            Fault::Guest(number) => guest_line(*number),
+            Fault::Guest(number) => numbered_line("guest ", *number),
         }
     }
 }
@@ -98,22 +98,13 @@ fn elf_line(fault: &ElfFault) -> ArrayString<64>
     line_of(words.as_str())
 }
 
-/// The line of a script that is refused at the line of this number.
-fn script_line(number: u64) -> ArrayString<64>
-    ensures { result.bytes ≡ codes "fault " ++ (codes "script " ++ decimal number) ++ newline ∷ [] }
+/// The line of a fault with this word, a space behind it, and this number.
+fn numbered_line(word: &str, number: u64) -> ArrayString<64>
+    requires { length word.now ≤ 7 }
+    ensures { result.bytes ≡ codes "fault " ++ (word.now ++ decimal number) ++ newline ∷ [] }
 {
     let mut words = ArrayString::<48>::new();
-    words.push_str("script ");
-    push_number(&mut words, number);
-    line_of(words.as_str())
-}
-
-/// The line of a number that is outside the range of a guest.
-fn guest_line(number: u64) -> ArrayString<64>
-    ensures { result.bytes ≡ codes "fault " ++ (codes "guest " ++ decimal number) ++ newline ∷ [] }
-{
-    let mut words = ArrayString::<48>::new();
-    words.push_str("guest ");
+    words.push_str(word);
     push_number(&mut words, number);
     line_of(words.as_str())
 }
