@@ -9,7 +9,6 @@ ghost use Rattle.outcomes.specs.Text.{fault_line, elf_words, detail_words};
 
 use arrayvec::ArrayString;
 use elf_load::ElfFault;
-use std::alloc::AllocError;
 
 /// Why a call gives no output.
 #[derive(Clone, Copy, Drop)]
@@ -61,17 +60,6 @@ impl Fault {
             Fault::Big => line_of("big"),
             Fault::Guest(number) => numbered_line("guest ", *number),
         }
-    }
-}
-
-impl From<AllocError> for Fault {
-    ghost use Rattle.std.specs.Prelude.{◌≡◌};
-    ghost use Rattle.outcomes.specs.declared.faults.Fault.TheVariants.{Memory};
-
-    ghost from_gives = { λ _ fault. fault ≡ Memory };
-
-    fn from(_error: AllocError) -> Fault {
-        Fault::Memory
     }
 }
 
