@@ -1,7 +1,6 @@
 -- What a line of a script makes of a machine and its reader.
 use Rattle.std.proofs.Common.{◌≡◌, ℕ, ◌+◌, List, [], ◌∷◌, ◌++◌, length, map, refl, sym, ap, ◌∙◌, subst}
-use Rattle.std.proofs.Common.{Bool, true, false, Option, Some, None, Result, Ok, Err, append-nil, append_assoc, ap₂}
-use Rattle.std.proofs.Common.{if◌then◌else◌}
+use Rattle.std.proofs.Common.{Option, Some, None, Result, Ok, Err, append-nil, append_assoc, ap₂}
 use Rattle.std.proofs.lemmas.List.{map-append}
 use Rattle.std.specs.Option.{option_map}
 use Rattle.step_log.specs.Reading.{Unread, unread, next_answer, after_next}
@@ -16,9 +15,9 @@ use Rattle.block_model.specs.Setting.{Setting, Seen}
 use Rattle.block_model.proofs.Laws.{length-answers, played-append, played-nil, played_is_run}
 use Rattle.block_model.specs.declared.refusals.Refused.{Refused}
 use Rattle.outcomes.specs.declared.reasons.LineFault.{LineFault}
-use Rattle.outcomes.specs.declared.reasons.LineFault.TheVariants.{Differs, Malformed}
+use Rattle.outcomes.specs.declared.reasons.LineFault.TheVariants.{Malformed}
 use Rattle.command_runs.specs.Playing.{IsPlaying}
-use Rattle.command_runs.proofs.NextLines.{at_bad, at_end, at_line}
+use Rattle.command_runs.proofs.NextLines.{at_bad, at_end, at_line, differs_unmade}
 use Rattle.outcomes.specs.Programs.{ask_in, ask_of}
 use Rattle.outcomes.specs.Reasons.{IsBadLine, decided_fault, line_fault}
 use Rattle.outcomes.specs.Runs.{IsPlayedRun, IsWholePlay}
@@ -70,11 +69,7 @@ playing-next text m n line more ask r p left said same made q rest =
 faulty_unmade : (check : Option (Tid × ℕ)) (r : Result Entry Refused) (fault : LineFault)
     → decided_fault check r ≡ Some fault → checked check r ≡ None
 faulty_unmade check (Err refused) fault is = refl
-faulty_unmade check (Ok e) fault is = by_said (is_as_said check e) is
-  where
-    by_said : (b : Bool) → (if b then None else Some (Differs e)) ≡ Some fault → (if b then Some e else None) ≡ None
-    by_said true none = absurd cc
-    by_said false some = refl
+faulty_unmade check (Ok e) fault is = differs_unmade (is_as_said check e) e fault is
 
 line_unmade : (s : Setting) (log : List Entry) (line : Option Ask) (fault : LineFault)
     → line_fault s log line ≡ Some fault → made_by_read s log line ≡ None
