@@ -20,7 +20,7 @@ use Rattle.command_runs.specs.Playing.{IsPlaying}
 use Rattle.command_runs.proofs.NextLines.{at_bad, at_end, at_line, differs_unmade}
 use Rattle.outcomes.specs.Programs.{ask_in, ask_of}
 use Rattle.outcomes.specs.Reasons.{IsBadLine, decided_fault, line_fault}
-use Rattle.outcomes.specs.Runs.{IsPlayedRun, IsWholePlay}
+use Rattle.outcomes.specs.Runs.{IsFirstBadLine, IsPlayedRun, IsWholePlay}
 
 -- before the first line
 pub playing-start : (text : List ℕ) (m : Seen) (s : Setting) (seed : ℕ) (r : Unread)
@@ -77,23 +77,28 @@ line_unmade s log None fault is = refl
 line_unmade s log (Some ask) fault is =
     faulty_unmade ask.check (decide s (history s log) ask.hart.0 ask.choice) fault is
 
--- the next line is the first bad one: something is wrong with it
+-- the next line makes no entry
+abbrev first_unmade : (text : List ℕ) (m : Seen) (line : List ℕ) (more : List (List ℕ)) (r : Unread)
+    → IsPlaying text m r → r.left ≡ line ∷ more → made_by_read m.setting m.log (ask_in line) ≡ None
+    → IsFirstBadLine m.setting text (length m.log + 1)
+first_unmade text m line more r p left unmade = record {
+  earlier = p.asks;
+  line = ask_in line;
+  later = map ask_in more;
+  log = m.log;
+  parts = ap (map ask_in) (p.parts ∙ ap (λ ls. p.earlier ++ ls) left)
+      ∙ map-append ask_in p.earlier (line ∷ more) ∙ ap (λ xs. xs ++ ask_in line ∷ map ask_in more) p.readable;
+  number = ap (λ n. n + 1) (length-answers p.asks m.log (played_is_run m.setting p.asks m.log p.allowed).1);
+  allowed = p.allowed;
+  refused = unmade;
+}
+
+-- it is the first bad one: something is wrong with it
 first_bad : (text : List ℕ) (m : Seen) (line : List ℕ) (more : List (List ℕ)) (r : Unread) (fault : LineFault)
     → IsPlaying text m r → r.left ≡ line ∷ more → line_fault m.setting m.log (ask_in line) ≡ Some fault
     → IsBadLine m.setting text (length m.log + 1) fault
 first_bad text m line more r fault p left faulty = record {
-  first = record {
-    earlier = p.asks;
-    line = ask_in line;
-    later = map ask_in more;
-    log = m.log;
-    parts = ap (map ask_in) (p.parts ∙ ap (λ ls. p.earlier ++ ls) left)
-        ∙ map-append ask_in p.earlier (line ∷ more) ∙ ap (λ xs. xs ++ ask_in line ∷ map ask_in more) p.readable;
-    number =
-        ap (λ n. n + 1) (length-answers p.asks m.log (played_is_run m.setting p.asks m.log p.allowed).1);
-    allowed = p.allowed;
-    refused = line_unmade m.setting m.log (ask_in line) fault faulty;
-  };
+  first = first_unmade text m line more r p left (line_unmade m.setting m.log (ask_in line) fault faulty);
   why = faulty;
 }
 
