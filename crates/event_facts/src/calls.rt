@@ -1,6 +1,6 @@
 //! System calls: which call an event is, and how it was answered.
 
-ghost use Rattle.std.specs.Prelude.{◌≡◌, ℕ, ◌<◌, ◌++◌, ◌&&◌, OnOk, Option, if◌then◌else◌, is_none, is_some};
+ghost use Rattle.std.specs.Prelude.{◌≡◌, ℕ, ◌<◌, ◌++◌, ◌&&◌, OnOk, Option, if◌then◌else◌, is_none, is_some, option_to_list};
 ghost use Rattle.std.specs.Option.{option_map};
 ghost use Rattle.mach_types.specs.Events.{choice_of};
 ghost use Rattle.mach_types.specs.Kernel.Threads.{state_of};
@@ -188,19 +188,12 @@ pub(crate) fn push_called(facts: &mut Vec<Fact>, call: Option<SystemCall>) -> Re
     Ok(())
 }
 
-/// Appends how the call was answered that an entry is, which was made; nothing where it is none.
-pub(crate) fn push_answer(
-    facts: &mut Vec<Fact>,
-    machine: &Machine,
-    entry: Entry,
-    call: Option<SystemCall>,
-) -> Result<(), AllocError>
+/// How the call was answered that an entry is, which was made; None where it is none.
+pub(crate) fn answered(machine: &Machine, entry: Entry, call: Option<SystemCall>) -> Option<Fact>
     requires { entry.hart.0 < machine.now.setting.limits.harts }
-    ensures { OnOk result (facts.new.items ≡ facts.old.items
-        ++ answer_facts machine.now.setting (past_of machine.now) entry call) }
+    ensures { option_to_list result
+        ≡ answer_facts machine.now.setting (past_of machine.now) entry call }
 {
-    if let Some(call) = call {
-        facts.push(answer(machine, entry, &call))?;
-    }
-    Ok(())
+    let call = call?;
+    Some(answer(machine, entry, &call))
 }

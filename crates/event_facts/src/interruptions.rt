@@ -1,7 +1,7 @@
 //! Interruptions of threads (rseq(2)): what they came to, and which word was wrong where one killed the
 //! process.
 
-ghost use Rattle.std.specs.Prelude.{◌≡◌, ◌<◌, ◌++◌, OnOk};
+ghost use Rattle.std.specs.Prelude.{◌≡◌, ◌<◌, option_to_list};
 ghost use Rattle.mach_types.specs.Bytes.{IsAccessSize};
 ghost use Rattle.block_model.specs.Here.{view};
 ghost use Rattle.event_facts.specs.Interruptions as spec;
@@ -14,7 +14,6 @@ use mach_types::address_space::USER_END;
 use mach_types::sequences::{FLAGS, RSEQ_CS};
 use mach_types::{Area, BadWhy, Entry, Hart, Outcome};
 use machine_core::Machine;
-use std::alloc::AllocError;
 use sys_calls::area_of;
 
 /// A word in memory for which an area is bad.
@@ -235,23 +234,13 @@ fn interruption_of(
     }
 }
 
-/// Appends what the interruption of the thread of an entry came to, which was made; nothing where there was
-/// none.
-pub(crate) fn push_interrupted(
-    facts: &mut Vec<Fact>,
-    machine: &Machine,
-    entry: Entry,
-    came: Option<Outcome>,
-) -> Result<(), AllocError>
+/// What the interruption of the thread of an entry came to, which was made; None where there was none.
+pub(crate) fn interrupted(machine: &Machine, entry: Entry, came: Option<Outcome>) -> Option<Fact>
     requires { entry.hart.0 < machine.now.setting.limits.harts }
-    ensures { OnOk result (facts.new.items ≡ facts.old.items
-        ++ interrupted_facts (here_on machine.now entry.hart.0) entry came) }
+    ensures { option_to_list result ≡ interrupted_facts (here_on machine.now entry.hart.0) entry came }
 {
-    let Some(outcome) = came else {
-        return Ok(());
-    };
+    let outcome = came?;
     let area = area_of(machine.kernel(), entry.tid);
     let interruption = interruption_of(machine, entry.hart, area, entry.pc, outcome);
-    facts.push(Fact::Interrupted(interruption))?;
-    Ok(())
+    Some(Fact::Interrupted(interruption))
 }

@@ -11,7 +11,7 @@ ghost use Rattle.event_facts.specs.Pending.{delivered_by, delivered_facts, held_
 ghost use Rattle.event_facts.specs.Telling.{past_of};
 
 use crate::calls::is_process_end;
-use crate::facts::Fact;
+use crate::facts::{Fact, push_if};
 use hart_state::HartState;
 use mach_types::{Entry, Kind, Tid};
 use machine_core::Machine;
@@ -60,24 +60,16 @@ fn delivered_fact(killed: bool, state: &HartState, signal: u8) -> Fact
     }
 }
 
-/// Appends what came of the delivery of a signal, where an entry delivered one that was made.
-pub(crate) fn push_delivered(
-    facts: &mut Vec<Fact>,
-    machine: &Machine,
-    entry: Entry,
-    delivered: Option<u8>,
-) -> Result<(), AllocError>
+/// What came of the delivery of a signal, where an entry delivered one that was made.
+pub(crate) fn delivery(machine: &Machine, entry: Entry, delivered: Option<u8>) -> Option<Fact>
     requires { entry.hart.0 < machine.now.setting.limits.harts }
-    ensures { OnOk result (facts.new.items ≡ facts.old.items
-        ++ delivered_facts machine.now.setting (past_of machine.now) entry delivered) }
+    ensures { option_to_list result
+        ≡ delivered_facts machine.now.setting (past_of machine.now) entry delivered }
 {
-    let Some(signal) = delivered else {
-        return Ok(());
-    };
+    let signal = delivered?;
     let killed = is_process_end(machine.end());
     let state = machine.hart(entry.hart);
-    facts.push(delivered_fact(killed, state, signal))?;
-    Ok(())
+    Some(delivered_fact(killed, state, signal))
 }
 
 /// What is pending for a thread; None where no signals are kept of it.
@@ -149,16 +141,6 @@ fn pending_change(
     } else {
         None
     }
-}
-
-/// Appends a fact, if there is one.
-fn push_if(facts: &mut Vec<Fact>, fact: Option<Fact>) -> Result<(), AllocError>
-    ensures { OnOk result (facts.new.items ≡ facts.old.items ++ option_to_list fact) }
-{
-    if let Some(fact) = fact {
-        facts.push(fact)?;
-    }
-    Ok(())
 }
 
 /// Appends what became of each signal of a thread for which these were pending and those are.

@@ -1,12 +1,12 @@
 //! Threads: which of them an event created, ended, or brought into another state.
 
-ghost use Rattle.std.specs.Prelude.{◌≡◌, ◌-◌, ◌++◌, None, IfOk, OnOk, slice_get, unwrap_or};
+ghost use Rattle.std.specs.Prelude.{◌≡◌, ◌-◌, ◌++◌, None, IfOk, OnOk, option_to_list, slice_get, unwrap_or};
 ghost use Rattle.std.specs.List.{flat_map, range_with_len};
 ghost use Rattle.mach_types.specs.Kernel.Threads as kernel;
 ghost use Rattle.event_facts.specs.Threads as spec;
 ghost use Rattle.event_facts.specs.Threads.{AreBefore, change_facts, created_fact, created_facts, thread_facts, told_from};
 
-use crate::facts::Fact;
+use crate::facts::{Fact, push_if};
 use kernel_threads::Threads;
 use mach_types::{ThreadState, Tid};
 use std::alloc::{AllocError, Global};
@@ -113,19 +113,12 @@ fn change_of(before: Option<ThreadState>, after: Option<ThreadState>) -> Option<
     }
 }
 
-/// Appends what became of a thread that was in this state, and is in that one; nothing where it was gone.
-fn push_change(
-    facts: &mut Vec<Fact>,
-    tid: Tid,
-    before: Option<ThreadState>,
-    after: Option<ThreadState>,
-) -> Result<(), AllocError>
-    ensures { OnOk result (facts.new.items ≡ facts.old.items ++ change_facts tid.0 before after) }
+/// The fact of a thread that was in this state, and is in that one; None where nothing became of it, or it was gone.
+fn changed(tid: Tid, before: Option<ThreadState>, after: Option<ThreadState>) -> Option<Fact>
+    ensures { option_to_list result ≡ change_facts tid.0 before after }
 {
-    if let Some(change) = change_of(before, after) {
-        facts.push(Fact::ThreadChanged { tid, change })?;
-    }
-    Ok(())
+    let change = change_of(before, after)?;
+    Some(Fact::ThreadChanged { tid, change })
 }
 
 /// The state that stands at a place among these; None past the end.
@@ -147,7 +140,8 @@ fn push_changes(
 {
     for earlier in 0..given {
         let tid = Tid(earlier + 1);
-        push_change(facts, tid, state_in(states, earlier), threads.state(tid))?;
+        let before = state_in(states, earlier);
+        push_if(facts, changed(tid, before, threads.state(tid)))?;
     }
     Ok(())
 }
