@@ -1,13 +1,12 @@
 //! Signals: which one was delivered, which came to be pending, and which is pending no longer.
 
 ghost use Rattle.std.specs.Prelude.{◌≡◌, ◌≤◌, ◌<◌, ◌++◌, None, IfOk, OnOk, option_to_list, slice_get, unwrap_or};
-ghost use Rattle.std.specs.List.{flat_map, range_with_len};
 ghost use Rattle.mach_types.specs.Events.{choice_of};
 ghost use Rattle.mach_types.specs.Kernel.Signals as kernel;
 ghost use Rattle.mach_types.specs.Kernel.Signals.{has_signal};
 ghost use Rattle.process.specs.Harts.{file_of};
 ghost use Rattle.event_facts.specs.Pending as spec;
-ghost use Rattle.event_facts.specs.Pending.{delivered_by, delivered_facts, held_facts, held_pending, pending_facts, signal_facts, signal_from};
+ghost use Rattle.event_facts.specs.Pending.{delivered_by, delivered_facts, held_facts, held_pending, pending_facts, signal_facts};
 ghost use Rattle.event_facts.specs.Telling.{past_of};
 
 use crate::calls::is_process_end;
@@ -192,28 +191,6 @@ fn pending_in(pending: &[Option<u64>], place: u32) -> Option<u64>
     pending.get(place as usize).copied().unwrap_or(None)
 }
 
-/// Appends what became of the signals of the threads with the first numbers, so many, where these were pending
-/// and this one was delivered to a thread, if any was.
-fn push_each_held(
-    facts: &mut Vec<Fact>,
-    pending: &[Option<u64>],
-    given: u32,
-    delivered: Option<u8>,
-    tid: Tid,
-    signals: &Signals,
-) -> Result<(), AllocError>
-    ensures { OnOk result (facts.new.items ≡ facts.old.items
-        ++ flat_map (signal_from pending.now delivered tid.0 signals.now) (range_with_len 0 given)) }
-{
-    for earlier in 0..given {
-        let one = Tid(earlier + 1);
-        let to = delivered_to(delivered, tid, one);
-        let before = pending_in(pending, earlier);
-        push_held(facts, to, one, before, held_pending(signals, one))?;
-    }
-    Ok(())
-}
-
 /// Appends what became of signals, where these were pending before for so many threads, and this one was
 /// delivered to a thread, if any was.
 pub(crate) fn push_signals(
@@ -227,6 +204,11 @@ pub(crate) fn push_signals(
     ensures { OnOk result ((before : kernel.Signalling) → pending.now ≡ spec.all_pending before given
         → facts.new.items ≡ facts.old.items ++ signal_facts given delivered tid.0 before signals.now) }
 {
-    push_each_held(facts, pending, given, delivered, tid, signals)?;
+    for earlier in 0..given {
+        let one = Tid(earlier + 1);
+        let to = delivered_to(delivered, tid, one);
+        let before = pending_in(pending, earlier);
+        push_held(facts, to, one, before, held_pending(signals, one))?;
+    }
     Ok(())
 }
