@@ -1,7 +1,7 @@
 -- Lists of facts, the pieces of one number after those of the other.
-use Rattle.std.proofs.Common.{◌≡◌, ℕ, zero, suc, ◌+◌, Bool, true, false, ◌&&◌, List, [], ◌∷◌, ◌++◌, map, refl, sym, ap, ◌∙◌, arith, add-zero, add-one, append_assoc}
+use Rattle.std.proofs.Common.{◌≡◌, ℕ, zero, suc, ◌+◌, ◌≤◌, Bool, true, false, ◌&&◌, List, [], ◌∷◌, ◌++◌, drop, length, map, refl, sym, ap, ◌∙◌, arith, add-zero, add-one, append_assoc}
 use Rattle.std.specs.List.{flat_map, list_all, range_with_len}
-use Rattle.std.proofs.lemmas.List.{flat_map_more, map_push}
+use Rattle.std.proofs.lemmas.List.{drop_all, flat_map_more, map_push}
 
 -- one number more
 range_more : (a n : ℕ) → range_with_len a (suc n) ≡ range_with_len a n ++ (a + n) ∷ []
@@ -28,6 +28,10 @@ range_step f start had new n before after =
 pub all_numbers : {A : Type 0} (f : ℕ → List A) (start had : List A) (n most : ℕ) → n ≡ most → had ≡ start ++ flat_map f (range_with_len 0 n)
     → had ≡ start ++ flat_map f (range_with_len 0 most)
 all_numbers f start had n most all before = before ∙ ap (λ k. start ++ flat_map f (range_with_len 0 k)) all
+
+-- what a loop over a list has at its end, where what comes of the items that are left is what comes of all
+pub at_end : {A B : Type 0} (f : List A → B) (xs : List A) (i : ℕ) (all : B) → length xs ≤ i → f (drop i xs) ≡ all → f [] ≡ all
+at_end f xs i all past rest = sym (ap f (drop_all i xs past)) ∙ rest
 
 -- pieces of which none has anything
 pub nothing_in_all : {X A : Type 0} (f : X → List A) (xs : List X) → ((x : X) → f x ≡ []) → flat_map f xs ≡ []
