@@ -38,6 +38,10 @@ pub nothing_in_all : {X A : Type 0} (f : X → List A) (xs : List X) → ((x : X
 nothing_in_all f [] none = refl
 nothing_in_all f (x ∷ xs) none = ap (λ l. l ++ flat_map f xs) (none x) ∙ nothing_in_all f xs none
 
+-- a list that got a piece, which is this
+pub piece : {A : Type 0} (start one a b : List A) → one ≡ start ++ a → a ≡ b → one ≡ start ++ b
+piece start one a b p same = p ∙ ap (λ l. start ++ l) same
+
 -- a list that got five pieces, one behind the other
 pub five_pieces : {A : Type 0} (start one two three four five a b c d e : List A) → one ≡ start ++ a → two ≡ one ++ b → three ≡ two ++ c → four ≡ three ++ d
     → five ≡ four ++ e → five ≡ start ++ (a ++ b ++ c ++ d ++ e)

@@ -1,4 +1,4 @@
-use Rattle.std.proofs.Common.{◌∙◌, ◌++◌, ℕ, List, Option, ap}
+use Rattle.std.proofs.Common.{◌∙◌, ◌++◌, ℕ, Option, ap}
 use Rattle.mach_types.specs.Kernel.Threads.{Threads}
 use Rattle.mach_types.specs.declared.sequences.Outcome.{Outcome}
 use Rattle.mach_types.specs.Events.{choice_of}
@@ -13,8 +13,7 @@ use Rattle.event_facts.specs.Requests.{begun_facts}
 use Rattle.event_facts.specs.Telling.{here_on, past_of}
 use Rattle.event_facts.specs.Threads.{thread_facts}
 use Rattle.event_facts.specs.declared.calls.SystemCall.{SystemCall}
-use Rattle.event_facts.specs.declared.facts.Fact.{Fact}
-use Rattle.event_facts.proofs.Lists.{eight_pieces}
+use Rattle.event_facts.proofs.Lists.{eight_pieces, piece}
 use Rattle.event_facts.proofs.places.push_after.Goals as goal
 
 pub returns : goal.returns
@@ -22,13 +21,13 @@ returns c = λ here is.
     let m = c.args.machine.now in
     let entry = c.args.entry in
     eight_pieces _ _ _ _ _ _ _ _ _ _ _ _ _ _ _ _ _
-    (c.in_ok-push_if.ensures ∙ ap (λ (l : List Fact). c.args.facts.now.items ++ l)
+    (piece _ _ _ _ c.in_ok-push_if.ensures
     (c.answered.ensures ∙ ap (λ (o : Option SystemCall). answer_facts m.setting (past_of m) entry o) is.call))
-    (c.in_ok-push_if-2.ensures ∙ ap (λ (l : List Fact). c.push_if.new.facts.items ++ l)
+    (piece _ _ _ _ c.in_ok-push_if-2.ensures
     (c.begun.ensures ∙ (λ i. begun_facts (is.call i) (c.hart.ensures i).waits)))
-    (c.in_ok-push_if-3.ensures ∙ ap (λ (l : List Fact). c.push_if-2.new.facts.items ++ l)
+    (piece _ _ _ _ c.in_ok-push_if-3.ensures
     (c.interrupted.ensures ∙ ap (λ (o : Option Outcome). interrupted_facts (here_on m entry.hart.0) entry o) is.came))
-    (c.in_ok-push_if-4.ensures ∙ ap (λ (l : List Fact). c.push_if-3.new.facts.items ++ l)
+    (piece _ _ _ _ c.in_ok-push_if-4.ensures
     (c.delivery.ensures ∙ ap (λ (o : Option ℕ). delivered_facts m.setting (past_of m) entry o) is.delivered))
     (c.in_ok-push_signals.ensures here.kernel.signals (c.deref.ensures.value ∙ is.pending)
     ∙ (λ i. c.push_if-4.new.facts.items
