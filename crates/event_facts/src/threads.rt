@@ -146,22 +146,17 @@ fn push_changes(
     Ok(())
 }
 
-/// Appends that a thread was created, whose number was given since; nothing where it is gone.
-fn push_created(
-    facts: &mut Vec<Fact>,
-    tid: Tid,
-    after: Option<ThreadState>,
-) -> Result<(), AllocError>
-    ensures { OnOk result (facts.new.items ≡ facts.old.items ++ created_facts tid.0 after) }
+/// That a thread was created, whose number was given since; None where it is gone.
+fn created(tid: Tid, after: Option<ThreadState>) -> Option<Fact>
+    ensures { option_to_list result ≡ created_facts tid.0 after }
 {
-    let Some(_) = after else {
-        return Ok(());
-    };
-    facts.push(Fact::ThreadChanged {
-        tid,
-        change: ThreadChange::Created,
-    })?;
-    Ok(())
+    match after {
+        Some(_) => Some(Fact::ThreadChanged {
+            tid,
+            change: ThreadChange::Created,
+        }),
+        None => None,
+    }
 }
 
 /// Appends which threads were created since so many numbers were given.
@@ -170,10 +165,10 @@ fn push_all_created(facts: &mut Vec<Fact>, given: u32, threads: &Threads) -> Res
         ++ flat_map (created_fact given threads.now.threads)
         (range_with_len 0 (threads.now.threads.given - given))) }
 {
-    let created = threads.numbers_given().saturating_sub(given);
-    for further in 0..created {
+    let since = threads.numbers_given().saturating_sub(given);
+    for further in 0..since {
         let tid = Tid(given + further + 1);
-        push_created(facts, tid, threads.state(tid))?;
+        push_if(facts, created(tid, threads.state(tid)))?;
     }
     Ok(())
 }
