@@ -1,6 +1,6 @@
 //! The words of an area (rseq(2)): which of them have another number after an event of the kernel.
 
-ghost use Rattle.std.specs.Prelude.{◌≡◌, ℕ, ◌++◌, None, OnOk, option_to_list};
+ghost use Rattle.std.specs.Prelude.{◌≡◌, ℕ, ◌++◌, None, OnOk};
 ghost use Rattle.mach_types.specs.Bytes.{IsAccessSize};
 ghost use Rattle.mach_types.specs.Events.{choice_of};
 ghost use Rattle.block_model.specs.Here.{memory};
@@ -10,7 +10,7 @@ ghost use Rattle.event_facts.specs.Areas.{area_before, area_facts, changed_words
 ghost use Rattle.event_facts.specs.Telling.{here_on};
 
 use crate::calls::SystemCall;
-use crate::facts::{Fact, push_if};
+use crate::facts::Fact;
 use mach_types::sequences::{CPU_ID, FLAGS, MM_CID, NODE_ID, RSEQ_CS};
 use mach_types::{Area, Entry, Kind, Tid};
 use machine_core::Machine;
@@ -103,16 +103,22 @@ fn is_number(value: u64, which: Option<u64>) -> bool
     }
 }
 
-/// The number of a field, where that is another one than before, or couldn't be read before.
-fn changed(field: AreaField, before: Option<u64>, after: Option<u64>) -> Option<Fact>
-    ensures { option_to_list result ≡ word_fact field before after }
+/// Appends the number of a field, where that is another one than before, or couldn't be read before.
+fn push_word(
+    facts: &mut Vec<Fact>,
+    field: AreaField,
+    before: Option<u64>,
+    after: Option<u64>,
+) -> Result<(), AllocError>
+    ensures { OnOk result (facts.new.items ≡ facts.old.items ++ word_fact field before after) }
 {
-    let value = after?;
-    if is_number(value, before) {
-        None
-    } else {
-        Some(Fact::AreaWord { field, value })
+    let Some(value) = after else {
+        return Ok(());
+    };
+    if !is_number(value, before) {
+        facts.push(Fact::AreaWord { field, value })?;
     }
+    Ok(())
 }
 
 /// Appends each field of an area whose number is another one.
@@ -123,31 +129,17 @@ fn push_changed(
 ) -> Result<(), AllocError>
     ensures { OnOk result (facts.new.items ≡ facts.old.items ++ changed_words before.now after.now) }
 {
-    push_if(
+    push_word(
         facts,
-        changed(
-            AreaField::CpuIdStart,
-            before.cpu_id_start,
-            after.cpu_id_start,
-        ),
+        AreaField::CpuIdStart,
+        before.cpu_id_start,
+        after.cpu_id_start,
     )?;
-    push_if(
-        facts,
-        changed(AreaField::CpuId, before.cpu_id, after.cpu_id),
-    )?;
-    push_if(
-        facts,
-        changed(AreaField::RseqCs, before.rseq_cs, after.rseq_cs),
-    )?;
-    push_if(facts, changed(AreaField::Flags, before.flags, after.flags))?;
-    push_if(
-        facts,
-        changed(AreaField::NodeId, before.node_id, after.node_id),
-    )?;
-    push_if(
-        facts,
-        changed(AreaField::MmCid, before.mm_cid, after.mm_cid),
-    )?;
+    push_word(facts, AreaField::CpuId, before.cpu_id, after.cpu_id)?;
+    push_word(facts, AreaField::RseqCs, before.rseq_cs, after.rseq_cs)?;
+    push_word(facts, AreaField::Flags, before.flags, after.flags)?;
+    push_word(facts, AreaField::NodeId, before.node_id, after.node_id)?;
+    push_word(facts, AreaField::MmCid, before.mm_cid, after.mm_cid)?;
     Ok(())
 }
 
@@ -155,13 +147,10 @@ fn push_changed(
 fn push_kept(facts: &mut Vec<Fact>, after: &AreaWords) -> Result<(), AllocError>
     ensures { OnOk result (facts.new.items ≡ facts.old.items ++ kept_words after.now) }
 {
-    push_if(
-        facts,
-        changed(AreaField::CpuIdStart, None, after.cpu_id_start),
-    )?;
-    push_if(facts, changed(AreaField::CpuId, None, after.cpu_id))?;
-    push_if(facts, changed(AreaField::NodeId, None, after.node_id))?;
-    push_if(facts, changed(AreaField::MmCid, None, after.mm_cid))?;
+    push_word(facts, AreaField::CpuIdStart, None, after.cpu_id_start)?;
+    push_word(facts, AreaField::CpuId, None, after.cpu_id)?;
+    push_word(facts, AreaField::NodeId, None, after.node_id)?;
+    push_word(facts, AreaField::MmCid, None, after.mm_cid)?;
     Ok(())
 }
 
