@@ -96,13 +96,12 @@ fn signature_field(machine: &Machine, hart: Hart, at: u64) -> Range
 {
     let handler = field(at, ABORT_IP, 8);
     let abort = number_in(machine, hart, handler);
-    if abort >= 4 {
-        Range {
-            at: abort - 4,
-            size: 4,
-        }
-    } else {
-        handler
+    if abort < 4 {
+        return handler;
+    }
+    Range {
+        at: abort - 4,
+        size: 4,
     }
 }
 

@@ -10,12 +10,10 @@ ghost use Rattle.event_facts.specs.OtherRegisters as spec;
 ghost use Rattle.event_facts.specs.OtherRegisters.{AreRegisters, child_fact, other_registers, where_off, where_ready, where_waiting, woken_from};
 
 use crate::facts::Fact;
+use crate::registers::REGISTERS;
 use kernel_threads::{Threads, thread_is_saved_while_it_does_not_run};
 use mach_types::{Regs, Saved, ThreadState, Tid};
 use std::alloc::{AllocError, Global};
-
-/// How many registers there are.
-const REGISTERS: u8 = 32;
 
 /// The registers before an event.
 #[derive(Drop)]

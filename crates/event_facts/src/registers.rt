@@ -10,7 +10,7 @@ use rv_inst::Effect;
 use std::alloc::AllocError;
 
 /// How many registers there are.
-const REGISTERS: u8 = 32;
+pub(crate) const REGISTERS: u8 = 32;
 
 /// The register that an instruction with this effect sets; x0, which stays 0, where it sets none.
 pub(crate) fn register_set(effect: &Effect) -> u8
