@@ -1,6 +1,6 @@
 //! Signals: which one was delivered, which came to be pending, and which is pending no longer.
 
-ghost use Rattle.std.specs.Prelude.{◌≡◌, ◌≤◌, ◌<◌, ◌++◌, None, IfOk, OnOk, option_to_list, slice_get, unwrap_or};
+ghost use Rattle.std.specs.Prelude.{◌≡◌, ◌≤◌, ◌<◌, ◌++◌, IfOk, OnOk, option_to_list};
 ghost use Rattle.mach_types.specs.Events.{choice_of};
 ghost use Rattle.mach_types.specs.Kernel.Signals as kernel;
 ghost use Rattle.mach_types.specs.Kernel.Signals.{has_signal};
@@ -9,6 +9,7 @@ ghost use Rattle.event_facts.specs.Pending as spec;
 ghost use Rattle.event_facts.specs.Pending.{delivered_by, delivered_facts, held_facts, held_pending, pending_facts, signal_facts};
 ghost use Rattle.event_facts.specs.Telling.{past_of};
 
+use crate::by_number::at_place;
 use crate::calls::is_process_end;
 use crate::facts::{Fact, push_if};
 use hart_state::HartState;
@@ -184,13 +185,6 @@ fn delivered_to(delivered: Option<u8>, tid: Tid, one: Tid) -> Option<u8>
     if one.0 == tid.0 { delivered } else { None }
 }
 
-/// What stands at a place among these; None past the end.
-fn pending_in(pending: &[Option<u64>], place: u32) -> Option<u64>
-    ensures { result ≡ unwrap_or (slice_get pending.now place) None }
-{
-    pending.get(place as usize).copied().unwrap_or(None)
-}
-
 /// Appends what became of signals, where these were pending before for so many threads, and this one was
 /// delivered to a thread, if any was.
 pub(crate) fn push_signals(
@@ -207,7 +201,7 @@ pub(crate) fn push_signals(
     for earlier in 0..given {
         let one = Tid(earlier + 1);
         let to = delivered_to(delivered, tid, one);
-        let before = pending_in(pending, earlier);
+        let before = at_place(pending, earlier);
         push_held(facts, to, one, before, held_pending(signals, one))?;
     }
     Ok(())

@@ -1,11 +1,12 @@
 //! Threads: which of them an event created, ended, or brought into another state.
 
-ghost use Rattle.std.specs.Prelude.{◌≡◌, ◌-◌, ◌++◌, None, IfOk, OnOk, option_to_list, slice_get, unwrap_or};
+ghost use Rattle.std.specs.Prelude.{◌≡◌, ◌-◌, ◌++◌, IfOk, OnOk, option_to_list};
 ghost use Rattle.std.specs.List.{flat_map, range_with_len};
 ghost use Rattle.mach_types.specs.Kernel.Threads as kernel;
 ghost use Rattle.event_facts.specs.Threads as spec;
 ghost use Rattle.event_facts.specs.Threads.{AreBefore, change_facts, created_fact, created_facts, thread_facts, told_from};
 
+use crate::by_number::at_place;
 use crate::facts::{Fact, push_if};
 use kernel_threads::Threads;
 use mach_types::{ThreadState, Tid};
@@ -121,13 +122,6 @@ fn changed(tid: Tid, before: Option<ThreadState>, after: Option<ThreadState>) ->
     Some(Fact::ThreadChanged { tid, change })
 }
 
-/// The state that stands at a place among these; None past the end.
-fn state_in(states: &[Option<ThreadState>], place: u32) -> Option<ThreadState>
-    ensures { result ≡ unwrap_or (slice_get states.now place) None }
-{
-    states.get(place as usize).copied().unwrap_or(None)
-}
-
 /// Appends what became of the threads with the first numbers, so many, where these were the states.
 fn push_changes(
     facts: &mut Vec<Fact>,
@@ -140,7 +134,7 @@ fn push_changes(
 {
     for earlier in 0..given {
         let tid = Tid(earlier + 1);
-        let before = state_in(states, earlier);
+        let before = at_place(states, earlier);
         push_if(facts, changed(tid, before, threads.state(tid)))?;
     }
     Ok(())

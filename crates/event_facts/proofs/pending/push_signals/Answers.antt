@@ -9,7 +9,7 @@ loop-earlier-preserved c =
     range_step (signal_from c.args.pending.now c.args.delivered c.args.tid.0 c.args.signals.now) _ _ _ c.loop-earlier.earlier c.loop-earlier.invariant
     (c.in_ok-push_held.ensures
     ∙ (λ i. c.loop-earlier.facts.items
-    ++ held_facts (c.delivered_to-to.ensures i) (c.loop-earlier.earlier + 1) (c.pending_in-before.ensures i) (c.held_pending.ensures i)))
+    ++ held_facts (c.delivered_to-to.ensures i) (c.loop-earlier.earlier + 1) (c.at_place-before.ensures i) (c.held_pending.ensures i)))
 
 pub returns : goal.returns
 returns c = λ before is.

@@ -7,7 +7,7 @@ pub loop-earlier-preserved : goal.loop-earlier-preserved
 loop-earlier-preserved c =
     range_step (told_from c.args.states.now c.args.threads.now.threads) _ _ _ c.loop-earlier.earlier c.loop-earlier.invariant
     (piece _ _ _ _ c.in_ok-push_if.ensures
-    (c.changed.ensures ∙ (λ i. change_facts (c.loop-earlier.earlier + 1) (c.state_in-before.ensures i) (c.state.ensures i))))
+    (c.changed.ensures ∙ (λ i. change_facts (c.loop-earlier.earlier + 1) (c.at_place-before.ensures i) (c.state.ensures i))))
 
 pub returns : goal.returns
 returns c =
