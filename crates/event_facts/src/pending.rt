@@ -111,10 +111,7 @@ fn is_in(set: u64, signal: u8) -> bool
 fn is_this(signal: u8, which: Option<u8>) -> bool
     ensures { result ≡ spec.is_this signal which }
 {
-    match which {
-        Some(other) => other == signal,
-        None => false,
-    }
+    which == Some(signal)
 }
 
 /// What became of a signal, 1 to 31, of a thread for which these were pending and those are, and to which this
