@@ -38,8 +38,11 @@ overflow_add-number c =
 
 pub returns-in_default-clause-cause : goal.returns-in_default-clause-cause
 returns-in_default-clause-cause c =
-    first_refused _ c.args.log.now c.loop-entry.entry-index c.loop-entry.machine _ _ c.loop-entry.invariant.seen.so_far
-    (get_or_default c.args.log.now c.loop-entry.entry-index no_entry _ c.loop-entry-test.true) c.loop-entry-test.true c.in_default.ensures.refused
+    let log = c.args.log.now in
+    let i = c.loop-entry.entry-index in
+    let entry = get_or log i no_entry in
+    first_refused (setting_of c.args.image.now c.args.limits.now) log i c.loop-entry.machine entry (length c.log.result.now + 1)
+    c.loop-entry.invariant.seen.so_far (get_or_default log i no_entry entry c.loop-entry-test.true) c.loop-entry-test.true c.in_default.ensures.refused
     (ap (λ (entries : List Entry). length entries + 1) c.log.ensures)
 
 pub loop-entry-preserved : goal.loop-entry-preserved
