@@ -38,6 +38,10 @@ by_thread t k pc = entry_of 0 k t pc
 abbrev became : ℕ → ThreadChange → Fact
 became t change = ThreadChanged (thread t) change
 
+-- it begins to run, and executes four instructions
+abbrev begins : List Entry
+begins = by kind.Run 0x100B0 ∷ by kind.Exec 0x100B0 ∷ by kind.Exec 0x100B4 ∷ by kind.Exec 0x100B8 ∷ by kind.Exec 0x100BC ∷ []
+
 -- a call with these in a0 to a2, and 0 in the others
 abbrev call : ℕ → ℕ → ℕ → ℕ → SystemCall
 call number a0 a1 a2 = record { number = number; arguments = a0 ∷ a1 ∷ a2 ∷ 0 ∷ 0 ∷ 0 ∷ [] }
@@ -56,8 +60,8 @@ calls =
 
 abbrev log : List Entry
 log =
-    by kind.Run 0x100B0 ∷ by kind.Exec 0x100B0 ∷ by kind.Exec 0x100B4 ∷ by kind.Exec 0x100B8 ∷ by kind.Exec 0x100BC ∷ by kind.Exec 0x100C0
-    ∷ by kind.Exec 0x100C4 ∷ by kind.Exec 0x100C8 ∷ by kind.Exec 0x100CC ∷ by kind.Exec 0x100D0 ∷ []
+    begins
+    ++ by kind.Exec 0x100C0 ∷ by kind.Exec 0x100C4 ∷ by kind.Exec 0x100C8 ∷ by kind.Exec 0x100CC ∷ by kind.Exec 0x100D0 ∷ []
 
 -- ENOSYS is 38
 calls_told : told (program calls) [] log ≡
@@ -89,8 +93,8 @@ child =
 
 abbrev child_log : List Entry
 child_log =
-    by kind.Run 0x100B0 ∷ by kind.Exec 0x100B0 ∷ by kind.Exec 0x100B4 ∷ by kind.Exec 0x100B8 ∷ by kind.Exec 0x100BC ∷ by kind.Preempt 0x100C0
-    ∷ by_thread 2 kind.Run 0x100C0 ∷ by_thread 2 kind.Exec 0x100C0 ∷ by_thread 2 kind.Exec 0x100C4 ∷ []
+    begins
+    ++ by kind.Preempt 0x100C0 ∷ by_thread 2 kind.Run 0x100C0 ∷ by_thread 2 kind.Exec 0x100C0 ∷ by_thread 2 kind.Exec 0x100C4 ∷ []
 
 threads_told : told (program child) [] child_log ≡
     (Interrupted Nothing ∷ became 1 Runs ∷ [])
@@ -112,8 +116,7 @@ sends =
     0x93 ∷ 0x08 ∷ 0x20 ∷ 0x08 ∷ 0x13 ∷ 0x05 ∷ 0x10 ∷ 0x00 ∷ 0x93 ∷ 0x05 ∷ 0xA0 ∷ 0x00 ∷ 0x73 ∷ 0x00 ∷ 0x00 ∷ 0x00 ∷ []
 
 abbrev signal_log : List Entry
-signal_log =
-    by kind.Run 0x100B0 ∷ by kind.Exec 0x100B0 ∷ by kind.Exec 0x100B4 ∷ by kind.Exec 0x100B8 ∷ by kind.Exec 0x100BC ∷ by kind.Signal 0x100C0 ∷ []
+signal_log = begins ++ by kind.Signal 0x100C0 ∷ []
 
 signals_told : told (program sends) [] signal_log ≡
     (Interrupted Nothing ∷ became 1 Runs ∷ [])
@@ -132,9 +135,7 @@ registers =
     0x93 ∷ 0x08 ∷ 0x50 ∷ 0x12 ∷ 0x37 ∷ 0x05 ∷ 0x02 ∷ 0x00 ∷ 0x93 ∷ 0x05 ∷ 0x00 ∷ 0x02 ∷ 0x73 ∷ 0x00 ∷ 0x00 ∷ 0x00 ∷ []
 
 abbrev area_log : List Entry
-area_log =
-    by kind.Run 0x100B0 ∷ by kind.Exec 0x100B0 ∷ by kind.Exec 0x100B4 ∷ by kind.Exec 0x100B8 ∷ by kind.Exec 0x100BC ∷ by kind.Preempt 0x100C0
-    ∷ record { hart = record { 0 = 1 }; kind = kind.Run; tid = thread 1; pc = 0x100C0 } ∷ []
+area_log = begins ++ by kind.Preempt 0x100C0 ∷ entry_of 1 kind.Run 1 0x100C0 ∷ []
 
 -- the kernel's words of the area of a thread on a hart, which hold the id 0
 abbrev word : ℕ → ℕ → ℕ → Fact
