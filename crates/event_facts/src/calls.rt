@@ -15,18 +15,13 @@ ghost use Rattle.event_facts.specs.Calls.{answer_at, answer_facts, answer_unless
 ghost use Rattle.event_facts.specs.Telling.{here_on, past_of};
 
 use crate::facts::Fact;
+use crate::registers::{A0, A7};
 use hart_state::HartState;
 use kernel_threads::Threads;
 use mach_types::{End, Entry, Hart, Kind, Regs, ThreadState, Tid};
 use machine_core::Machine;
 use rv_inst::Effect;
 use std::alloc::AllocError;
-
-/// The register of a call's number, a7.
-const A7: u8 = 17;
-
-/// The register of a call's first argument and of its answer, a0. The other arguments are in the next ones.
-const A0: u8 = 10;
 
 /// The number of rt_sigreturn(2).
 const RT_SIGRETURN: u64 = 139;

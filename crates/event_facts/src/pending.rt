@@ -12,6 +12,7 @@ ghost use Rattle.event_facts.specs.Telling.{past_of};
 use crate::by_number::at_place;
 use crate::calls::is_process_end;
 use crate::facts::{Fact, push_if};
+use crate::registers::SP;
 use hart_state::HartState;
 use mach_types::{Entry, Kind, Tid};
 use machine_core::Machine;
@@ -20,9 +21,6 @@ use std::alloc::{AllocError, Global};
 
 /// How many signals there are: 1 to this one (signal(7)).
 const SIGNALS: u8 = 31;
-
-/// The stack pointer (RISC-V psABI).
-const SP: u8 = 2;
 
 /// The signal that an entry delivers, the next event of its hart, where these are the signals.
 pub(crate) fn next_delivered(signals: &Signals, entry: Entry) -> Option<u8>
