@@ -38,7 +38,8 @@ pub enum Interruption {
     Killed { why: BadWhy, wrong: WrongWord },
 }
 
-/// Where `flags` stands in a `struct rseq_cs`, 4 bytes. Before it, at the descriptor's address, stands `version`.
+/// Where `flags` stands in a `struct rseq_cs`, 4 bytes. Before it, at the descriptor's address, stands
+/// `version`.
 const SEQ_FLAGS: u64 = 4;
 
 /// Where `start_ip` stands there, 8 bytes.

@@ -114,7 +114,8 @@ fn change_of(before: Option<ThreadState>, after: Option<ThreadState>) -> Option<
     }
 }
 
-/// The fact of a thread that was in this state, and is in that one; None where nothing became of it, or it was gone.
+/// The fact of a thread that was in this state, and is in that one; None where nothing became of it, or it was
+/// gone.
 fn changed(tid: Tid, before: Option<ThreadState>, after: Option<ThreadState>) -> Option<Fact>
     ensures { option_to_list result ≡ change_facts tid.0 before after }
 {

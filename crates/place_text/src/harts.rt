@@ -66,8 +66,8 @@ fn push_stores(text: &mut Vec<u8>, hart: Hart, buffer: &StoreBuffer) -> Result<(
     Ok(())
 }
 
-/// Appends the lines of what a hart keeps whether or not a thread runs there: its reservation, the requests of barriers that are pending,
-/// and whether one of them asks for a restart.
+/// Appends the lines of what a hart keeps whether or not a thread runs there: its reservation, the requests of
+/// barriers that are pending, and whether one of them asks for a restart.
 #[tactic(auto, unfolding(crate::specs::Harts::kept_lines))]
 fn push_kept(text: &mut Vec<u8>, hart: Hart, state: &HartState) -> Result<(), AllocError>
     ensures { OnOk result (text.new.items
@@ -108,8 +108,8 @@ fn push_barrier(text: &mut Vec<u8>, hart: Hart, waits: Option<u8>) -> Result<(),
     end_line(text)
 }
 
-/// Appends the lines of a hart on which a thread runs: the thread, its registers and the stores that wait, what else the hart keeps, and
-/// the restartable sequence of the thread.
+/// Appends the lines of a hart on which a thread runs: the thread, its registers and the stores that wait, what
+/// else the hart keeps, and the restartable sequence of the thread.
 fn push_running(
     text: &mut Vec<u8>,
     machine: &Machine,
