@@ -1,7 +1,7 @@
 use Rattle.std.proofs.Common.{◌≡◌, ◌++◌}
 use Rattle.std.specs.List.{flat_map, range_with_len}
 use Rattle.event_facts.specs.Pending.{signal_from}
-use Rattle.event_facts.proofs.pending.push_each_held.Given as goal
+use Rattle.event_facts.proofs.pending.push_signals.Given as goal
 
 -- the threads so far
 abbrev pub invariant-loop-earlier : goal.invariant-loop-earlier
