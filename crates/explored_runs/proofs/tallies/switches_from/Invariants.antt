@@ -1,7 +1,7 @@
 -- those so far and those of what is left are all
 use Rattle.std.proofs.Common.{◌≡◌, ◌≤◌, ◌+◌, drop}
 use Rattle.explored_runs.specs.Tallies.{switches_from}
-use Rattle.explored_runs.proofs.tallying.switches_from.Given as goal
+use Rattle.explored_runs.proofs.tallies.switches_from.Given as goal
 
 abbrev pub invariant-loop-entry : goal.invariant-loop-entry
 invariant-loop-entry l = record {

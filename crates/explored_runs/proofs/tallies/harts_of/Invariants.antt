@@ -1,6 +1,6 @@
 use Rattle.std.proofs.Common.{◌≡◌, ◌≤◌}
 use Rattle.explored_runs.specs.Tallies.{harts_in}
-use Rattle.explored_runs.proofs.tallying.harts_of.Given as goal
+use Rattle.explored_runs.proofs.tallies.harts_of.Given as goal
 
 abbrev pub invariant-loop-hart : goal.invariant-loop-hart
 invariant-loop-hart l = record {
