@@ -13,6 +13,7 @@ use Rattle.machine_lock.specs.Turnstiles.{turnstile_of}
 use Rattle.machine_lock.proofs.PassLemmas.{whose, idle, whole_served, seen_as, turnstile_kept}
 use Rattle.machine_lock.proofs.lock.Turnstile.take_turn.Given as given
 use Rattle.machine_lock.proofs.lock.Turnstile.take_turn.Goals as goal
+use Rattle.machine_lock.proofs.lock.Turnstile.take_turn.Goals.{After-load}
 
 pub fetch_add-ticket-requires : goal.fetch_add-ticket-requires
 fetch_add-ticket-requires g c =
@@ -36,7 +37,7 @@ load-requires g c =
     )
 
 -- the pass that reads its own ticket has the machine of the slot
-found : (g : given.Over) (c : goal.After-load g) → c.load.result ≡ c.fetch_add-ticket.result → (x : g.row.M.Denot)
+found : (g : given.Over) (c : After-load g) → c.load.result ≡ c.fetch_add-ticket.result → (x : g.row.M.Denot)
     × (c.load.new.seat.me ≡ (staged c.pass.inside.seat.me.0 (g.M.Meaning.log x) (Served c.fetch_add-ticket.ensures.2.0), (0, Some x) ∷ []))
     × Got g.M.Meaning.setting g.M.Meaning.log g.M.Meaning.next c.args.self.now.table.shared.key c.pass.inside.seat.me.0.seen x
 found g c hit =
