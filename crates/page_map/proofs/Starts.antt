@@ -189,6 +189,19 @@ zero-stack k = ap (λ x. x % 256) (fresh-at k)
 pub return-run : (n : ℕ) → is_in return_run n ≡ nat_eq 0x3FFFFF0 n
 return-run n = one-run 0x3FFFFF0 n
 
+-- a page is the program's, or of the stack, or the one that handlers return to
+pub by-place : {P : Type 0} (n : ℕ) → ((n < 0x3FFFF00) ⊎ (0x3FFFF40 ≤ n) → n ≢ 0x3FFFFF0 → P) → (0x3FFFF00 ≤ n → n < 0x3FFFF40 → P) → (n ≡ 0x3FFFFF0 → P) → P
+by-place n image stack return = elim (cases_lt n 0x3FFFF00) [
+  | inl low ↦ image (inl low) (λ e. omega arith)
+  | inr from ↦ elim (cases_lt n 0x3FFFF40) [
+    | inl to ↦ stack from to
+    | inr high ↦ elim (cases_eq n 0x3FFFFF0) [
+      | inl same ↦ return same
+      | inr two ↦ image (inr high) two
+    ]
+  ]
+]
+
 -- the pages of an image, the return page and those of the stack, mapped in this order, are those of the start
 module _ (pages : List ImagePage) (n : ℕ) (image laid after : Option Page) (bytes : List ℕ)
     (mapped : image ≡ image_page pages n) (small : IfSome image (λ p. (k : ℕ) → slice_index p.bytes k < 256))
@@ -222,16 +235,7 @@ module _ (pages : List ImagePage) (n : ℕ) (image laid after : Option Page) (by
       })
 
   pub start-page : IsStartPage pages n after
-  start-page = elim (cases_lt n 0x3FFFF00) [
-    | inl low ↦ start-image (inl low) (λ e. omega arith)
-    | inr from ↦ elim (cases_lt n 0x3FFFF40) [
-      | inl to ↦ start-stack from to
-      | inr high ↦ elim (cases_eq n 0x3FFFFF0) [
-        | inl same ↦ start-return same
-        | inr two ↦ start-image (inr high) two
-      ]
-    ]
-  ]
+  start-page = by-place n start-image start-stack start-return
 
 byte-if : (bit offset byte : ℕ) (o : Option Page) (permission : Option ℕ) → option_map (λ (p : Page). p.permission) o ≡ permission
     → IfSome o (λ p. slice_index p.bytes offset % 256 ≡ byte) → option_map (byte_at offset) (bytes_if bit o) ≡ cond (lets bit permission) (Some byte) None
