@@ -400,11 +400,14 @@ draw_two_names : command_of (codes "draw" ∷ codes "F" ∷ codes "S" ∷ []) �
 unfolding command_of arguments_of
 draw_two_names = refl
 
--- `blocks F S` has the limits that are given, or else the defaults
-blocks_defaults : command_of (codes "blocks" ∷ codes "F" ∷ codes "S" ∷ [])
-    ≡ Some (blocks (codes "F") (codes "S") (limits 2 4096 200000))
+-- `blocks F S`, `inspect F S` and `gather F S` have the limits that are given, or else the defaults
+abbrev HasDefaults : List ℕ → (List ℕ → List ℕ → Limits → Command) → Type 0
+HasDefaults word make =
+    command_of (word ∷ codes "F" ∷ codes "S" ∷ []) ≡ Some (make (codes "F") (codes "S") (limits 2 4096 200000))
+
+shown_defaults : HasDefaults (codes "blocks") blocks × HasDefaults (codes "inspect") inspect × HasDefaults (codes "gather") gather
 unfolding command_of arguments_of
-blocks_defaults = refl
+shown_defaults = (refl, refl, refl)
 
 blocks_options : command_of
     (codes "blocks" ∷ codes "--harts" ∷ codes "3" ∷ codes "F" ∷ codes "--frames=128" ∷ codes "S"
@@ -412,9 +415,24 @@ blocks_options : command_of
 unfolding command_of arguments_of
 blocks_options = refl
 
-blocks_one_name : command_of (codes "blocks" ∷ codes "F" ∷ []) ≡ None
+inspect_options : command_of (codes "inspect" ∷ codes "F" ∷ codes "--harts=8" ∷ codes "S" ∷ [])
+    ≡ Some (inspect (codes "F") (codes "S") (limits 8 4096 200000))
 unfolding command_of arguments_of
-blocks_one_name = refl
+inspect_options = refl
+
+gather_options : command_of
+    (codes "gather" ∷ codes "--frames" ∷ codes "128" ∷ codes "F" ∷ codes "S" ∷ codes "--steps=5"
+    ∷ codes "--harts=8" ∷ []) ≡ Some (gather (codes "F") (codes "S") (limits 8 128 5))
+unfolding command_of arguments_of
+gather_options = refl
+
+-- and two names
+abbrev TakesNoOneName : List ℕ → Type 0
+TakesNoOneName word = command_of (word ∷ codes "F" ∷ []) ≡ None
+
+shown_one_name : TakesNoOneName (codes "blocks") × TakesNoOneName (codes "inspect") × TakesNoOneName (codes "gather")
+unfolding command_of arguments_of
+shown_one_name = (refl, refl, refl)
 
 blocks_three_names : command_of (codes "blocks" ∷ codes "F" ∷ codes "S" ∷ codes "T" ∷ []) ≡ None
 unfolding command_of arguments_of
@@ -423,37 +441,6 @@ blocks_three_names = refl
 blocks_too_many_harts : command_of (codes "blocks" ∷ codes "F" ∷ codes "S" ∷ codes "--harts=9" ∷ []) ≡ None
 unfolding command_of arguments_of
 blocks_too_many_harts = refl
-
--- so has `inspect F S`
-inspect_defaults : command_of (codes "inspect" ∷ codes "F" ∷ codes "S" ∷ [])
-    ≡ Some (inspect (codes "F") (codes "S") (limits 2 4096 200000))
-unfolding command_of arguments_of
-inspect_defaults = refl
-
-inspect_options : command_of (codes "inspect" ∷ codes "F" ∷ codes "--harts=8" ∷ codes "S" ∷ [])
-    ≡ Some (inspect (codes "F") (codes "S") (limits 8 4096 200000))
-unfolding command_of arguments_of
-inspect_options = refl
-
-inspect_one_name : command_of (codes "inspect" ∷ codes "F" ∷ []) ≡ None
-unfolding command_of arguments_of
-inspect_one_name = refl
-
--- and `gather F S`
-gather_defaults : command_of (codes "gather" ∷ codes "F" ∷ codes "S" ∷ [])
-    ≡ Some (gather (codes "F") (codes "S") (limits 2 4096 200000))
-unfolding command_of arguments_of
-gather_defaults = refl
-
-gather_options : command_of
-    (codes "gather" ∷ codes "--frames" ∷ codes "128" ∷ codes "F" ∷ codes "S" ∷ codes "--steps=5"
-    ∷ codes "--harts=8" ∷ []) ≡ Some (gather (codes "F") (codes "S") (limits 8 128 5))
-unfolding command_of arguments_of
-gather_options = refl
-
-gather_one_name : command_of (codes "gather" ∷ codes "F" ∷ []) ≡ None
-unfolding command_of arguments_of
-gather_one_name = refl
 
 -- `inspect F S` shows no memory, or the spans of a list
 abbrev bytes : ℕ → ℕ → MemorySpan

@@ -338,11 +338,8 @@ impl<'a> Arguments<'a> {
 fn policies_or_all(name: Option<&str>) -> Policies
     ensures { result ≡ policies_or_all (option_copied name.entry) }
 {
-    let Some(name) = name else {
-        return Policies::All;
-    };
-    match Policies::of_word(name) {
-        Some(policies) => policies,
+    match name {
+        Some(name) => Policies::of_word(name).unwrap_or(Policies::All),
         None => Policies::All,
     }
 }
@@ -370,11 +367,8 @@ fn small_in(numbers: Numbers, text: Option<&str>) -> Option<u8>
 fn apart_or_text(word: Option<&str>) -> Apart
     ensures { result ≡ apart_or_text (option_copied word.entry) }
 {
-    let Some(word) = word else {
-        return Apart::ByText;
-    };
-    match Apart::of_word(word) {
-        Some(apart) => apart,
+    match word {
+        Some(word) => Apart::of_word(word).unwrap_or(Apart::ByText),
         None => Apart::ByText,
     }
 }
