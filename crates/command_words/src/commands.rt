@@ -1,6 +1,7 @@
 //! The commands of a command line.
 
 ghost use Rattle.std.specs.Prelude.{◌≡◌, ◌≤◌, IfOk, IfSome, option_copied, option_map};
+ghost use Rattle.std.specs.List.{list_all};
 ghost use Rattle.mach_types.specs.Limits.{InRange};
 ghost use Rattle.command_words.specs.Commands.{AreInRange, HasHartsOf, HasItsHarts, HasLimits, trial_limits};
 ghost use Rattle.command_words.specs.Kept.{named, names_kept, pair_said, range, run_said, said, shown_said, source_said, spans_kept, stated, takes_kept};
@@ -11,8 +12,8 @@ ghost use Rattle.command_words.specs.Words.{command_of, texts};
 
 use crate::arguments::{Arguments, FileNames, arguments_of};
 use crate::options::{
-    Apart, CALM, FRAMES, HARTS, JOBS, LINES, Numbers, OUTCOMES, OptionName, RUNS, SEEDS, STEPS,
-    number_of,
+    ALL_OPTIONS, Apart, CALM, FRAMES, HARTS, JOBS, LINES, Numbers, OUTCOMES, OptionName, RUNS,
+    SEEDS, STEPS, number_of,
 };
 use crate::spans::MemorySpans;
 use crate::table::{CommandKind, ShownKind, SourceKind, command_kind};
@@ -264,24 +265,19 @@ impl<'a> Arguments<'a> {
         }
     }
 
+    /// Whether the value of each of these options suits a command where it is given.
+    fn each_suits(&self, takes: Takes, options: &[OptionName]) -> bool
+        ensures { result ≡ list_all (λ option. suits (takes_kept takes) (named option)
+            ((stated self.now).values (named option))) options.now }
+    {
+        options.iter().all(|option| self.suits(takes, *option))
+    }
+
     /// Whether each value that is given suits a command.
     fn all_suit(&self, takes: Takes) -> bool
         ensures { result ≡ all_suit (takes_kept takes) (stated self.now).values }
     {
-        self.suits(takes, OptionName::Harts)
-            && self.suits(takes, OptionName::Frames)
-            && self.suits(takes, OptionName::Steps)
-            && self.suits(takes, OptionName::Seed)
-            && self.suits(takes, OptionName::Policy)
-            && self.suits(takes, OptionName::Calm)
-            && self.suits(takes, OptionName::After)
-            && self.suits(takes, OptionName::RunCount)
-            && self.suits(takes, OptionName::Until)
-            && self.suits(takes, OptionName::By)
-            && self.suits(takes, OptionName::Jobs)
-            && self.suits(takes, OptionName::From)
-            && self.suits(takes, OptionName::To)
-            && self.suits(takes, OptionName::Memory)
+        self.each_suits(takes, &ALL_OPTIONS)
     }
 
     /// The limits that the options come to.
