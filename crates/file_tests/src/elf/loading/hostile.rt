@@ -2,7 +2,8 @@
 //!
 //! The answers were made from the rows of faults by another program, and by hand for the first 27.
 
-use super::programs::{EXITS, THREADS, answer};
+use super::programs::{answer, exits, threads};
+use crate::elf::files::FILE_HEADER;
 use Base::{Exits, Threads};
 use byte_views::write_word;
 use std::alloc::{AllocError, Global};
@@ -189,8 +190,8 @@ fn changed(
     second: &Option<Change>,
 ) -> Result<Vec<u8>, AllocError> {
     let mut file = match base {
-        Base::Exits => Vec::from_slice(alloc, &EXITS)?,
-        Base::Threads => Vec::from_slice(alloc, &THREADS)?,
+        Base::Exits => exits(alloc)?,
+        Base::Threads => threads(alloc)?,
     };
     make_change(&mut file, first);
     if let Some(second) = second {
@@ -217,7 +218,7 @@ fn changed_fields(rt: HostRuntime) -> Result<(), Fail> {
 /// A file of so many headers, each of a load segment of one page, at falling addresses.
 fn many_headers(alloc: Global, count: u16) -> Result<Vec<u8>, AllocError> {
     let mut file = vec![in alloc; 0u8; 64 + 56 * usize::from(count)]?;
-    for (byte, start) in file.iter_mut().zip(&EXITS[..64]) {
+    for (byte, start) in file.iter_mut().zip(&FILE_HEADER) {
         *byte = *start;
     }
     overwrite(&mut file, 56, 2, u64::from(count));
