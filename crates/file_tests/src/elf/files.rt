@@ -11,6 +11,13 @@ pub(super) const FILE_HEADER: [u8; 64] = [
     0x00, 0x00, 0x00, 0x00, 0x40, 0x00, 0x38, 0x00, 0x00, 0x00, 0x00, 0x00, 0x00, 0x00, 0x00, 0x00,
 ];
 
+/// Writes a number of 1, 2, 4 or 8 bytes over those that stand at a place of a file.
+pub(super) fn overwrite(file: &mut [u8], at: usize, size: usize, number: u64) {
+    if size == 1 || size == 2 || size == 4 || size == 8 {
+        let _written = write_word(file, at, size, number);
+    }
+}
+
 /// A file of this entry and this number of program headers, which stand behind the file header.
 pub(super) fn file_of(
     alloc: Global,
@@ -19,8 +26,8 @@ pub(super) fn file_of(
     rest: &[u8],
 ) -> Result<Vec<u8>, AllocError> {
     let mut file = Vec::from_slice(alloc, &FILE_HEADER)?;
-    let _entry = write_word(&mut file, 24, 8, entry);
-    let _count = write_word(&mut file, 56, 2, count);
+    overwrite(&mut file, 24, 8, entry);
+    overwrite(&mut file, 56, 2, count);
     file.extend_from_slice(rest)?;
     Ok(file)
 }

@@ -3,9 +3,8 @@
 //! The answers were made from the rows of faults by another program, and by hand for the first 27.
 
 use super::programs::{answer, exits, threads};
-use crate::elf::files::FILE_HEADER;
+use crate::elf::files::{FILE_HEADER, overwrite};
 use Base::{Exits, Threads};
-use byte_views::write_word;
 use std::alloc::{AllocError, Global};
 use std::test::Fail;
 
@@ -171,12 +170,6 @@ const CHANGED: [Row; 111] = [
     (Threads, (24, 8, 0x2), Some((160, 8, 0x1000000)), 15, None),
     (Threads, (160, 8, 0x1000000), None, 16, Some(4162)),
 ];
-
-fn overwrite(file: &mut [u8], at: usize, size: usize, number: u64) {
-    if size == 1 || size == 2 || size == 4 || size == 8 {
-        let _written = write_word(file, at, size, number);
-    }
-}
 
 fn make_change(file: &mut [u8], change: &Change) {
     overwrite(file, change.0, change.1, change.2);
