@@ -1,6 +1,6 @@
 //! The largest file, with memory for all frames.
 
-use super::programs::EXITS;
+use super::programs::exits;
 use byte_views::write_word;
 use elf_load::load;
 use mach_types::Limits;
@@ -22,7 +22,8 @@ const LIMITS: Limits = Limits {
 /// A file of that size, with that many pages of segments.
 fn largest(rt: &impl Abort, alloc: Global) -> Result<Vec<u8>, AllocError> {
     let mut file = vec![in alloc; 1u8; FILE_SIZE]?;
-    for (byte, start) in file.iter_mut().zip(&EXITS) {
+    let program = exits(alloc)?;
+    for (byte, start) in file.iter_mut().zip(program.as_slice()) {
         *byte = *start;
     }
     assert!(rt; write_word(&mut file, 96, 8, FILE_SIZE as u64));

@@ -2,9 +2,9 @@
 //!
 //! The answers were made from the rows of faults by another program, and by hand for the first 27.
 
-use super::programs::{EXITS, THREADS, answer};
+use super::programs::{answer, exits, threads};
+use crate::elf::files::{FILE_HEADER, overwrite};
 use Base::{Exits, Threads};
-use byte_views::write_word;
 use std::alloc::{AllocError, Global};
 use std::test::Fail;
 
@@ -171,12 +171,6 @@ const CHANGED: [Row; 111] = [
     (Threads, (160, 8, 0x1000000), None, 16, Some(4162)),
 ];
 
-fn overwrite(file: &mut [u8], at: usize, size: usize, number: u64) {
-    if size == 1 || size == 2 || size == 4 || size == 8 {
-        let _written = write_word(file, at, size, number);
-    }
-}
-
 fn make_change(file: &mut [u8], change: &Change) {
     overwrite(file, change.0, change.1, change.2);
 }
@@ -189,8 +183,8 @@ fn changed(
     second: &Option<Change>,
 ) -> Result<Vec<u8>, AllocError> {
     let mut file = match base {
-        Base::Exits => Vec::from_slice(alloc, &EXITS)?,
-        Base::Threads => Vec::from_slice(alloc, &THREADS)?,
+        Base::Exits => exits(alloc)?,
+        Base::Threads => threads(alloc)?,
     };
     make_change(&mut file, first);
     if let Some(second) = second {
@@ -217,7 +211,7 @@ fn changed_fields(rt: HostRuntime) -> Result<(), Fail> {
 /// A file of so many headers, each of a load segment of one page, at falling addresses.
 fn many_headers(alloc: Global, count: u16) -> Result<Vec<u8>, AllocError> {
     let mut file = vec![in alloc; 0u8; 64 + 56 * usize::from(count)]?;
-    for (byte, start) in file.iter_mut().zip(&EXITS[..64]) {
+    for (byte, start) in file.iter_mut().zip(&FILE_HEADER) {
         *byte = *start;
     }
     overwrite(&mut file, 56, 2, u64::from(count));
