@@ -495,17 +495,3 @@ module _ (s : Setting) (form : Form) (at : ℕ) (area : Area) (h t : ℕ) (law :
         chosen = λ some. absurd (omega arith);
         closed = λ some. absurd (omega arith);
       })) many
-
--- where each place like this is one like that
-pub is_brought : (s : Setting) (h n : ℕ) (log rest : List Entry) (This That : History → Type 0)
-    → ((now : History) → This now → That now) → Brings s h n This log rest → Brings s h n That log rest
-is_brought s h n log rest This That so it = record {
-  earlier = it.earlier;
-  entry = it.entry;
-  later = it.later;
-  stretch_is = it.stretch_is;
-  own = it.own;
-  executed = it.executed;
-  soon = it.soon;
-  there = so (history s (log ++ it.earlier ++ it.entry ∷ [])) it.there;
-}

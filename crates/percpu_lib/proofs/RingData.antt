@@ -73,9 +73,6 @@ module _ (s : Setting) (h : ℕ) (begun : History) (area ring value count : ℕ)
   pub word_low : (a : ℕ) → word_of s h a begun < 2 ^ 64
   word_low a = omega arith
 
-  pub word_whole : (n : ℕ) → n < 2 ^ 64 → low_bytes 8 n ≡ n
-  word_whole n low = omega arith
-
   -- WHAT LIES BESIDE WHAT
 
   -- the words at the value and the ring
