@@ -284,7 +284,7 @@ module _ (count : ℕ) (few : count ≤ 4) (p : Slots) (slots : AreSlots p) wher
       is_ring_with (inst.Ld 6 5 (pos 8)) (inst.Ld 7 5 (pos 0)) (inst.Sub 7 6 7) (inst.Sltiu 7 7 (pos (513 - count)))
       (inst.Beq 7 0 (pos (12 + 24 * count))) (put_insts p) (put_six p) 8
       (λ s ring h t. IsWholePut s p ring h t count) (λ s ring h t. IsNoPut s p ring h t count)
-      (λ seen f pc to r is even. beq_pc seen f pc to r 7 0 (pos (12 + 24 * count)) (ap (sum_64 pc) small ∙ is) even)
+      (λ seen f pc to r is even. beq_pc 7 0 (pos (12 + 24 * count)) seen f pc to r (ap (sum_64 pc) small ∙ is) even)
       (put_copy_kept count few p slots) (put_value_kept count few p slots)
 
   pub get_is_ring : IsRing (ring_get_form count p) count
@@ -292,7 +292,7 @@ module _ (count : ℕ) (few : count ≤ 4) (p : Slots) (slots : AreSlots p) wher
       is_ring_with (inst.Ld 6 5 (pos 0)) (inst.Ld 7 5 (pos 8)) (inst.Sub 7 7 6) (inst.Sltiu 7 7 (pos count))
       (inst.Bne 7 0 (pos (12 + 24 * count))) (get_insts p) (get_six p) 0
       (λ s ring h t. IsWholeGet s p ring h t count) (λ s ring h t. IsNoGet s p ring h t count)
-      (λ seen f pc to r is even. bne_pc seen f pc to r 7 0 (pos (12 + 24 * count)) (ap (sum_64 pc) small ∙ is) even)
+      (λ seen f pc to r is even. bne_pc 7 0 (pos (12 + 24 * count)) seen f pc to r (ap (sum_64 pc) small ∙ is) even)
       (get_copy_kept count few p slots) (get_value_kept count few p slots)
 
 -- WHAT IS ASKED OF THE DATA
