@@ -34,9 +34,9 @@ use Rattle.alone_laws.proofs.Arrivals.{IsCode, KnowsAt}
 use Rattle.alone_laws.proofs.Retrying.{IsAskedRun, IsKept, first_place, known_throughout}
 use Rattle.percpu_lib.specs.Forms.{AreBlockUsed, Form, HoldsBlock, IsBlockUsed, committed, placed_of}
 use Rattle.percpu_lib.specs.Forms.{range_of}
-use Rattle.percpu_lib.specs.RingForms.{get_front, get_insts, put_front, put_insts, repeated, ring_end}
+use Rattle.percpu_lib.specs.RingForms.{front_with, get_front, get_insts, put_front, put_insts, repeated}
 use Rattle.percpu_lib.specs.RingForms.{IsNoGet, IsNoPut, IsWholeGet, IsWholePut, ring_form, ring_get_form}
-use Rattle.percpu_lib.specs.RingForms.{ring_put_form}
+use Rattle.percpu_lib.specs.RingForms.{ring_end, ring_put_form}
 use Rattle.percpu_lib.specs.RingKinds.{RingKind, gets, puts, ring_form_of}
 use Rattle.percpu_lib.specs.Words.{AreSlots}
 use Rattle.percpu_lib.specs.declared.slots.Slots.{Slots}
@@ -44,7 +44,7 @@ use Rattle.percpu_lib.proofs.BlockCode.{IsFormed, IsInstruction, KnowsTable, bef
 use Rattle.percpu_lib.proofs.BlockCode.{block_code, it, leads_at, outcome_is}
 use Rattle.percpu_lib.proofs.Changes.{scratch_not, some_value}
 use Rattle.percpu_lib.proofs.FormedWords.{AreFitBut, Unless, tame_at}
-use Rattle.percpu_lib.proofs.RingFormed.{front_inner, front_with, get_formed, get_long, get_six, put_formed, put_long}
+use Rattle.percpu_lib.proofs.RingFormed.{front_inner, get_formed, get_long, get_six, put_formed, put_long}
 use Rattle.percpu_lib.proofs.RingFormed.{put_six, to_end, word_inner, words_long}
 use Rattle.percpu_lib.proofs.RingWords.{at_end, repeated_length}
 use Rattle.percpu_lib.proofs.WordLaws.{Leads, begins_anew, beq_pc, bne_pc, goes_on, leads_out, leaves_block}

@@ -53,34 +53,23 @@ ring_end p count offset =
     ∷ Some (inst.Jal 0 (negsuc (83 + 24 * count)))
     ∷ []
 
--- what stands before the words are put, and before they are got
+-- what stands before the words are moved, where the test loads by i and j, subtracts by d, compares by c and branches
+-- by b; before they are put, and before they are got
+abbrev pub front_with : Slots → Inst → Inst → Inst → Inst → Inst → List (Option Inst)
+front_with p i j d c b =
+    Some (inst.Addi 28 p.value (pos 0))
+    ∷ asking_words p 23 13 (Some (inst.Addi 28 p.value (pos 0)) ∷ Some i ∷ Some j ∷ Some d ∷ Some c
+    ∷ Some (inst.Addi p.value 0 (pos 0)) ∷ Some b ∷ Some (inst.Addi p.value 28 (pos 0)) ∷ [])
+
 abbrev pub put_front : Slots → ℕ → List (Option Inst)
 put_front p count =
-    Some (inst.Addi 28 p.value (pos 0))
-    ∷ asking_words p 23 13
-    (Some (inst.Addi 28 p.value (pos 0))
-    ∷ Some (inst.Ld 6 5 (pos 8))
-    ∷ Some (inst.Ld 7 5 (pos 0))
-    ∷ Some (inst.Sub 7 6 7)
-    ∷ Some (inst.Sltiu 7 7 (pos (513 - count)))
-    ∷ Some (inst.Addi p.value 0 (pos 0))
-    ∷ Some (inst.Beq 7 0 (pos (12 + 24 * count)))
-    ∷ Some (inst.Addi p.value 28 (pos 0))
-    ∷ [])
+    front_with p (inst.Ld 6 5 (pos 8)) (inst.Ld 7 5 (pos 0)) (inst.Sub 7 6 7) (inst.Sltiu 7 7 (pos (513 - count)))
+    (inst.Beq 7 0 (pos (12 + 24 * count)))
 
 abbrev pub get_front : Slots → ℕ → List (Option Inst)
 get_front p count =
-    Some (inst.Addi 28 p.value (pos 0))
-    ∷ asking_words p 23 13
-    (Some (inst.Addi 28 p.value (pos 0))
-    ∷ Some (inst.Ld 6 5 (pos 0))
-    ∷ Some (inst.Ld 7 5 (pos 8))
-    ∷ Some (inst.Sub 7 7 6)
-    ∷ Some (inst.Sltiu 7 7 (pos count))
-    ∷ Some (inst.Addi p.value 0 (pos 0))
-    ∷ Some (inst.Bne 7 0 (pos (12 + 24 * count)))
-    ∷ Some (inst.Addi p.value 28 (pos 0))
-    ∷ [])
+    front_with p (inst.Ld 6 5 (pos 0)) (inst.Ld 7 5 (pos 8)) (inst.Sub 7 7 6) (inst.Sltiu 7 7 (pos count))
+    (inst.Bne 7 0 (pos (12 + 24 * count)))
 
 -- the words of a block from the retry label on
 abbrev pub put_block : Slots → ℕ → List (Option Inst)
