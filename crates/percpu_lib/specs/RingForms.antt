@@ -205,24 +205,32 @@ pub record GetsNoMore (s : Setting) (p : Slots) (ring h t count : ℕ) (begun re
   pub stored : stores h reached
       ≡ stores h begun ++ first_stores (get_store s h ring (value_of s p t begun) begun) some
 
--- whole, and not whole; no other register changed but those that every block may change
-pub record IsWholePut (s : Setting) (p : Slots) (ring h t count : ℕ) (begun reached : History) : Type 0 where
-  pub puts : Puts s p ring h t count begun reached
+-- whole, and not whole: so it became of the words, and no other register changed but those that every block may change
+pub record IsWholeMove (s : Setting) (p : Slots) (t : ℕ) (Moves : Type 0) (begun reached : History) : Type 0 where
+  pub moves : Moves
   pub kept : AreKept s (is_changed p) t begun reached
 
-pub record IsNoPut (s : Setting) (p : Slots) (ring h t count : ℕ) (begun reached : History) : Type 0 where
-  pub same : IsRingKept s ring h begun reached
-  pub stored : PutsNoMore s p ring h t count begun reached
-  pub kept : AreKept s (is_changed p) t begun reached
+pub record IsNoMove (s : Setting) (p : Slots) (ring h t : ℕ) (MovesNoMore : Type 0) (begun reached : History) : Type 0
+  where
+    pub same : IsRingKept s ring h begun reached
+    pub stored : MovesNoMore
+    pub kept : AreKept s (is_changed p) t begun reached
 
-pub record IsWholeGet (s : Setting) (p : Slots) (ring h t count : ℕ) (begun reached : History) : Type 0 where
-  pub gets : Gets s p ring h t count begun reached
-  pub kept : AreKept s (is_changed p) t begun reached
+abbrev pub IsWholePut : Setting → Slots → ℕ → ℕ → ℕ → ℕ → History → History → Type 0
+IsWholePut s p ring h t count begun reached =
+    IsWholeMove s p t (Puts s p ring h t count begun reached) begun reached
 
-pub record IsNoGet (s : Setting) (p : Slots) (ring h t count : ℕ) (begun reached : History) : Type 0 where
-  pub same : IsRingKept s ring h begun reached
-  pub stored : GetsNoMore s p ring h t count begun reached
-  pub kept : AreKept s (is_changed p) t begun reached
+abbrev pub IsWholeGet : Setting → Slots → ℕ → ℕ → ℕ → ℕ → History → History → Type 0
+IsWholeGet s p ring h t count begun reached =
+    IsWholeMove s p t (Gets s p ring h t count begun reached) begun reached
+
+abbrev pub IsNoPut : Setting → Slots → ℕ → ℕ → ℕ → ℕ → History → History → Type 0
+IsNoPut s p ring h t count begun reached =
+    IsNoMove s p ring h t (PutsNoMore s p ring h t count begun reached) begun reached
+
+abbrev pub IsNoGet : Setting → Slots → ℕ → ℕ → ℕ → ℕ → History → History → Type 0
+IsNoGet s p ring h t count begun reached =
+    IsNoMove s p ring h t (GetsNoMore s p ring h t count begun reached) begun reached
 
 -- what the blocks of a count do, but for what became of the ring: a put and a get differ in that alone
 abbrev pub ring_form : Slots → List (Option Inst) → ℕ → (Setting → ℕ → ℕ → ℕ → History → History → Type 0)
