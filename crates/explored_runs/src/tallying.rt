@@ -86,9 +86,7 @@ fn preemptions(log: &[Entry]) -> usize
     ensures is { result ≡ preemptions_in log.now }
     ensures few { result ≤ length log.now }
 {
-    log.iter()
-        .filter(|entry| entry.kind.is_preempt())
-        .count()
+    log.iter().filter(|entry| entry.kind.is_preempt()).count()
 }
 
 impl Tried {

@@ -1,15 +1,15 @@
 -- A hart that goes freely, told by the hart that is kept of it; and its `exec` is allowed.
-use Rattle.machine_core.proofs.Common.{◌≡◌, ℕ, ◌<◌, ◌∙◌, ap, refl, subst, Bool, Entry, true, is_none, Option, Some, None, Ok, slice_get, HartState, Inside, IsMachine, Parts, Plain, Seen, Why, credit_at, credit_of, decide, entry_in, events, hart_at, hart_in, here_of, history, ran, refusal_exec, same_here, same_state, seen, setting_of, unless, here_in_history}
+use Rattle.machine_core.proofs.Common.{◌≡◌, ℕ, ◌<◌, ◌∙◌, ap, refl, sym, subst, Bool, Entry, false, true, is_none, is_some, leb, length, lt-leb, or_parts, Option, Some, None, Ok, slice_get, HartState, History, Inside, IsMachine, Plain, Setting, Why, credit_at, credit_of, entry_in, events, has_ended, hart_at, hart_in, over_at, ran, refusal_exec, same_state, seen, setting_of, unless, here_in_history}
 use Rattle.std.specs.Prelude.{IfSome}
 use Rattle.std.proofs.lemmas.Bool.{and_parts}
 use Rattle.mach_types.specs.declared.events.Choice.TheVariants as asked
+use Rattle.block_model.specs.Deciding.{decide, decide_in}
 use Rattle.block_model.specs.Here.{runs}
-use Rattle.block_model.specs.Run.{IsBlockRun}
 use Rattle.block_model.specs.Sights.{is_local_on}
 use Rattle.process.specs.PlainSteps.{goes_free}
 use Rattle.machine_core.specs.Free.{goes_freely}
+use Rattle.machine_core.proofs.AdvanceAnswers.{none_of}
 use Rattle.machine_core.proofs.FreeSteps.{freely_read}
-use Rattle.machine_core.proofs.MachineSteps.{IsLogPlace, decided_at}
 use Rattle.machine_core.proofs.Readings.{here_read, history_of}
 
 -- the hart in the list
@@ -32,14 +32,15 @@ none_fails : (o : Option Why) → is_none o ≡ true → o ≡ None
 none_fails None is = refl
 none_fails (Some why) is = cc
 
-pub free_decides : (v : Seen) (m : Parts) (h : ℕ) → IsLogPlace v m h → IsBlockRun v.setting v.log
-    → goes_freely (here_in_history v.setting (history v.setting v.log) h) ≡ true
-    → decide v.setting (history v.setting v.log) h asked.Exec ≡ Ok (entry_in asked.Exec (here_of v h))
-free_decides v m h place run free =
-    let here = here_in_history v.setting (history v.setting v.log) h in
-    let none : refusal_exec (here_of v h) ≡ None =
-    ap refusal_exec (same_here v h run) ∙ none_fails (refusal_exec here) (and_parts (is_none (refusal_exec here)) (is_local_on here (runs here)) free).0 in
-    decided_at v m h asked.Exec place ∙ ap (unless (entry_in asked.Exec (here_of v h))) none
+pub free_decides : (s : Setting) (past : History) (h : ℕ) → has_ended s past ≡ false → h < s.limits.harts → goes_freely (here_in_history s past h) ≡ true
+    → decide s past h asked.Exec ≡ Ok (entry_in asked.Exec (here_in_history s past h))
+unfolding has_ended decide
+free_decides s past h goes lt free =
+    let here = here_in_history s past h in
+    let within = or_parts (is_some (over_at s past)) (leb s.limits.steps (length past)) goes in
+    let none : refusal_exec here ≡ None = none_fails (refusal_exec here) (and_parts (is_none (refusal_exec here)) (is_local_on here (runs here)) free).0 in
+    ap (λ o. decide_in (length past) o asked.Exec here) (none_of (over_at s past) (sym within.0))
+    ∙ rw (within.1, lt-leb s.limits.harts h lt) (ap (unless (entry_in asked.Exec here)) none)
 
 -- what is told of an entry, where there is one
 pub at_some : (P : Entry → Type 0) (r : Option Entry) (e : Entry) → r ≡ Some e → IfSome r P → P e

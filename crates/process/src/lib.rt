@@ -30,6 +30,8 @@ mod starting;
 pub use code::Code;
 pub use exec::Written;
 pub use kernel_writes::KernelWrites;
-pub use next::{Next, effect_at, effect_of_next, fault_of_next, is_free, is_local, is_open, next_of};
+pub use next::{
+    Next, effect_at, effect_of_next, fault_of_next, is_free, is_local, is_open, next_of,
+};
 pub use parts::Parts;
 pub use requests::{is_all_taken, running_harts};

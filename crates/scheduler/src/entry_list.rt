@@ -50,9 +50,7 @@ pub fn is_any_only_for(entries: &[Entry], hart: u8, barred: u8) -> bool
     requires { barred ≤ 8 }
     ensures { result ≡ list_any (is_only_for hart barred) entries.now }
 {
-    entries
-        .iter()
-        .any(|entry| has_hart(entry.1, hart) && has_none_of(entry.1, barred))
+    entries.iter().any(|entry| has_hart(entry.1, hart) && has_none_of(entry.1, barred))
 }
 
 /// Gives the thread whose entry stands there these harts.

@@ -28,7 +28,8 @@ use block_model::Refused;
 use hart_state::HartState;
 use mach_types::{Area, Choice, Entry, Hart, Named, Outcome, Sight, UserMem};
 use process::{
-    KernelWrites, Next, effect_at, effect_of_next, fault_of_next, is_all_taken, is_free, is_local, is_open, next_of,
+    KernelWrites, Next, effect_at, effect_of_next, fault_of_next, is_all_taken, is_free, is_local,
+    is_open, next_of,
 };
 use rseq_area::Lookups;
 use rv_inst::Effect;
@@ -184,8 +185,7 @@ impl Machine {
     #[inline]
     fn is_enabled(&self, hart: Hart, effect: Option<Effect>) -> bool
         requires hart { hart.0 < self.now.setting.limits.harts }
-        requires effect {
-            let here = here_in_history self.now.setting (history self.now.setting self.now.log) hart.0 in
+        requires effect { let here = here_in_history self.now.setting (history self.now.setting self.now.log) hart.0 in
             effect ≡ next_effect self.now.setting.program.pages (file_on here (runs here)) }
         requires sizes { IfSome effect HasAccessSizes }
         ensures { result ≡ is_none
@@ -196,7 +196,9 @@ impl Machine {
             return true;
         }
         let fault = fault_of_next(&self.code, &self.parts.pages, state, effect.as_ref());
-        self.parts.exec_gate(hart, &Next { effect, fault }).is_none()
+        self.parts
+            .exec_gate(hart, &Next { effect, fault })
+            .is_none()
     }
 
     /// What a scheduler sees of a hart.

@@ -1,5 +1,5 @@
 -- Whether the thread on a hart may execute its next instruction.
-use Rattle.machine_core.proofs.Common.{◌≡◌, ◌<◌, ◌∙◌, ap, arith, sym, subst, refl, length, is_none, is_some, true, Option, Why, Effect, HartState, Here, file_of, hart_in, events, next_effect, plain_seen, ran, seen, setting_of, byte_in, can_write_in, credit_at, same_here, refusal_exec, next_at}
+use Rattle.machine_core.proofs.Common.{◌≡◌, ◌<◌, ◌∙◌, ap, arith, sym, subst, refl, length, is_none, is_some, Option, Why, Effect, HartState, Here, file_of, hart_in, events, next_effect, plain_seen, ran, seen, setting_of, byte_in, can_write_in, credit_at, same_here, refusal_exec, next_at, here_in_history, history}
 use Rattle.process.specs.ExecGates.{IsNextAt}
 use Rattle.process.specs.declared.next.Next.{Next}
 use Rattle.machine_core.proofs.OpenSteps.{is_open_by, open_may}
@@ -18,14 +18,13 @@ fault_of_next-fault-requires c = rw c.as_ref-2.ensures.value c.requires.sizes
 
 pub returns-then-is_open : goal.returns-then-is_open
 returns-then-is_open c =
-    let m = c.self.inside in
-    let h = c.args.hart.0 in
+    let v = c.args.self.now in
+    let at = here_in_history v.setting (history v.setting v.log) c.args.hart.0 in
     let x = c.hart-state.result.now in
-    let here : x ≡ hart_in (here_read m h) (ran h (history_of m)) (events h (history_of m)) (credit_at (setting_of m) m.seed h (history_of m)) = rw (← c.self.view_is) at c.hart-state.ensures in
-    let effect : c.args.effect ≡ next_effect m.code (file_of x) = (rw (← c.self.view_is) at c.requires.effect) ∙ sym (ap (λ (y : HartState). next_effect m.code (file_of y)) here) in
-    let is : c.is_open.result ≡ is_open_by (is_some x.running) (is_some x.waits) (length x.buffer) (next_effect m.code (file_of x)) =
+    let effect : c.args.effect ≡ next_effect v.setting.program.pages (file_of x) = c.requires.effect ∙ sym (ap (λ (y : HartState). next_effect v.setting.program.pages (file_of y)) c.hart-state.ensures) in
+    let is : c.is_open.result ≡ is_open_by (is_some x.running) (is_some x.waits) (length x.buffer) (next_effect v.setting.program.pages (file_of x)) =
     c.is_open.ensures ∙ ap (λ (o : Option Effect). is_open_by (is_some x.running) (is_some x.waits) (length x.buffer) o) (c.as_ref.ensures.value ∙ effect) in
-    rw (← c.self.view_is) (open_may (here_read m h) x _ _ _ here (sym is ∙ c.if-is_open.true))
+    open_may at x _ _ _ c.hart-state.ensures (sym is ∙ c.if-is_open.true)
 
 pub returns : goal.returns
 returns c =
