@@ -1,7 +1,7 @@
 -- A thread at the retry label of a block, whose hart is left undisturbed, is at the post-commit address after as many
 -- instructions as stand before it, by a sequence that is whole.
 use Rattle.std.proofs.Common.{◌≡◌, ℕ, zero, suc, ◌+◌, ◌*◌, ◌-◌, ◌%◌, ◌^◌, ◌<◌, ◌≤◌, ◌⊎◌, inl, inr, List, ◌++◌}
-use Rattle.std.proofs.Common.{[], ◌∷◌, refl, sym, ap, ◌∙◌, arith, subst, Bool, true, false, eqb, ltb}
+use Rattle.std.proofs.Common.{◌∷◌, refl, sym, ap, ◌∙◌, arith, subst, Bool, true, false, eqb, ltb}
 use Rattle.std.proofs.Common.{Option, Some, None, ℤ, pos, length, slice_get}
 use Rattle.std.proofs.lemmas.Bool.{cases_lt, lt-ltb}
 use Rattle.mach_types.proofs.Laws.{eqb_same}

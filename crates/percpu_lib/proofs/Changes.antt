@@ -1,5 +1,5 @@
 -- Registers of a block that brings a value out, and branches on equality.
-use Rattle.std.proofs.Common.{◌≡◌, ◌≢◌, ℕ, ◌%◌, refl, sym, ap, ◌∙◌, true, false, cond, eqb, ◌||◌, ℤ}
+use Rattle.std.proofs.Common.{◌≡◌, ◌≢◌, ℕ, ◌%◌, sym, ap, ◌∙◌, true, false, cond, eqb, ◌||◌, ℤ}
 use Rattle.std.proofs.lemmas.Bool.{false≢true, ne_eqb}
 use Rattle.mach_types.proofs.Laws.{eqb_same}
 use Rattle.mach_types.specs.Registers.{register}

@@ -1,6 +1,6 @@
 -- The words of ring blocks lead on in them.
 use Rattle.std.proofs.Common.{◌≡◌, ℕ, ◌+◌, ◌*◌, ◌<◌, ◌≤◌, ◌^◌, List, ◌++◌, refl, arith, true, length}
-use Rattle.std.proofs.Common.{false, eqb, ltb, Option, Some, [], ◌∷◌, subst, pos, rules}
+use Rattle.std.proofs.Common.{false, eqb, ltb, Option, subst, pos, rules}
 use Rattle.std.proofs.lemmas.Bool.{ltb-true, ne_eqb}
 use Rattle.rv_inst.specs.declared.instruction.Inst.{Inst}
 use Rattle.rv_inst.specs.declared.instruction.Inst.TheVariants as inst
