@@ -73,7 +73,7 @@ pub use Rattle.process.specs.Harts.{counted, credit_of, file_of, file_on, hart_a
 pub use Rattle.process.specs.Pages.{AreDecoded, code_of, is_executable, word_in, word_of_page}
 pub use Rattle.process.specs.OtherProcess.{passed_by, taken_aside}
 pub use Rattle.process.specs.PlainSteps.{IsPlainStep, stepped}
-pub use Rattle.process.specs.Planned.{HasPlan, IsExecuted, IsInside, IsOwnStep, IsPlanned}
+pub use Rattle.process.specs.Planned.{HasPlan, IsExecuted, IsInside, IsNextStep, IsOwnStep, IsPlanned}
 pub use Rattle.process.specs.Refinement.{HasCode, IsAfter, IsAlone, IsCounted, IsPlace, IsReadable, IsTied, IsUncounted, MayDrain, answered}
 pub use Rattle.process.specs.Reservations.{lost_by_all, lost_by_write, lost_unless}
 pub use Rattle.process.specs.Sequences.{area_on, holds}

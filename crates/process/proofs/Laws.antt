@@ -4,6 +4,7 @@ pub use Rattle.process.proofs.Codes.{code_enough}
 pub use Rattle.process.proofs.Entries.{changed_as, entry_exec}
 pub use Rattle.process.proofs.Events.{mapped_is, none_beside, same_length}
 pub use Rattle.process.proofs.FreeInstructions.{gate_of_free, no_fault_of_free, others_of_free}
+pub use Rattle.process.proofs.FreeSteps.{free_event}
 pub use Rattle.process.proofs.HartEvents.{plain_own}
 pub use Rattle.process.proofs.HartStates.{get_set_other, get_set_same, hart_tied}
 pub use Rattle.process.proofs.KernelWrites.{foreseen_entered}

@@ -1,5 +1,5 @@
 -- A thread that begins to run, and one that stays ready since the process is killed first.
-use Rattle.process.proofs.Common.{◌≡◌, ◌≢◌, ℕ, suc, ◌<◌, List, [], ◌∷◌, find, map, length, get_or, slice_get, refl, sym, ap, ◌∙◌, subst, arith, Bool, true, false, cond, eqb, Option, Some, None, inl, inr, list_any, IsStrictlyIncreasing, option_map, option_map_or, cases_eq, eqb-true, ne_eqb, AllPairs-from_increasing, area_of, lowest_cid, AreSaved, Area, Done, Hart, HartState, Here, IsPlace, IsUncounted, IsWritten, Kernel, Map, Outcome, Parts, Saved, Stand, Write, counted, credit_of, file_among, files_interrupted, hart_at, harts_that, here_at, holds, interruption_here, lost_unless, refusal_of, Scheduling, without_ready, Thread, Threads, is_ready, is_ready_state, is_thread, state_if, state_of, with_state, Tid, Killed, SIGSEGV, ThreadState, Ready, Running, entered, IsTable, Table, saved_of, with_saved, is_kept, saved_of_others, areas_by_number, HoldsTables, done_killed, done_run, done_running, lives_on, id_of, next_id, with_id, ready_listed, HasHart, IsChanged, IsReadied, IsWaiting, begun_without, IsSome, is_running_state, numbers, ready_saves_something, holds_past_ids, holds_scheduling, holds_threads, is_running, ran, run_ready, stand_free_id}
+use Rattle.process.proofs.Common.{◌≡◌, ◌≢◌, ℕ, suc, ◌<◌, List, [], ◌∷◌, find, map, length, get_or, slice_get, refl, sym, ap, ◌∙◌, subst, arith, Bool, true, false, cond, eqb, Option, Some, None, inl, inr, list_any, IsStrictlyIncreasing, option_map, option_map_or, cases_eq, eqb-true, ne_eqb, AllPairs-from_increasing, area_of, lowest_cid, AreSaved, Area, Done, Hart, HartState, Here, IsPlace, IsUncounted, IsWritten, Kernel, Map, Outcome, Parts, Saved, Stand, Write, counted, credit_of, file_among, files_interrupted, hart_at, harts_that, here_at, holds, interruption_here, lost_unless, refusal_of, Scheduling, without_ready, Thread, Threads, is_ready, is_ready_state, is_thread, state_if, state_of, with_state, Tid, Killed, SIGSEGV, ThreadState, Ready, Running, entered, IsTable, Table, saved_of, with_saved, is_kept, saved_of_others, areas_by_number, HoldsTables, done_killed, done_run, done_running, lives_on, id_of, next_id, with_id, ready_listed, IsChanged, IsReadied, IsWaiting, begun_without, IsSome, is_running_state, numbers, ready_saves_something, holds_past_ids, holds_scheduling, holds_threads, is_running, ran, run_ready, stand_free_id}
 use Rattle.mach_types.proofs.Laws.{state_of-with_state_same}
 use Rattle.mach_types.specs.declared.events.Choice.TheVariants as asked
 use Rattle.mach_types.specs.declared.sequences.Outcome.TheVariants as comes_to
@@ -11,7 +11,7 @@ use Rattle.process.proofs.Interruptions.{begun_beside}
 use Rattle.process.proofs.SavedFiles.{saved_ran, none_kept, saved_but_one}
 use Rattle.process.proofs.Memory.{pages_written, readable_written}
 use Rattle.process.proofs.StuckProcess.{not_stuck, ready_live}
-use Rattle.process.proofs.Places.{bytes_at, goes_on, still_there, tables_at, writable_at}
+use Rattle.process.proofs.Places.{bytes_at, goes_on, tables_at, writable_at}
 
 -- THREADS
 
@@ -135,12 +135,6 @@ module _ (v : Stand) (m : Parts) (h : Hart) (t : Tid) (place : IsPlace v m h.0) 
   readied k a n x y alive m1 has its kept made =
       let is = made (waiting a n x has its kept) in
       record { lives = is.lives; file = is.file; pages = is.pages; harts = is.harts }
-
-  pub readied_there : (k : Kernel) (a : Option Area) (n : ℕ) (x y : Saved) (alive : Bool) (m1 : Parts) → a ≡ area_of t.0 (areas_by_number m.kernel.areas.items)
-      → n ≡ lowest_cid (harts_that (λ id. list_any (holds id) m.harts.items) 8) → Some x ≡ saved_of t.0 m.kernel.threads.saved
-      → (IsWaiting here t.0 h.0 m.pages a x n → IsReadied here t.0 alive y (record m { kernel = k }) m1) → HasHart m1.harts.items h.0
-  readied_there k a n x y alive m1 has its kept made =
-      still_there v m h.0 (done_run here t.0).entered m1.harts.items place (readied k a n x y alive m1 has its kept made).harts
 
   -- it is in the ready list, and runs once it was taken to
   pub listed : is_listed t.0 m.kernel.ready ≡ true

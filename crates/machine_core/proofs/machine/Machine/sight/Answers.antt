@@ -10,12 +10,7 @@ deliverable-requires-clause-held c =
     has_signals (stand_of (seen c.self.inside)) c.self.inside.parts c.args.hart.0 (standing (seen c.self.inside) c.self.invariant.run) c.self.invariant.tied (rw (← c.self.view_is) at c.requires)
 
 pub is_enabled-requires-clause-effect : goal.is_enabled-requires-clause-effect
-is_enabled-requires-clause-effect c =
-    let m = c.self.inside in
-    let h = c.args.hart.0 in
-    let x = c.hart-state.result.now in
-    let here : x ≡ hart_in (here_read m h) (ran h (history_of m)) (events h (history_of m)) (credit_at (setting_of m) m.seed h (history_of m)) = rw (← c.self.view_is) at c.hart-state.ensures in
-    rw (← c.self.view_is) (c.effect_at-effect.ensures.effect ∙ ap (λ (y : HartState). next_effect m.code (file_of y)) here)
+is_enabled-requires-clause-effect c = rw (← c.self.view_is) c.effect_at-effect.ensures.effect
 
 pub returns : goal.returns
 returns c =
