@@ -1,6 +1,6 @@
 -- A hart is open to its next instruction where a thread runs that waits in no barrier, and either no store of the hart waits and the
 -- instruction is no call, or it sets a register and does nothing else: then it may be executed.
-use Rattle.machine_core.proofs.Common.{◌≡◌, ℕ, ◌&&◌, length, sym, ap, ◌∙◌, refl, not, Bool, true, false, cond, eqb, is_none, is_some, Option, Some, None, Why, option_map, option_map_or, option_or, and_parts, false≢true, HartState, Here, Effect, runs, sets_register, thread, instruction_gate, is_held, effect_at, fault_at, others_gate, refusal_exec, refusal_exec_by, next_effect, waiting_here, file_of, file_on, hart_in}
+use Rattle.machine_core.proofs.Common.{◌≡◌, ℕ, ◌&&◌, length, sym, ap, ◌∙◌, refl, not, Bool, true, false, is_none, is_some, Option, Some, None, option_map, option_map_or, option_or, and_parts, false≢true, HartState, Here, Effect, runs, sets_register, thread, instruction_gate, is_held, effect_at, fault_at, others_gate, refusal_exec, refusal_exec_by, next_effect, waiting_here, file_of, file_on, hart_in}
 use Rattle.std.specs.Prelude.{◌==◌, ◌||◌}
 use Rattle.std.proofs.lemmas.Bool.{eqb-true, not-true}
 use Rattle.rv_inst.specs.Class.{is_call}

@@ -5,11 +5,7 @@ use Rattle.std.proofs.lemmas.List.{length-append}
 use Rattle.mach_types.specs.Registers.{with_register}
 use Rattle.mach_types.specs.declared.events.Choice.TheVariants as asked
 use Rattle.mach_types.specs.declared.events.Kind.TheVariants as kind
-use Rattle.mach_types.specs.declared.events.Why.TheVariants.{Waiting, FullBuffer}
-use Rattle.mach_types.specs.declared.user_memory.Store.{Store}
 use Rattle.rv_inst.specs.declared.effects.Effect.TheVariants as effect
-use Rattle.sys_calls.specs.Made.{HoldsPages}
-use Rattle.hart_state.specs.State.{hart_after, outcome_on}
 use Rattle.process.specs.EventOutcomes.{entry_from}
 use Rattle.machine_core.proofs.ChoiceCredits.{choice_where, pick_read}
 use Rattle.machine_core.proofs.MachineCredits.{IsSettled, mapped_itself, not_ended, settled_next, tied_with}

@@ -1,13 +1,11 @@
 -- What the interruption of a thread would come to.
-use Rattle.machine_core.proofs.Common.{◌≡◌, sym, ap, ◌∙◌, Ok, Here, done_of, past_of, seen, setting_of, decide, stand_of, same_here}
+use Rattle.machine_core.proofs.Common.{sym, ap, ◌∙◌, Here, done_of, seen, stand_of, same_here}
 use Rattle.machine_core.proofs.AllowedPlaces.{allowed_place, may_make}
 use Rattle.machine_core.proofs.machine.Machine.foreseen.Goals as goal
 
 pub foreseen-requires : goal.foreseen-requires
 foreseen-requires c =
-    let m = c.self.inside in
-    let is : decide (setting_of m) (past_of m) c.args.hart.0 c.args.choice ≡ Ok c.in-Ok.field-0 = rw (← c.self.view_is) at (sym c.answer.ensures ∙ c.in-Ok.is) in
-    may_make m c.args.hart.0 c.args.choice (allowed_place m c.args.hart.0 c.args.choice _ c.self.invariant is)
+    may_make c.self.inside c.args.hart.0 c.args.choice c.in-Ok.field-0 c.self.invariant (rw (← c.self.view_is) at (sym c.answer.ensures ∙ c.in-Ok.is))
 
 pub returns-in-Ok-clause-allowed : goal.returns-in-Ok-clause-allowed
 returns-in-Ok-clause-allowed c e is =

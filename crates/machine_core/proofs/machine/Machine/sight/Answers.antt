@@ -1,5 +1,5 @@
 -- What a scheduler sees of a hart.
-use Rattle.machine_core.proofs.Common.{◌≡◌, ◌<◌, ◌∙◌, ◌&&◌, ap, length, is_some, is_none, not, eqb, false, Option, option_map, option_map_or, Scheduling, HartState, Here, events, hart_in, here_of, plain_seen, ran, runs, seen, sets_register, setting_of, Effect, credit_at, is_deliverable_on, thread, stand_of, same_here, standing, has_signals, first_for, file_of, next_effect, refusal_exec, is_all_taken}
+use Rattle.machine_core.proofs.Common.{◌≡◌, ◌<◌, ◌∙◌, ◌&&◌, ap, length, is_some, is_none, not, eqb, false, Option, option_map, option_map_or, Scheduling, HartState, Here, events, hart_in, here_of, plain_seen, ran, runs, seen, sets_register, setting_of, Effect, credit_at, is_deliverable_on, thread, stand_of, same_here, standing, has_signals, first_for, refusal_exec, is_all_taken}
 use Rattle.machine_core.proofs.Readings.{here_read, history_of, scheduling_read}
 use Rattle.machine_core.proofs.Sights.{deliverable_read, idle_read, local_read, numbered, tested, untested}
 use Rattle.machine_core.proofs.machine.Machine.sight.Goals.{then-not-is_idle, else-not-is_idle}

@@ -1,5 +1,5 @@
 -- A call, and what the kernel wrote in it.
-use Rattle.machine_core.proofs.Common.{◌≡◌, ap, rules, ◌∙◌, arith, refl, Here, IsAfter, IsPlanned, done_of, here_of, seen, stand_of, same_here}
+use Rattle.machine_core.proofs.Common.{ap, rules, ◌∙◌, arith, Here, IsAfter, IsPlanned, done_of, here_of, seen, stand_of, same_here}
 use Rattle.mach_types.specs.declared.events.Choice.TheVariants as asked
 use Rattle.machine_core.proofs.AllowedPlaces.{IsAllowedPlace, allowed_place, call_next, call_step, planned_call}
 use Rattle.machine_core.proofs.MachineCredits.{machine_goes, machine_next}

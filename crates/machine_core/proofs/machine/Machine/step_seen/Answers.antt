@@ -1,4 +1,4 @@
-use Rattle.machine_core.proofs.Common.{◌≡◌, ◌<◌, rules, sym, arith, IfOk-at_ok, IsAfter, done_of, here_of, seen, stand_of}
+use Rattle.machine_core.proofs.Common.{◌<◌, rules, sym, arith, IfOk-at_ok, IsAfter, done_of, here_of, seen, stand_of}
 use Rattle.machine_core.proofs.StretchAppends.{code_open, has_room, is_alone, place_open}
 use Rattle.machine_core.proofs.MachineCredits.{machine_next}
 use Rattle.machine_core.proofs.MachineSteps.{IsStep, refused, stepped}
