@@ -22,14 +22,14 @@ make_call-made-requires c =
     let call = there (goal.at.make_call-made-requires c).After-seen_if_chosen-seen in
     record { stand = stand_of (seen c.self.inside); place = call.0.place.at; plan = call.1 }
 
--- and how it was made
-made : (c : After-make_call-made) → IsAfter (stand_of (seen c.self.inside)) c.args.hart.0 (done_of asked.Exec (here_of (seen c.self.inside) c.args.hart.0)) c.self.inside.parts c.make_call-made.new.self
+-- and how it was made there
+made : (c : After-make_call-made) (at : IsAllowedPlace c.self.inside c.args.hart.0 asked.Exec) → IsPlanned (stand_of (seen c.self.inside)) c.args.hart.0 call_next
+    → IsAfter (stand_of (seen c.self.inside)) c.args.hart.0 (done_of asked.Exec (here_of (seen c.self.inside) c.args.hart.0)) c.self.inside.parts c.make_call-made.new.self
     × IsStep (seen c.self.inside) c.args.hart asked.Exec c.make_call-made.result.0 c.make_call-made.new.self
-made c =
-    let call = there c.After-seen_if_chosen-seen in
+made c at plan =
     let v = stand_of (seen c.self.inside) in
-    let after = c.make_call-made.ensures.after v call.0.place.at call.1 in
-    (after, call_step c.self.inside c.args.hart c.make_call-made.result.0 c.make_call-made.new.self call.0 (c.make_call-made.ensures.entry v call.0.place.at) after)
+    let after = c.make_call-made.ensures.after v at.place.at plan in
+    (after, call_step c.self.inside c.args.hart c.make_call-made.result.0 c.make_call-made.new.self at (c.make_call-made.ensures.entry v at.place.at) after)
 
 pub append-requires : goal.append-requires
 append-requires c =
@@ -44,21 +44,22 @@ follow_seen-self-inside-requires-clause-hart c =
 pub follow_seen-self-inside-requires-clause-held : goal.follow_seen-self-inside-requires-clause-held
 follow_seen-self-inside-requires-clause-held c =
     let is = goal.at.follow_seen-self-inside-requires-clause-held c in
-    omega (arith, (made is.After-make_call-made).0.tied.all_harts, (there is.After-seen_if_chosen-seen).0.lt)
+    let call = there is.After-seen_if_chosen-seen in
+    omega (arith, (made is.After-make_call-made call.0 call.1).0.tied.all_harts, call.0.lt)
 
 pub invariant_of-self : goal.invariant_of-self
 invariant_of-self c =
-    let at = (there (goal.at.invariant_of-self c).After-seen_if_chosen-seen).0 in
-    let is = made (goal.at.invariant_of-self c).After-make_call-made in
+    let call = there (goal.at.invariant_of-self c).After-seen_if_chosen-seen in
+    let is = made (goal.at.invariant_of-self c).After-make_call-made call.0 call.1 in
     machine_next c.self.inside c.args.hart asked.Exec c.make_call-made.result.0 c.make_call-made.new.self _ _ _ _ c.seen_if_chosen-seen.result c.self.invariant
-    (machine_goes c.self.inside c.self.invariant at.goes at.room) at.lt is.1 is.0.credits (rw (← c.self.view_is) at c.seen_if_chosen-seen.ensures)
+    (machine_goes c.self.inside c.self.invariant call.0.goes call.0.room) call.0.lt is.1 is.0.credits (rw (← c.self.view_is) at c.seen_if_chosen-seen.ensures)
     c.follow_seen-self-inside.ensures.harts c.follow_seen-self-inside.ensures.generators c.follow_seen-self-inside.ensures.followed c.append.ensures.items c.append.ensures.capacity
 
 pub returns : goal.returns
 returns c =
     let m = c.self.inside in
     let call = there (goal.at.returns c).After-seen_if_chosen-seen in
-    let step = (made (goal.at.returns c).After-make_call-made).1 in
+    let step = (made (goal.at.returns c).After-make_call-made call.0 call.1).1 in
     record {
       answer = rw (← c.self.view_is) step.decided;
       log = search rules;

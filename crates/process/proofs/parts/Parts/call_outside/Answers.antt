@@ -34,30 +34,32 @@ make_call-done-requires-clause-areas c = areas_found c.requires.plan.stand c.arg
 
 -- what is then to be ended
 is_called : (c : After-as_slice) (v : Stand) → IsPlace v c.args.self.now c.args.hart.0 → IsPlanned v c.args.hart.0 call_next
+    → IsCalling v c.args.self.now c.args.hart c.busy_harts-running.result c.len-harts.result c.index-state.result.now c.entry_of-entry.result
     → IsCalled v c.args.hart.0 c.args.self.now (record c.args.self.now { kernel = c.make_call-done.new.kernel; pages = c.make_call-done.new.pages }) c.make_call-done.result.end
     c.make_call-done.new.saved c.as_slice.result.now (called (here_at v c.args.hart.0) c.entry_of-entry.result.tid.0)
-is_called c v place plan =
-    let here = here_at v c.args.hart.0 in
-    let is = is_calling c.After-entry_of-entry v place plan in
-    record {
-      place = place;
-      thread = c.entry_of-entry.result.tid.0;
-      at = is.runs;
-      free = plan.free;
-      done = is.done;
-      made = c.make_call-done.ensures.made here is.at;
-      table = c.make_call-done.ensures.table;
-      written = c.as_slice.ensures.value ∙ c.make_call-done.ensures.written here is.at;
-      harts = refl;
-    }
+is_called c v place plan is = record {
+  place = place;
+  thread = c.entry_of-entry.result.tid.0;
+  at = is.runs;
+  free = plan.free;
+  done = is.done;
+  made = c.make_call-done.ensures.made (here_at v c.args.hart.0) is.at;
+  table = c.make_call-done.ensures.table;
+  written = c.as_slice.ensures.value ∙ c.make_call-done.ensures.written (here_at v c.args.hart.0) is.at;
+  harts = refl;
+}
 
 pub finish_call-requires : goal.finish_call-requires
 finish_call-requires c =
+    let at = goal.at.finish_call-requires c in
     let is = c.requires.plan in
-    record { stand = is.stand; before = c.args.self.now; done = _; called = is_called (goal.at.finish_call-requires c).After-as_slice is.stand is.place is.plan }
+    let calls = is_calling at.After-entry_of-entry is.stand is.place is.plan in
+    record { stand = is.stand; before = c.args.self.now; done = _; called = is_called at.After-as_slice is.stand is.place is.plan calls }
 
 pub returns-clause-made : goal.returns-clause-made
-returns-clause-made c v place plan = c.finish_call.ensures v c.args.self.now _ (is_called (goal.at.returns-clause-made c).After-as_slice v place plan)
+returns-clause-made c v place plan =
+    let at = goal.at.returns-clause-made c in
+    c.finish_call.ensures v c.args.self.now _ (is_called at.After-as_slice v place plan (is_calling at.After-entry_of-entry v place plan))
 
 pub returns-clause-written : goal.returns-clause-written
 returns-clause-written c v place plan =
