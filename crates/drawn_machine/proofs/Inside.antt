@@ -9,6 +9,7 @@ use Rattle.mach_types.specs.declared.events.Choice.TheVariants as choice
 use Rattle.mach_types.specs.declared.events.Entry.{Entry}
 use Rattle.mach_types.specs.declared.events.Hart.{Hart}
 use Rattle.mach_types.specs.declared.events.Kind.{Kind}
+use Rattle.mach_types.specs.declared.events.Kind.TheVariants as kind
 use Rattle.mach_types.specs.declared.events.Why.TheVariants.{NoHart}
 use Rattle.mach_types.specs.declared.limits.End.{End}
 use Rattle.drawings.specs.declared.drawing.DrawnEvent.{DrawnEvent}
@@ -83,7 +84,7 @@ pub none_leaves : (s : Setting) (before : History) (x : Entry) → x.kind ≡ ki
 none_leaves s before x is = rw is refl
 
 pub exec_is : (x : Entry) → choice_of x ≡ choice.Exec → x.kind ≡ kind.Exec
-exec_is x is = sym (kind_again x x.kind refl) ∙ ap kind_of is
+exec_is x is = sym (kind_back x.kind x.tid) ∙ ap kind_of is
 
 -- so one more is a number of 32 bits
 pub small_count : (now : Seen) (inside : ℕ) (b : Bool) (n : ℕ) → length now.log ≤ 1000000 → IsCounted now inside → n ≡ bool_byte b

@@ -1,5 +1,5 @@
 -- A machine that executes one instruction of a hart on credit: the first of the hart's stretch.
-use Rattle.machine_core.proofs.Common.{◌≡◌, ℕ, ◌+◌, ◌<◌, ◌++◌, [], ◌∷◌, refl, sym, ap, ◌∙◌, subst, true, false, get_or, Some, None, option_map, same_Some, Hart, HartState, Entry, Inside, IsMachine, Option, past_of, setting_of, Tid, IsChosen, has_ended, goes_on, executed, IsBlockRun, next_entry, Parts, with_item, gone_on_credit, stretch_from}
+use Rattle.machine_core.proofs.Common.{◌≡◌, ℕ, ◌<◌, ◌++◌, [], ◌∷◌, refl, sym, ap, ◌∙◌, subst, true, false, get_or, Some, None, option_map, same_Some, Hart, HartState, Entry, Inside, IsMachine, Option, past_of, setting_of, Tid, IsChosen, has_ended, goes_on, executed, IsBlockRun, next_entry, Parts, with_item, gone_on_credit, stretch_from}
 use Rattle.machine_core.proofs.AdvanceAnswers.{all_of}
 use Rattle.machine_core.proofs.MachineCredits.{IsSettled}
 use Rattle.machine_core.proofs.StretchAppends.{has_room, on_way}
