@@ -92,9 +92,7 @@ settled_next s seed log m words chosen h c e p p' sight so_far limits going lt s
           ∙ rw sees (credit_after s seed log h.0 c e chosen words is k x shown);
       generators = λ followed k below.
           let was : is_followed (seen_if chosen s seed h.0 (history s log)) words h.0 c ≡ true = ap (λ o. is_followed o words h.0 c) (sym sees) ∙ followed in
-          let few = limits.eight_harts in
-          let held = so_far.held in
-          rw sees (generator_after s seed log h.0 c e chosen words is (omega (arith, lt, few, held)) was k below);
+          rw sees (generator_after s seed log h.0 c e chosen words is (omega (arith, lt, limits.eight_harts, so_far.held)) was k below);
       held = still_eight sight h.0 words so_far.held;
     }
 

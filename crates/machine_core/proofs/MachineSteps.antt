@@ -20,8 +20,7 @@ pub decided_at : (v : Seen) (m : Parts) (h : ℕ) (c : Choice) → IsLogPlace v 
     → decide v.setting (history v.setting v.log) h c ≡ unless (entry_in c (here_of v h)) (refusal_of c (here_of v h))
 decided_at v m h c place =
     let made = plain_made v place.run in
-    let room = place.at.room in
-    at_kind v h c place.run place.at.goes (omega (arith, made, room)) place.at.lt
+    at_kind v h c place.run place.at.goes (omega (arith, made, place.at.room)) place.at.lt
 
 -- a choice that is refused
 pub refused : (v : Seen) (m : Parts) (h : ℕ) (c : Choice) (r : Result Entry Why) (why : Why) → IsLogPlace v m h → r ≡ answer_to (stand_of v) h c → r ≡ Err why → decide v.setting (history v.setting v.log) h c ≡ Err (NotEnabled why)

@@ -20,8 +20,7 @@ hart_listed m h machine lt =
 
 pub hart_read : (m : Inside) (h : ℕ) (x : HartState) → IsMachine m → h < m.limits.harts → x ≡ get_or m.parts.harts.items h x → x ≡ hart_seen m h
 hart_read m h x machine lt value =
-    let all = machine.tied.all_harts in
-    let in_list : h < length m.parts.harts.items = omega (arith, all, lt) in
+    let in_list : h < length m.parts.harts.items = omega (arith, machine.tied.all_harts, lt) in
     same_Some x (hart_seen m h) (sym (slice_get-get_or m.parts.harts.items h x in_list ∙ ap Some (sym value)) ∙ hart_listed m h machine lt)
 
 -- the bytes that were written to the console

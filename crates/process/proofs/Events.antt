@@ -127,9 +127,7 @@ uncounted v h d m m' z place fit is = record {
     few =
         let made : z.events + 1 ≡ v.plain.events h + 1 = ap (λ (y : HartState). y.events) is.own in
         let most = place.stands.events h in
-        let room = place.room in
-        let steps = place.limits.most_steps in
-        omega (arith, made, most, room, steps)
+        omega (arith, made, most, place.room, place.limits.most_steps)
 
     own : (m'' : Parts) → IsCounted h m' m'' → slice_get m''.harts.items h ≡ option_map (beside_unless (eqb h h) h h d) (slice_get (set m.harts.items h (counted z)) h)
     own m'' then = then.harts h ∙ rw (eq-eqb h h refl, there, get_set_same m.harts.items h x (counted z) (place.tied.harts h place.lt)) refl

@@ -46,10 +46,9 @@ add_area-requires c =
     let areas = areas_by_number k.areas.items in
     let more = areas_fit k.threads.threads (with_area t c.args.area areas)
     (registered_areas t c.args.area k.threads.threads areas (caller_lives k c.args.here.0 t c.requires.caller) c.requires.none c.requires.areas) in
-    let few = c.requires.caller.tables.1.threads.few in
     let size = length-append areas ((t, c.args.area) ∷ []) in
     let same : length areas ≡ length k.areas.items = length-map k.areas.items (λ (entry : RegisteredArea). (entry.tid.0, entry.area)) in
-    record { room = omega (arith, more, few, size, same) }
+    record { room = omega (arith, more, c.requires.caller.tables.1.threads.few, size, same) }
 
 pub returns-clause-told : goal.returns-clause-told
 returns-clause-told c = λ h hart read id.

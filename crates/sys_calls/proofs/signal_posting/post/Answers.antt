@@ -10,10 +10,8 @@ post-requires-clause-held c = signals_held c.args.to.0 c.args.kernel.now c.requi
 
 pub waits_in_vain-requires : goal.waits_in_vain-requires
 waits_in_vain-requires c =
-    let k = c.args.kernel.now in
-    let u = c.args.to.0 in
-    let alike = ap tids c.post.ensures ∙ tids_posted u c.args.sig k.signals ∙ c.requires.signals in
-    record { held = held_as_live u k.threads.threads c.post.new.self alike ∙ c.requires.live }
+    let alike = ap tids c.post.ensures ∙ tids_posted c.args.to.0 c.args.sig c.args.kernel.now.signals ∙ c.requires.signals in
+    record { held = held_as_live c.args.to.0 c.args.kernel.now.threads.threads c.post.new.self alike ∙ c.requires.live }
 
 pub push-requires-clause-not_ready : goal.push-requires-clause-not_ready
 push-requires-clause-not_ready c =

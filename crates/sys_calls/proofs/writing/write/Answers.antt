@@ -21,22 +21,20 @@ readable_one h t at n m b r saved read at-is n-is e d =
 
 pub returns-then-not-readable-clause-answered : goal.returns-then-not-readable-clause-answered
 returns-then-not-readable-clause-answered c = λ h t told read.
-    let k = c.args.kernel.now in
     let len : c.argument-2.result ≡ argument h t 2 = c.argument-2.ensures ∙ argument_is h t c.args.saved.now read.file 2 in
     let here : is_elsewhere h t ≡ false = sym (c.is_elsewhere.ensures h t read.file) ∙ c.if-is_elsewhere.false in
     let cannot = readable_one h t c.argument.result c.argument-2.result c.args.pages.now false c.readable.result c.args.saved.now read c.argument.ensures c.argument-2.ensures c.readable.ensures c.if-not-readable.true in
-    answered_said h t k c.args.pages.now (Err EFAULT) (write h t) told
+    answered_said h t c.args.kernel.now c.args.pages.now (Err EFAULT) (write h t) told
     (cond-false (is_elsewhere h t) _ _ here ∙ spans_unreadable h t (one h t) (some_bytes h t c.argument-2.result len c.if-span-eq0.false) cannot)
 
 pub returns-then-room-eq0-clause-answered : goal.returns-then-room-eq0-clause-answered
 returns-then-room-eq0-clause-answered c = λ h t told read.
-    let k = c.args.kernel.now in
     let len : c.argument-2.result ≡ argument h t 2 = c.argument-2.ensures ∙ argument_is h t c.args.saved.now read.file 2 in
     let here : is_elsewhere h t ≡ false = sym (c.is_elsewhere.ensures h t read.file) ∙ c.if-is_elsewhere.false in
     let can = readable_one h t c.argument.result c.argument-2.result c.args.pages.now true c.readable.result c.args.saved.now read c.argument.ensures c.argument-2.ensures c.readable.ensures c.if-not-readable.false in
     let held = ap (λ (bs : List ℕ). length bs) told.console in
     let full : CONSOLE_ROOM ≤ length h.kernel.console = omega (arith, held) in
-    answered_said h t k c.args.pages.now (Err ENOSPC) (write h t) told
+    answered_said h t c.args.kernel.now c.args.pages.now (Err ENOSPC) (write h t) told
     (cond-false (is_elsewhere h t) _ _ here ∙ spans_full h t (one h t) (some_bytes h t c.argument-2.result len c.if-span-eq0.false) can full)
 
 pub returns-clause-answered : goal.returns-clause-answered

@@ -10,8 +10,6 @@ foreseen_writes-requires c =
 
 pub returns-in-Ok-clause-allowed : goal.returns-in-Ok-clause-allowed
 returns-in-Ok-clause-allowed c e is =
-    let m = c.self.inside in
-    let h = c.args.hart.0 in
-    let at = allowed_place m h c.args.choice e c.self.invariant (rw (← c.self.view_is) at is) in
-    rw (← c.self.view_is) (c.foreseen_writes.ensures (stand_of (seen m)) at.place.at at.free
-    ∙ ap (foreseen_writes c.args.choice) (same_here (seen m) h c.self.invariant.run))
+    let at = allowed_place c.self.inside c.args.hart.0 c.args.choice e c.self.invariant (rw (← c.self.view_is) at is) in
+    rw (← c.self.view_is) (c.foreseen_writes.ensures (stand_of (seen c.self.inside)) at.place.at at.free
+    ∙ ap (foreseen_writes c.args.choice) (same_here (seen c.self.inside) c.args.hart.0 c.self.invariant.run))

@@ -10,8 +10,7 @@ use Rattle.machine_core.proofs.machine.Machine.is_enabled.Goals as goal
 pub exec_gate-requires : goal.exec_gate-requires
 exec_gate-requires c =
     let lt : c.args.hart.0 < c.self.inside.limits.harts = rw (← c.self.view_is) at c.requires.hart in
-    let all = c.self.invariant.tied.all_harts in
-    omega (arith, lt, all)
+    omega (arith, lt, c.self.invariant.tied.all_harts)
 
 pub fault_of_next-fault-requires : goal.fault_of_next-fault-requires
 fault_of_next-fault-requires c = rw c.as_ref-2.ensures.value c.requires.sizes

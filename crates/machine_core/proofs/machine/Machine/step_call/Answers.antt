@@ -57,13 +57,12 @@ invariant_of-self c =
 
 pub returns : goal.returns
 returns c =
-    let m = c.self.inside in
     let call = there (goal.at.returns c).After-seen_if_chosen-seen in
     let step = (made (goal.at.returns c).After-make_call-made call.0 call.1).1 in
     record {
       answer = rw (← c.self.view_is) step.decided;
       log = search rules;
       block_run = rw c.append.ensures.items step.run;
-      written = rw (← c.self.view_is) (c.make_call-made.ensures.written (stand_of (seen m)) call.0.place.at call.1
-          ∙ ap (λ (x : Here). (done_of asked.Exec x).entered) (same_here (seen m) c.args.hart.0 c.self.invariant.run));
+      written = rw (← c.self.view_is) (c.make_call-made.ensures.written (stand_of (seen c.self.inside)) call.0.place.at call.1
+          ∙ ap (λ (x : Here). (done_of asked.Exec x).entered) (same_here (seen c.self.inside) c.args.hart.0 c.self.invariant.run));
     }

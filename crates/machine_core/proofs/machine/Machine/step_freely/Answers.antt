@@ -10,8 +10,7 @@ use Rattle.machine_core.proofs.machine.Machine.step_freely.Goals as goal
 
 pub step_freely_chosen-requires-clause-chosen : goal.step_freely_chosen-requires-clause-chosen
 step_freely_chosen-requires-clause-chosen c =
-    let v = c.args.self.now in
-    chosen_of v.setting v.seed v.log (sym c.if-is_chosen.true ∙ c.is_chosen.ensures)
+    chosen_of c.args.self.now.setting c.args.self.now.seed c.args.self.now.log (sym c.if-is_chosen.true ∙ c.is_chosen.ensures)
 
 pub make_free-requires : goal.make_free-requires
 make_free-requires c =
@@ -19,9 +18,8 @@ make_free-requires c =
 
 pub append-requires : goal.append-requires
 append-requires c =
-    let m = c.self.inside in
-    let room = has_room m (rw (← c.self.view_is) at c.requires.goes) in
-    omega (arith, room, c.self.invariant.room, m.log.ok.0)
+    let room = has_room c.self.inside (rw (← c.self.view_is) at c.requires.goes) in
+    omega (arith, room, c.self.invariant.room, c.self.inside.log.ok.0)
 
 -- how the event was made
 made : (c : In-Some) → IsAfter (stand_of (seen c.self.inside)) c.args.hart.0 (done_of asked.Exec (here_of (seen c.self.inside) c.args.hart.0)) c.self.inside.parts c.make_free.new.self

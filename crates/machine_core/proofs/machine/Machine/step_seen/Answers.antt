@@ -38,9 +38,8 @@ returns-in-Err-clause-answer c =
 
 pub append-requires : goal.append-requires
 append-requires c =
-    let m = c.self.inside in
-    let room = has_room m (rw (← c.self.view_is) at c.requires.goes) in
-    omega (arith, room, c.self.invariant.room, m.log.ok.0)
+    let room = has_room c.self.inside (rw (← c.self.view_is) at c.requires.goes) in
+    omega (arith, room, c.self.invariant.room, c.self.inside.log.ok.0)
 
 pub follow_seen-self-inside-requires-clause-held : goal.follow_seen-self-inside-requires-clause-held
 follow_seen-self-inside-requires-clause-held c =

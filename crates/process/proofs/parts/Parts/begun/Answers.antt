@@ -34,11 +34,10 @@ take_up-requires-clause-ready c =
 
 pub kill-requires-clause-runs : goal.kill-requires-clause-runs
 kill-requires-clause-runs c =
-    let m = c.args.self.now in
     let t = c.args.tid in (
       c.args.hart,
       ap (λ (k : Kernel). state_of t.0 k.threads.threads) c.readied.ensures.kernel ∙ ap (state_of t.0) c.run-saved.ensures.threads
-          ∙ runs_then c.requires.stand m c.args.hart t c.requires.place c.requires.free,
+          ∙ runs_then c.requires.stand c.args.self.now c.args.hart t c.requires.place c.requires.free,
     )
 
 pub returns-then-readied : goal.returns-then-readied
