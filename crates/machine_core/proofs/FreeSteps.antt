@@ -24,9 +24,6 @@ module _ (here : Here) (t : ℕ) where
   abbrev is_local : Bool
   is_local = option_map_or sets_register (next_effect here.setting.program.pages (here.file t)) false
 
-  local_is : is_local ≡ is_local_on here (Some t)
-  local_is = next_local (reached here) (is_storable here) here.setting.program.pages (here.file t)
-
   by_barrier : (waits : Option ℕ) (b : Bool) → is_local ≡ b → (b && true && not (is_some waits)) ≡ (is_none (unless_in_barrier waits gates) && b)
   by_barrier (Some left) true sets = refl
   by_barrier None true sets = rw (free_gates sets) refl
@@ -39,7 +36,7 @@ freely_by here None =
     ap (λ b. b && not (is_some here.awaits)) (and_right (option_map_or sets_register (next_effect here.setting.program.pages (file_on here None)) false) false refl)
 freely_by here (Some t) =
     by_barrier here t here.awaits (is_local here t) refl
-    ∙ ap (λ b. is_none (refusal_exec_by here (Some t)) && b) (local_is here t)
+    ∙ ap (λ b. is_none (refusal_exec_by here (Some t)) && b) (next_local (reached here) (is_storable here) here.setting.program.pages (here.file t))
 
 -- told by the hart's state
 pub freely_read : (here : Here) (x : HartState) (n k credit : ℕ) → x ≡ hart_in here n k credit

@@ -132,10 +132,6 @@ lies_same beside pages kept r w same shared =
     ∙ sym (either_way beside (λ b. not (is_in r (b / 4096))) a))
     w.at w.size)
 
-any_same : (beside : Option Neighbour) (pages kept : PageSpan) (r : PageRun) (ws : List Store) → ((n : ℕ) → has_page pages n ≡ is_in r n)
-    → AreOfSegment beside kept → list_any (lies_outside pages kept) ws ≡ list_any (lies_on beside r) ws
-any_same beside pages kept r ws same shared = ap (λ (test : Store → Bool). list_any test ws) (λ i w. lies_same beside pages kept r w same shared i)
-
 -- the harts' buffers are the plain machine's
 module _ (beside : Option Neighbour) (pages kept : PageSpan) (r : PageRun) (waiting : ℕ → List Store) (xs : List HartState) (some : HartState)
     (same : (n : ℕ) → has_page pages n ≡ is_in r n) (shared : AreOfSegment beside kept) (harts : (k : ℕ) → k < length xs → (get_or xs k some).buffer ≡ waiting k)
@@ -151,7 +147,8 @@ module _ (beside : Option Neighbour) (pages kept : PageSpan) (r : PageRun) (wait
         ap (λ k. list_any waits (take k xs)) (sym more)
         ∙ list_any_more waits xs n some lt
         ∙ or_comm (list_any waits (take n xs)) (waits (get_or xs n some))
-        ∙ ap (λ b. b || list_any waits (take n xs)) (ap (list_any (lies_outside pages kept)) (harts n lt) ∙ any_same beside pages kept r (waiting n) same shared)
+        ∙ ap (λ b. b || list_any waits (take n xs)) (ap (list_any (lies_outside pages kept)) (harts n lt)
+        ∙ ap (λ (test : Store → Bool). list_any test (waiting n)) (λ i w. lies_same beside pages kept r w same shared i))
         ∙ ap (λ b. list_any (lies_on beside r) (waiting n) || b) (first_wait n (omega arith))
 
 -- a hart's buffer

@@ -80,10 +80,7 @@ pub file_other : (here : Here) (t u : ℕ) (o : Outcome) (f : Saved) → u ≢ t
 file_other here t u (comes_to.Aborted at) f other = rw (ne_eqb t u (λ e. other (sym e))) refl
 file_other here t u o f other = refl
 
--- what is kept after it: nothing of a thread that runs, and the file of one that is ready again
-kept_running : (f g : ℕ → Saved) (t : ℕ) (old new : Table) → new.saved ≡ with_saved t None old.saved → ((u : ℕ) → u ≢ t → g u ≡ f u) → AreSaved f old → AreSaved g new
-kept_running f g t old new is same saved = saved_but_one f g t new (none_kept t old new is) same (saved_ran f t old new is saved)
-
+-- what is kept after it of one that is ready again: its file
 kept_again : (f g : ℕ → Saved) (t : ℕ) (y : Saved) (old mid new : Table) → mid.saved ≡ with_saved t None old.saved → new.saved ≡ with_saved t (Some y) mid.saved → y ≡ g t
     → ((u : ℕ) → u ≢ t → g u ≡ f u) → AreSaved f old → AreSaved g new
 kept_again f g t y old mid new was is own same saved u x at = elim (cases_eq u t) [
@@ -172,7 +169,8 @@ module _ (v : Stand) (m : Parts) (h : Hart) (t : Tid) (place : IsPlace v m h.0) 
             order (without_ready t.0 p.kernel.scheduling) (taken ∙ ap (without_ready t.0) place.tied.tables.scheduling)) (with_id t.0 p.kernel.ids));
         ids = λ k u ne runs. id_with_other t.0 u p.kernel.ids (ready_apart v.setting.limits.harts k t.0 u p.kernel.threads p.kernel.scheduling tables ready runs);
         table = rw kernel table;
-        saved = rw kernel (kept_running p.file (λ u. file_among d.files u (p.file u)) t.0 m.kernel.threads file saved (λ u other. file_other here t.0 u comes (p.file u) other) place.tied.saved);
+        saved = rw kernel (saved_but_one p.file (λ u. file_among d.files u (p.file u)) t.0 file (none_kept t.0 m.kernel.threads file saved) (λ u other. file_other here t.0 u comes (p.file u) other)
+            (saved_ran p.file t.0 m.kernel.threads file saved place.tied.saved));
         ended = ended ∙ goes_on v m h.0 (ran t.0 h.0 p.kernel) place (not_stuck t.0 (Running h) p.kernel.threads refl (ready_live t.0 p.kernel.threads ready));
       })
 

@@ -1,10 +1,10 @@
 -- Signals at a place: they are kept of the thread on a hart, a fault's signal is one of 31, and which faults have handlers.
-use Rattle.process.proofs.Common.{live_in, ◌≡◌, ℕ, ◌≤◌, ◌<◌, List, sym, ap, ◌∙◌, arith, Bool, true, false, not, cond, eqb, ◌&&◌, ◌||◌, Option, Some, None, get_or, subst, ◌%◌, option_map, Entry, Effect, Hart, HartState, ImagePage, IsPlace, IsPlanned, IsTied, Next, Parts, Running, Saved, Stand, entry_from, here_at, runs, thread, Kind, Action, SIGSEGV, Signalling, action_of, is_handler, is_ignored, is_ignored_by_default, with_pending, fault_in, fault_by, fetched, is_storable, reached, running_is, SIGBUS, atomic_write, conditional_write, plain_read, plain_write, reserving_read, access_fault, is_allowed, unless_allowed, HasSignals}
+use Rattle.process.proofs.Common.{live_in, ◌≡◌, ℕ, ◌≤◌, ◌<◌, sym, ap, ◌∙◌, arith, Bool, true, false, not, cond, eqb, ◌&&◌, ◌||◌, Option, Some, None, get_or, subst, ◌%◌, option_map, Entry, Effect, Hart, HartState, IsPlace, IsPlanned, IsTied, Next, Parts, Running, Stand, entry_from, here_at, runs, thread, Kind, Action, SIGSEGV, Signalling, action_of, is_handler, is_ignored, is_ignored_by_default, with_pending, fault_in, fault_by, fetched, is_storable, reached, running_is, SIGBUS, atomic_write, conditional_write, plain_read, plain_write, reserving_read, access_fault, is_allowed, unless_allowed, HasSignals}
 use Rattle.sys_calls.proofs.ThreadSignals.{held_as_live}
 use Rattle.mach_types.specs.Kernel.Signals.{is_held, posted}
 use Rattle.rv_inst.specs.declared.class.Access.{Access}
 use Rattle.rv_inst.specs.declared.effects.Effect.TheVariants as effect
-use Rattle.block_model.specs.Instruction.{fetch_fault, next_effect, next_fault}
+use Rattle.block_model.specs.Instruction.{fetch_fault, next_effect}
 use Rattle.block_model.specs.Standing.{IsStanding}
 use Rattle.process.proofs.HartStates.{hart_there}
 use Rattle.process.proofs.Places.{hart_is, thread_is}
@@ -84,12 +84,10 @@ of_next byte can_write pc word None = of_fetch pc word
 of_next byte can_write pc word (Some e) = of_effect byte can_write e
 
 -- the signal of a fault
-fault_is_signal : (pages : List ImagePage) (byte : ℕ → Option ℕ) (can_write : ℕ → Bool) (f : Saved) (o : Option ℕ) → o ≡ next_fault pages byte can_write f → IsSignal o
-fault_is_signal pages byte can_write f o is = subst IsSignal (sym is) (of_next byte can_write f.pc (fetched pages f.pc) (next_effect pages f))
-
 pub planned_fault : (v : Stand) (h : ℕ) (next : Next) → IsPlanned v h next → IsSignal next.fault
 planned_fault v h next plan =
-    fault_is_signal v.setting.program.pages (reached (here_at v h)) (is_storable (here_at v h)) ((here_at v h).file plan.thread) next.fault plan.fault
+    let f = (here_at v h).file plan.thread in
+    subst IsSignal (sym plan.fault) (of_next (reached (here_at v h)) (is_storable (here_at v h)) f.pc (fetched v.setting.program.pages f.pc) (next_effect v.setting.program.pages f))
 
 -- HANDLERS
 

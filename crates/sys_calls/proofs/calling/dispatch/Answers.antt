@@ -74,10 +74,9 @@ returns-in-283-clause-made c = λ h at.
 
 pub returns-in-283-clause-told : goal.returns-in-283-clause-told
 returns-in-283-clause-told c = λ h at.
-    let t = c.args.caller.tid.0 in
     let alone = alone_by h c.args.caller.tid.0 at.file c.call_number.ensures c.in-283.is at.own (λ others. others.0) in
-    told_numbered h t at.file c.call_number.ensures c.in-283.is
-    (c.requires.fresh ∙ sym (silent_membarrier h t) ∙ ap (λ o. (barrier_call o h t).entered) (sym alone))
+    told_numbered h c.args.caller.tid.0 at.file c.call_number.ensures c.in-283.is
+    (c.requires.fresh ∙ sym (silent_membarrier h c.args.caller.tid.0) ∙ ap (λ o. (barrier_call o h c.args.caller.tid.0).entered) (sym alone))
 
 pub returns-in-293-clause-made : goal.returns-in-293-clause-made
 returns-in-293-clause-made c = λ h at.

@@ -16,10 +16,6 @@ clears_is : (h : Here) (m : Map) (t at : ℕ) (r : Bool) (saved : Saved) → IsR
 clears_is h m t at r saved read is e =
     e ∙ ap (λ (b : Bool). not (eqb at 0) && b) (writable_at h m t saved read at at 4 refl) ∙ ap (λ (a : ℕ). not (eqb a 0) && are_writable h a 4) is
 
-cleared_by : (h : Here) (t at : ℕ) (r : Bool) (ws : List Write) → at ≡ clear_of t h.kernel.threads → r ≡ clears h t → ws ≡ cond r (word_written at 0 ∷ []) [] → ws ≡ clearing h t
-cleared_by h t at r ws is clear e =
-    e ∙ ap (λ (b : Bool). cond b (word_written at 0 ∷ []) []) clear ∙ ap (λ (a : ℕ). cond (clears h t) (word_written a 0 ∷ []) []) is
-
 -- whether the thread is the last one
 last_is : (h : Here) (k : Kernel) (n : ℕ) (b : Bool) → HoldsTables k h.kernel → n ≡ length k.threads.threads.live → leb n 1 ≡ b → is_last h ≡ b
 last_is h k n b told is e = ap (λ (ts : Threads). leb (length ts.live) 1) (sym told.threads) ∙ ap (λ (x : ℕ). leb x 1) (sym is) ∙ e
@@ -56,8 +52,9 @@ word_is c h told = c.clear_at-at.ensures ∙ ap (clear_of c.args.tid.0) told.thr
 writes_are : (c : After-clear_word-is_cleared) (h : Here) → HoldsTables c.args.kernel.now h.kernel → IsRead h c.args.pages.now c.args.tid.0 c.args.saved.now
     → c.clear_word-is_cleared.new.written.items ≡ clearing h c.args.tid.0
 writes_are c h told read =
-    cleared_by h c.args.tid.0 c.clear_at-at.result c.clear_word-is_cleared.result c.clear_word-is_cleared.new.written.items (word_is c h told)
-    (clears_is h c.args.pages.now c.args.tid.0 c.clear_at-at.result c.clear_word-is_cleared.result c.args.saved.now read (word_is c h told) c.clear_word-is_cleared.ensures.clears) c.clear_word-is_cleared.ensures.told
+    c.clear_word-is_cleared.ensures.told ∙ ap (λ (b : Bool). cond b (word_written c.clear_at-at.result 0 ∷ []) [])
+    (clears_is h c.args.pages.now c.args.tid.0 c.clear_at-at.result c.clear_word-is_cleared.result c.args.saved.now read (word_is c h told) c.clear_word-is_cleared.ensures.clears)
+    ∙ ap (λ (a : ℕ). cond (clears h c.args.tid.0) (word_written a 0 ∷ []) []) (word_is c h told)
 
 pub clear_at-at-requires : goal.clear_at-at-requires
 clear_at-at-requires c = caller_lives c.args.kernel.now c.args.here.0 c.args.tid.0 c.requires.caller

@@ -29,15 +29,13 @@ returns-then-not-write_words-clause-made c = λ h hart told has read id.
     let m = c.args.pages.now in
     let t = c.args.tid.0 in
     let k = c.args.kernel.now in
-    let area = c.args.area in
     let m' = c.write_words.new.pages in
-    let saved = c.args.saved.now in
     let cannot = can_is (goal.at.returns-then-not-write_words-clause-made c).After-write_words h read ∙ c.if-not-write_words.true in
     let none : c.write_words.new.written.items ≡ [] =
-    c.write_words.ensures.told ∙ ap (λ (b : Bool). words_entered b area (words_on c.from-hart.result c.from.result)) c.if-not-write_words.true in
-    let made = made_ended h t c.args.here.0 k m m' saved c.write_words.new.written.items [] (Killed SIGSEGV) (Killed SIGSEGV) hart told read.file
+    c.write_words.ensures.told ∙ ap (λ (b : Bool). words_entered b c.args.area (words_on c.from-hart.result c.from.result)) c.if-not-write_words.true in
+    let made = made_ended h t c.args.here.0 k m m' c.args.saved.now c.write_words.new.written.items [] (Killed SIGSEGV) (Killed SIGSEGV) hart told read.file
     c.requires.caller has c.write_words.ensures.entered none refl in
-    subst (λ (d : CallDone). IsMade h t k m k m' saved (over.ProcessEnd (Killed SIGSEGV)) d) (sym (registers_killed h t area cannot)) made
+    subst (λ (d : CallDone). IsMade h t k m k m' c.args.saved.now (over.ProcessEnd (Killed SIGSEGV)) d) (sym (registers_killed h t c.args.area cannot)) made
 
 pub add_area-requires : goal.add_area-requires
 add_area-requires c =

@@ -9,7 +9,6 @@ foreseen-requires c =
 
 pub returns-in-Ok-clause-allowed : goal.returns-in-Ok-clause-allowed
 returns-in-Ok-clause-allowed c e is =
-    let m = c.self.inside in
-    let at = allowed_place m c.args.hart.0 c.args.choice e c.self.invariant (rw (← c.self.view_is) at is) in
-    rw (← c.self.view_is) (c.foreseen.ensures (stand_of (seen m)) at.place.at at.free
-    ∙ ap (λ (x : Here). (done_of c.args.choice x).interrupted) (same_here (seen m) c.args.hart.0 c.self.invariant.run))
+    let at = allowed_place c.self.inside c.args.hart.0 c.args.choice e c.self.invariant (rw (← c.self.view_is) at is) in
+    rw (← c.self.view_is) (c.foreseen.ensures (stand_of (seen c.self.inside)) at.place.at at.free
+    ∙ ap (λ (x : Here). (done_of c.args.choice x).interrupted) (same_here (seen c.self.inside) c.args.hart.0 c.self.invariant.run))

@@ -59,11 +59,10 @@ pub returns-else-readied : goal.returns-else-readied
 returns-else-readied c v place free =
     let m = c.args.self.now in
     let m1 = c.readied.new.self in
-    let m2 = c.kill.new.self in
     let is = subst (λ b. IsReadied (here_at v c.args.hart.0) c.args.tid.0 b c.readied.new.saved m m1) c.if-readied.false (is_readied (goal.at.returns-else-readied c).After-readied v place free) in
     let threads : m1.kernel.threads ≡ c.run-saved.new.self = ap (λ (k : Kernel). k.threads) c.readied.ensures.kernel in
-    begun_killed v m c.args.hart c.args.tid place free m1 m2 c.readied.new.saved m1.kernel.threads is c.kill.ensures.harts c.kill.ensures.pages
+    begun_killed v m c.args.hart c.args.tid place free m1 c.kill.new.self c.readied.new.saved m1.kernel.threads is c.kill.ensures.harts c.kill.ensures.pages
     (ap (λ (x : Table). x.threads) threads ∙ c.run-saved.ensures.threads) (ap (λ (x : Table). x.saved) threads ∙ c.run-saved.ensures.saved)
     c.kill.ensures.threads c.kill.ensures.saved c.kill.ensures.table
-    (c.kill.ensures.others ∙ ap (λ (k : Kernel). record k { threads = m2.kernel.threads }) c.readied.ensures.kernel)
+    (c.kill.ensures.others ∙ ap (λ (k : Kernel). record k { threads = c.kill.new.self.kernel.threads }) c.readied.ensures.kernel)
     c.kill.ensures.ended

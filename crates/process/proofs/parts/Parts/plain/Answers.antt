@@ -17,8 +17,7 @@ execute-made-requires-clause-no_fault c =
 
 pub overflow_add-state : goal.overflow_add-state
 overflow_add-state c =
-    let plan = c.requires.plan in
-    let few = ran_fits plan.stand c.args.self.now c.args.hart.0 c.index_mut-state.result.now plan.place c.index_mut-state.ensures.value in
+    let few = ran_fits c.requires.plan.stand c.args.self.now c.args.hart.0 c.index_mut-state.result.now c.requires.plan.place c.index_mut-state.ensures.value in
     let same : c.execute-made.new.self.ran ≡ c.index_mut-state.result.now.ran = ap (λ (z : HartState). z.ran) c.execute-made.ensures.hart in omega (arith, few, same)
 
 pub returns : goal.returns
