@@ -1,15 +1,9 @@
 -- A hart goes freely where a thread runs that waits in no barrier, and its next instruction sets a register and does nothing else.
-use Rattle.machine_core.proofs.Common.{and_right, ◌≡◌, ℕ, ◌&&◌, length, sym, ap, ◌∙◌, refl, not, Bool, true, false, is_none, is_some, Option, Some, None, Why, option_map, option_map_or, option_or, HartState, Here, runs, sets_register, thread, instruction_gate, Effect, is_held, effect_at, fault_at, others_gate, refusal_exec_by, unless_in_barrier, is_storable, reached, waiting_here, fault_by, fetched, next_effect, is_local_on, file_of, file_on, hart_in, gate_of_free, no_fault_of_free, others_of_free}
+use Rattle.machine_core.proofs.Common.{and_right, ◌≡◌, ℕ, ◌&&◌, length, sym, ap, ◌∙◌, refl, not, Bool, true, false, is_none, is_some, Option, Some, None, Why, option_map, option_map_or, option_or, HartState, Here, runs, sets_register, thread, instruction_gate, is_held, effect_at, fault_at, others_gate, refusal_exec_by, unless_in_barrier, is_storable, reached, waiting_here, fetched, next_effect, is_local_on, file_of, file_on, hart_in, gate_of_free, no_fault_of_free, others_of_free}
 use Rattle.machine_core.specs.Free.{goes_freely}
 use Rattle.machine_core.proofs.Sights.{next_local}
 
--- it makes no fault, and so no gate holds it up
-gate_is_open : (waiting : ℕ) (byte : ℕ → Option ℕ) (writable : ℕ → Bool) (pc : ℕ) (word : Option ℕ) (o : Option Effect)
-    → option_map_or sets_register o false ≡ true → instruction_gate waiting o (is_some (fault_by byte writable pc word o)) ≡ None
-gate_is_open waiting byte writable pc word o sets =
-    ap (λ f. instruction_gate waiting o (is_some f)) (sym (no_fault_of_free byte writable pc word o sets)) ∙ gate_of_free waiting o sets
-
--- of a thread
+-- of a thread: the instruction makes no fault, and so no gate holds it up
 module _ (here : Here) (t : ℕ) where
   abbrev pub gates : Option Why
   gates =
@@ -17,8 +11,10 @@ module _ (here : Here) (t : ℕ) where
 
   pub free_gates : option_map_or sets_register (effect_at here t) false ≡ true → gates ≡ None
   free_gates sets =
+      let no_fault : None ≡ fault_at here t =
+      no_fault_of_free (reached here) (is_storable here) (here.file t).pc (fetched here.setting.program.pages (here.file t).pc) (effect_at here t) sets in
       ap (λ g. option_or g (others_gate (is_held here t) (effect_at here t)))
-      (gate_is_open (length (waiting_here here)) (reached here) (is_storable here) (here.file t).pc (fetched here.setting.program.pages (here.file t).pc) (effect_at here t) sets)
+      (ap (λ f. instruction_gate (length (waiting_here here)) (effect_at here t) (is_some f)) (sym no_fault) ∙ gate_of_free (length (waiting_here here)) (effect_at here t) sets)
       ∙ sym (others_of_free (is_held here t) (effect_at here t) sets)
 
   abbrev is_local : Bool

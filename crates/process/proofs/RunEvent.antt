@@ -26,9 +26,6 @@ all_other t st (x ∷ xs) other = rw (ne_eqb x.tid t (other 0 (omega arith))) (a
 was_ready : (x : Thread) (rest : Option ThreadState) → option_map (λ (th : Thread). th.state) (Some x) ≡ Some Ready → x.state ≡ Ready
 was_ready x rest is = cc
 
-ready_again : (x : Thread) (h : Hart) → x.state ≡ Ready → record (record x { state = Running h }) { state = Ready } ≡ x
-ready_again x h is = ap (λ st. let y : Thread = record x { state = st } in y) (sym is)
-
 put_back_list : (t : ℕ) (h : Hart) (xs : List Thread) → AreRising xs → option_map (λ (th : Thread). th.state) (find (is_thread t) xs) ≡ Some Ready
     → map (state_if t Ready) (map (state_if t (Running h)) xs) ≡ xs
 put_back_list t h [] up is = refl
@@ -45,7 +42,7 @@ put_back_list t h (x ∷ xs) up is = go (is_thread t x) refl is (put_back_list t
         let same = all_other t (Running h) xs (others first) in
         let again = all_other t Ready xs (others first) in
         let tail : map (state_if t Ready) (map (state_if t (Running h)) xs) ≡ xs = ap (map (state_if t Ready)) same ∙ again in
-        rw (at, at) (ap (λ y. y ∷ map (state_if t Ready) (map (state_if t (Running h)) xs)) (ready_again x h (was_ready x None found)) ∙ ap (λ ys. x ∷ ys) tail)
+        rw (at, at) (ap (λ y. y ∷ map (state_if t Ready) (map (state_if t (Running h)) xs)) (ap (λ st. let y : Thread = record x { state = st } in y) (sym (was_ready x None found))) ∙ ap (λ ys. x ∷ ys) tail)
     go false at found rest = rw (at, at) (ap (λ ys. x ∷ ys) (rest found))
 
 pub put_back : (t : ℕ) (h : Hart) (ts : Threads) → IsStrictlyIncreasing (numbers ts.live) → state_of t ts ≡ Some Ready → with_state t Ready (with_state t (Running h) ts) ≡ ts

@@ -141,7 +141,6 @@ module _ (v : Stand) (m : Parts) (h : Hart) (place : IsPlace v m h.0) (free : re
       → e ≡ option_and_then killed_by came → counted (taken_with came own_hart) ≡ own_after v.setting v.plain h.0 (done_so here files ws comes e) (credit_of m.harts.items h.0)
       → AreSaved (λ u. file_among files u (v.plain.file u)) m.kernel.threads → IsUncounted v h.0 (done_of asked.Take here) m m2
   event_so files ws comes came e m1 m2 same is over own kept =
-      let p = v.plain in
       let d = done_so here files ws comes e in
       let its : (done_take here).entered ≡ ws = ap (λ (z : Done). z.entered) same in
       let wrote : IsWritten ws m.pages m2.pages =
@@ -150,13 +149,13 @@ module _ (v : Stand) (m : Parts) (h : Hart) (place : IsPlace v m h.0) (free : re
         own = own;
         harts = take_beside here h.0 files ws comes came e m.harts.items m1.harts.items m2.harts.items own_hart (place.tied.harts h.0 place.lt)
             (λ k. is.restarted.harts k ∙ ap (λ vs. option_map (lost_unless (eqb k h.0) vs) (slice_get m.harts.items k)) its) is.harts;
-        pages = pages_written p.kernel.pages v.setting.program.break_at p.byte ws m.pages m2.pages place.tied.pages wrote;
+        pages = pages_written v.plain.kernel.pages v.setting.program.break_at v.plain.byte ws m.pages m2.pages place.tied.pages wrote;
         readable = readable_written ws m.pages m2.pages place.tied.readable wrote;
         tables = rw is.same_kernel place.tied.tables;
         ids = λ k u ne runs. refl;
         table = rw is.same_kernel place.tied.table;
         saved = rw is.same_kernel kept;
-        ended = is.ended ∙ ap (λ o. option_or o m.ended) (sym over) ∙ ap (option_or e) (goes_on v m h.0 p.kernel place (was_not_stuck v m h.0 place));
+        ended = is.ended ∙ ap (λ o. option_or o m.ended) (sym over) ∙ ap (option_or e) (goes_on v m h.0 v.plain.kernel place (was_not_stuck v m h.0 place));
       })
 
   by_outcome : (r : Option ℕ) (came : Option Outcome) (m1 m2 : Parts) → runs here ≡ r → done_of asked.Take here ≡ done_with here r came → came ≡ restart_here here

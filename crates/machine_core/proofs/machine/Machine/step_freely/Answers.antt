@@ -34,12 +34,11 @@ made c =
 pub invariant_of-self : goal.invariant_of-self
 invariant_of-self c =
     let m = c.self.inside in
-    let p = c.make_free.new.self in
     let is = made (goal.at.invariant_of-self c).In-Some in
     let apart : all_chosen (setting_of m) m.seed (past_of m) ≡ false = rw (← c.self.view_is) at (sym c.is_chosen.ensures ∙ c.if-is_chosen.false) in
-    machine_next m c.args.hart asked.Exec c.in-Some.entry p p.harts _ _ _ None c.self.invariant
+    machine_next m c.args.hart asked.Exec c.in-Some.entry c.make_free.new.self c.make_free.new.self.harts _ _ _ None c.self.invariant
     (rw (← c.self.view_is) at c.requires.goes) (rw (← c.self.view_is) at c.requires.hart) is.1 is.0.credits (rw apart refl)
-    (λ k. mapped_itself (slice_get p.harts.items k)) refl (c.self.invariant.chosen ∙ apart) c.append.ensures.items c.append.ensures.capacity
+    (λ k. mapped_itself (slice_get c.make_free.new.self.harts.items k)) refl (c.self.invariant.chosen ∙ apart) c.append.ensures.items c.append.ensures.capacity
 
 pub returns-in-Some : goal.returns-in-Some
 returns-in-Some c =
