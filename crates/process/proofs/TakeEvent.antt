@@ -1,5 +1,5 @@
 -- The event take: what the interruption of the hart's thread comes to, if it is to restart, and the parts after it.
-use Rattle.process.proofs.Common.{◌≡◌, ◌≢◌, ℕ, List, [], append-nil, refl, sym, ap, ◌∙◌, subst, Bool, true, false, cond, eqb, eq-eqb, Option, Some, None, slice_get, set, ne_eqb, option_and_then, option_map, option_or, interruption, pc_after, writes_of, AreSaved, Area, Done, End, Hart, HartState, Here, IsPlace, IsUncounted, IsWritten, Map, Outcome, Parts, Plain, Saved, Setting, Stand, Write, area_here, byte_in, can_write_in, counted, credit_of, done_of, file_among, files_interrupted, hart_at, hart_in, here_at, here_in_plain, interruption_here, is_writable, lost_unless, memory, refusal_of, runs, unless_waiting, done_take, done_take_by, killed_by, ended_by, NoRequest, only_took, took_and_interrupted, IsRestarted, noticed, restart_here, taken_or_noticed, taken_with, add-zero}
+use Rattle.process.proofs.Common.{cond_both, ◌≡◌, ◌≢◌, ℕ, List, [], append-nil, refl, sym, ap, ◌∙◌, subst, Bool, true, false, cond, eqb, eq-eqb, Option, Some, None, slice_get, set, ne_eqb, option_and_then, option_map, option_or, interruption, pc_after, writes_of, AreSaved, Area, Done, End, Hart, HartState, Here, IsPlace, IsUncounted, IsWritten, Map, Outcome, Parts, Plain, Saved, Setting, Stand, Write, area_here, byte_in, can_write_in, counted, credit_of, done_of, file_among, files_interrupted, hart_at, hart_in, here_at, here_in_plain, interruption_here, is_writable, lost_unless, memory, refusal_of, runs, unless_waiting, done_take, done_take_by, killed_by, ended_by, NoRequest, only_took, took_and_interrupted, IsRestarted, noticed, restart_here, taken_or_noticed, taken_with, add-zero}
 use Rattle.mach_types.specs.declared.events.Choice.TheVariants as asked
 use Rattle.process.proofs.Entries.{uncounted_as}
 use Rattle.process.proofs.Events.{AreBeside, lost_nothing}
@@ -54,11 +54,8 @@ pub not_asked : (here : Here) → here.restart ≡ false → restart_here here �
 not_asked here lacks = ap (λ b. cond b (option_map (interruption_here here) (runs here)) None) lacks
 
 pub none_runs : (here : Here) → runs here ≡ None → restart_here here ≡ None
-none_runs here none = ap (λ r. cond here.restart (option_map (interruption_here here) r) None) none ∙ either here.restart
-  where
-    either : (b : Bool) → cond b (option_map (interruption_here here) None) None ≡ None
-    either true = refl
-    either false = refl
+none_runs here none =
+    ap (λ r. cond here.restart (option_map (interruption_here here) r) None) none ∙ cond_both here.restart (option_map (interruption_here here) None) None (λ z. z ≡ None) (λ _. refl) (λ _. refl)
 
 -- its thread t is
 pub restarted : (here : Here) (t : ℕ) (o : Outcome) (area : Option Area) (pc : ℕ) (m m' : Parts) → here.restart ≡ true → runs here ≡ Some t
