@@ -130,7 +130,7 @@ pub machine_next : (m : Inside) (h : Hart) (c : Choice) (e : Entry) (p : Parts) 
     → IsMachine (record m { parts = record p { harts = harts }; log = log; chooser = words; chosen = all })
 machine_next m h c e p harts log words all sight machine goes lt step credits sees follows of_words of_all items room =
     let p' : Parts = record p { harts = harts } in
-    let seen : sight ≡ seen_if m.chosen (setting_of m) m.seed h.0 (past_of m) = sees ∙ ap (λ b. seen_if b (setting_of m) m.seed h.0 (past_of m)) (sym machine.chosen) in
-    let is = settled_next (setting_of m) m.seed m.log.items m.parts m.chooser m.chosen h c e p p' sight (machine_settled m machine) machine.limits goes lt step credits seen follows refl refl refl in
+    let saw : sight ≡ seen_if m.chosen (setting_of m) m.seed h.0 (past_of m) = sees ∙ ap (λ b. seen_if b (setting_of m) m.seed h.0 (past_of m)) (sym machine.chosen) in
+    let is = settled_next (setting_of m) m.seed m.log.items m.parts m.chooser m.chosen h c e p p' sight (machine_settled m machine) machine.limits goes lt step credits saw follows refl refl refl in
     let set = subst (λ (x : List Generator × Bool). IsSettled (setting_of m) m.seed (m.log.items ++ e ∷ []) p' x.0 x.1) (λ i. (sym of_words i, sym of_all i)) is in
     machine_so _ (m.log.items ++ e ∷ []) items step.run set machine.limits (omega (arith, machine.room, room))

@@ -53,8 +53,8 @@ pub finish_call-requires : goal.finish_call-requires
 finish_call-requires c =
     let at = goal.at.finish_call-requires c in
     let is = c.requires.plan in
-    let calls = is_calling at.After-entry_of-entry is.stand is.place is.plan in
-    record { stand = is.stand; before = c.args.self.now; done = _; called = is_called at.After-as_slice is.stand is.place is.plan calls }
+    let its = is_called at.After-as_slice is.stand is.place is.plan (is_calling at.After-entry_of-entry is.stand is.place is.plan) in
+    record { stand = is.stand; before = c.args.self.now; done = called (here_at is.stand c.args.hart.0) c.entry_of-entry.result.tid.0; called = its }
 
 pub returns-clause-made : goal.returns-clause-made
 returns-clause-made c v place plan =
