@@ -1,5 +1,5 @@
 -- The step that a free instruction comes to is the next of its thread.
-use Rattle.std.proofs.Common.{◌≡◌, sym, ◌∙◌}
+use Rattle.std.proofs.Common.{sym}
 use Rattle.block_model.specs.Instruction.{next_effect}
 use Rattle.process.proofs.Common.{IsAlone, IsNextStep, IsPlace, Stand, byte_in, can_write_in, file_of}
 use Rattle.process.proofs.FreeInstructions.{free_tells}
