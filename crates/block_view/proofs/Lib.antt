@@ -8,8 +8,11 @@ mod Edits
 mod Endings
 mod Entering
 mod Extents
+mod FollowedLogs
+mod GoneActs
 mod Growing
 mod HangingPlaces
+mod IdleLedgers
 mod Indices
 mod Interruptions
 pub mod Laws

@@ -2,6 +2,7 @@ pub mod Acts
 pub mod Counters
 pub mod Counting
 pub mod Entries
+pub mod Following
 pub mod Forms
 pub mod Ledgers
 pub mod Passing

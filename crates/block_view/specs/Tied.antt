@@ -1,6 +1,5 @@
 -- How a ledger is tied to a place of a log: it keeps the acts as they stand there.
 use Rattle.std.specs.Prelude.{ℕ, ◌≡◌, List, length, map, slice_get, nat_lt, if◌then◌else◌, Some, None}
-use Rattle.mach_types.specs.declared.events.Entry.{Entry}
 use Rattle.mach_types.specs.declared.events.Tid.{Tid}
 use Rattle.block_model.specs.Acts.{Sequence as Known, end_so_far, has_died, moved_out, sequence_on}
 use Rattle.block_model.specs.Deciding.{history}
@@ -8,14 +7,12 @@ use Rattle.block_model.specs.History.{History}
 use Rattle.block_model.specs.Setting.{Seen, Setting}
 use Rattle.block_view.specs.Acts.{act_of}
 use Rattle.block_view.specs.Ledgers.{Kept, going_on, hanging_of}
-use Rattle.block_view.specs.Passing.{IsMadeAgain}
 use Rattle.block_view.specs.Standing.{Standing, listed, standings, unended}
 use Rattle.block_view.specs.Standing.Standing.{Over, Going, Hanging}
 use Rattle.block_view.specs.declared.course.Course.{Course}
 use Rattle.block_view.specs.declared.forms.Act.{Act}
 use Rattle.block_view.specs.declared.ledger.Going.{Going as KeptGoing}
 use Rattle.block_view.specs.declared.ledger.Hanging.{Hanging as KeptHanging}
-use Rattle.block_view.specs.declared.passing.Passed.{Passed}
 
 -- an act stands so at a place among others
 abbrev pub StandsAt : List Standing → ℕ → Standing → Type 0
@@ -60,11 +57,3 @@ closed_if s all below (Hanging q) = unended q
 -- a ledger is tied to the log of a machine
 abbrev pub IsOfLog : Seen → Kept → Type 0
 IsOfLog m k = IsTied m.setting (history m.setting m.log) k
-
--- a machine made one entry more, of which this is seen, where a ledger is tied to the log before it
-pub record HasNext (k : Kept) (passed : Passed) : Type 0 where
-  pub earlier : Seen
-  pub now : Seen
-  pub entry : Entry
-  pub tied : IsOfLog earlier k
-  pub made : IsMadeAgain earlier now entry passed

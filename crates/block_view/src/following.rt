@@ -7,9 +7,9 @@ ghost use Rattle.block_model.specs.Deciding.{event, history};
 ghost use Rattle.block_model.specs.Run.{IsBlockRun};
 ghost use Rattle.block_model.specs.Setting.{Seen};
 ghost use Rattle.block_view.specs.Counters.{AreCounts, HasNextCounted, IsCountOf, kept_counts};
+ghost use Rattle.block_view.specs.Following.{HasNextFollowed, IsFollowing};
 ghost use Rattle.block_view.specs.Ledgers.{kept_in};
 ghost use Rattle.block_view.specs.Passing.{IsMadeAgain};
-ghost use Rattle.block_view.specs.Tied.{HasNext, IsOfLog};
 ghost use Rattle.block_view.specs.Turns.{acts_left_open, turns};
 
 use crate::counter::Counter;
@@ -27,29 +27,35 @@ impl Ledger {
     /// That of the log of a machine with so many harts that has made no entry. It errs only for want of memory.
     pub fn new(alloc: Global, harts: u8) -> Result<Ledger, AllocError>
         ensures { (m : Seen) → m.setting.limits.harts ≡ harts → m.log ≡ []
-            → IfOk result (λ ledger. IsOfLog m (kept_in ledger)) }
+            → IfOk result (λ ledger. IsFollowing m (kept_in ledger)) }
     {
         Ledger::empty(alloc, harts)
     }
 
     /// Takes one entry more that a machine has made, of which this is seen, and answers what it makes of the sequences: at most one begins
-    /// or ends. The ledger must be tied to the machine's log before the entry; then it is tied to that after it.
+    /// or ends. The ledger must follow the machine's log before the entry; then it follows that after it. It lets go of acts that no
+    /// sequence needs any more, so it takes no memory in proportion to the log.
     ///
     /// It errs only for want of memory.
     pub fn follow(&mut self, passed: &Passed) -> Result<Option<Turn>, AllocError>
-        requires { HasNext (kept_in self.old) passed.now }
-        ensures tied { (m m' : Seen) (entry : Entry) → IsOfLog m (kept_in self.old)
-            → IsMadeAgain m m' entry passed.now → OnOk result (IsOfLog m' (kept_in self.new)) }
-        ensures turn { (m m' : Seen) (entry : Entry) → IsOfLog m (kept_in self.old)
+        requires { HasNextFollowed (kept_in self.old) passed.now }
+        ensures follows { (m m' : Seen) (entry : Entry) → IsFollowing m (kept_in self.old)
+            → IsMadeAgain m m' entry passed.now → OnOk result (IsFollowing m' (kept_in self.new)) }
+        ensures turn { (m m' : Seen) (entry : Entry) → IsFollowing m (kept_in self.old)
             → IsMadeAgain m m' entry passed.now
             → IfOk result (λ turn. let before = history m.setting m.log in
             option_to_list turn ≡ turns m.setting (event m.setting before entry) before) }
     {
-        self.note(passed)
+        if self.passes_by(passed) {
+            return Ok(None);
+        }
+        let turn = self.note(passed)?;
+        self.let_go();
+        Ok(turn)
     }
 
     /// The sequences that no entry of the log of a machine with so many harts has ended, in the order of their first entries, each with the
-    /// way that it ended where the log does. The ledger must be tied to the log.
+    /// way that it ended where the log does. The ledger must follow the log.
     ///
     /// It errs only for want of memory.
     pub fn ends(
@@ -59,7 +65,7 @@ impl Ledger {
         harts: u8,
     ) -> Result<Vec<Act>, AllocError>
         requires harts { harts ≡ machine.now.setting.limits.harts }
-        requires tied { IsOfLog machine.now (kept_in self) }
+        requires follows { IsFollowing machine.now (kept_in self) }
         ensures { IfOk result (λ acts. acts.items
             ≡ acts_left_open machine.now.setting (history machine.now.setting machine.now.log)) }
     {

@@ -1,8 +1,10 @@
 //! The acts so far, while a log is gone through.
 
-ghost use Rattle.std.specs.Prelude.{◌≡◌, ◌<◌, ◌++◌, IfOk, OnOk, Some, length};
+ghost use Rattle.std.specs.Prelude.{◌≡◌, ◌<◌, ◌++◌, [], false, IfOk, IsTrue, OnOk, Some, is_none, length};
+ghost use Rattle.std.specs.List.{list_all};
 ghost use Rattle.std.specs.Option.{option_map};
-ghost use Rattle.block_view.specs.Ledgers.{HasPlaces, act_by, begun, closed, ended_at, going_on, gone_on, hanging_of, hung_or_ended, is_open, is_place, kept_in, noted, nothing_kept, open_from, open_one, settled, settled_act, stopped, stopped_act, taken_in, turn_noted, with_act, with_end_at, with_hanging, without_hanging};
+ghost use Rattle.block_view.specs.Ledgers.{HasPlaces, act_by, begins, begun, closed, ended_at, going_on, gone_on, hanging_of, hung_or_ended, is_open, is_place, kept_in, noted, nothing_kept, open_from, open_one, settled, settled_act, stopped, stopped_act, taken_in, turn_noted, with_act, with_end_at, with_hanging, without_hanging};
+ghost use Rattle.block_view.specs.Following.{IsLetGo};
 ghost use Rattle.block_view.specs.declared.turns.Turn.TheVariants.{Ends};
 
 use crate::course::Course;
@@ -286,6 +288,35 @@ impl Ledger {
         }
         acts.push(act)?;
         Ok(())
+    }
+
+    /// Whether no sequence goes on.
+    fn none_goes_on(&self) -> bool
+        ensures { result ≡ list_all is_none self.now.going.items }
+    {
+        for going in &self.going {
+            if going.is_some() {
+                return false;
+            }
+        }
+        true
+    }
+
+    /// Lets go of the acts where no sequence goes on or hangs.
+    pub(crate) fn let_go(&mut self)
+        ensures { IsLetGo (kept_in self.old) (kept_in self.new) }
+    {
+        if self.hanging.is_empty() && self.none_goes_on() {
+            self.list.clear();
+        }
+    }
+
+    /// Whether an entry makes nothing of the sequences: no act is kept, so none goes on or hangs, and none begins with it.
+    pub(crate) fn passes_by(&self, passed: &Passed) -> bool
+        ensures empty { IsTrue result → self.now.list.items ≡ [] }
+        ensures other { IsTrue result → begins passed.now ≡ false }
+    {
+        self.list.is_empty() && !passed.begins()
     }
 
     /// Ends the sequence of a hart that goes on where the log ends.

@@ -1,11 +1,12 @@
 //! The acts of a log, by making its events again.
 
-ghost use Rattle.std.specs.Prelude.{◌≡◌, [], map, IfOk, IfErr, OnOk};
+ghost use Rattle.std.specs.Prelude.{◌≡◌, List, [], map, IfOk, IfErr, OnOk};
 ghost use Rattle.mach_types.specs.Limits.{InRange};
 ghost use Rattle.elf_load.specs.Images.{IsBootable};
 ghost use Rattle.block_model.specs.Deciding.{history};
-ghost use Rattle.block_view.specs.{Counters.AreCounts, Ledgers.kept_in};
-ghost use Rattle.block_view.specs.{Standing.at_the_end, Standing.standings, Tied.IsTied};
+ghost use Rattle.block_view.specs.{Counters.AreCounts, Following.IsFollowing, Following.behind, Ledgers.kept_in};
+ghost use Rattle.block_view.specs.{Standing.at_the_end, Standing.standings, Tied.IsOfLog};
+ghost use Rattle.block_view.specs.declared.forms.Act.{Act};
 ghost use Rattle.block_model.specs.{Run.IsBlockRun, Setting.setting_of};
 ghost use Rattle.block_view.specs.Viewing.{AreActs, IsViewCause};
 
@@ -99,11 +100,10 @@ pub fn counts(
 /// Ends what goes on where the log of a machine with so many harts ends.
 pub(crate) fn close(ledger: &mut Ledger, machine: &Machine, harts: u8)
     requires harts { harts ≡ machine.now.setting.limits.harts }
-    requires tied { IsTied machine.now.setting (history machine.now.setting machine.now.log)
-        (kept_in ledger.old) }
-    ensures acts { let s = machine.now.setting in let all = history s machine.now.log in
-        ledger.new.list.items ≡ map (at_the_end s all []) (standings s all) }
-    ensures others { kept_in ledger.new ≡ record (kept_in ledger.old) { acts = ledger.new.list.items } }
+    requires follows { IsFollowing machine.now (kept_in ledger.old) }
+    ensures { (gone : List Act) → IsOfLog machine.now (behind gone (kept_in ledger.old))
+        → let s = machine.now.setting in let all = history s machine.now.log in behind gone (kept_in ledger.new)
+        ≡ record (behind gone (kept_in ledger.old)) { acts = map (at_the_end s all []) (standings s all) } }
 {
     for hart in 0..harts {
         let hart = Hart(hart);

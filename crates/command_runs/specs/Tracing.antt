@@ -4,7 +4,7 @@ use Rattle.mach_types.specs.declared.events.Entry.{Entry}
 use Rattle.block_model.specs.Run.{IsBlockRun}
 use Rattle.block_model.specs.Setting.{Seen, Setting}
 use Rattle.block_view.specs.Ledgers.{kept_in}
-use Rattle.block_view.specs.Tied.{IsOfLog}
+use Rattle.block_view.specs.Following.{IsFollowing}
 use Rattle.block_view.specs.declared.turns.Turn.{Turn}
 use Rattle.event_facts.specs.Telling.{past_of}
 use Rattle.event_facts.specs.Tied.{AreLinesOf}
@@ -15,7 +15,7 @@ use Rattle.command_runs.specs.declared.tracing.Followed.{Followed}
 -- what is followed of a machine's log: its lines, and its restartable sequences
 pub record IsFollowed (m : Seen) (x : Followed) : Type 0 where
   pub lines : AreLinesOf m.setting.limits.harts (past_of m) x.lines
-  pub sequences : IsOfLog m (kept_in x.ledger)
+  pub sequences : IsFollowing m (kept_in x.ledger)
 
 -- a machine has made these entries of a setting, and this is followed of them
 pub record HasTold (s : Setting) (log : List Entry) (m : Seen) (x : Followed) : Type 0 where

@@ -10,8 +10,8 @@ ghost use Rattle.block_model.specs.History.{kernel};
 ghost use Rattle.block_model.specs.Replay.{made_by};
 ghost use Rattle.block_model.specs.Run.{IsBlockRun};
 ghost use Rattle.block_model.specs.Setting.{Seen, setting_of};
+ghost use Rattle.block_view.specs.Following.{IsFollowing};
 ghost use Rattle.block_view.specs.Ledgers.{kept_in};
-ghost use Rattle.block_view.specs.Tied.{IsOfLog};
 ghost use Rattle.block_view.specs.Turns.{acts_left_open};
 ghost use Rattle.command_runs.specs.Playing.{IsPlaying};
 ghost use Rattle.command_runs.specs.Tracing.{HasTold, IsFollowed, IsTraced, turn_text};
@@ -195,7 +195,7 @@ fn push_unended(
     ledger: Ledger,
     machine: &Machine,
 ) -> Result<(), AllocError>
-    requires { IsOfLog machine.now (kept_in ledger) }
+    requires { IsFollowing machine.now (kept_in ledger) }
     ensures { let s = machine.now.setting in OnOk result (text.new.items
         ≡ text.old.items ++ flat_map ends_line (acts_left_open s (history s machine.now.log))) }
 {
@@ -212,7 +212,7 @@ fn push_open(
     ledger: Ledger,
     machine: &Machine,
 ) -> Result<(), AllocError>
-    requires { IsOfLog machine.now (kept_in ledger) }
+    requires { IsFollowing machine.now (kept_in ledger) }
     ensures { OnOk result (text.new.items
         ≡ text.old.items ++ open_text span.now machine.now.setting machine.now.log) }
 {

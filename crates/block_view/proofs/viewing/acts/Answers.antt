@@ -1,11 +1,14 @@
-use Rattle.std.proofs.Common.{◌≡◌, ◌+◌, List, get_or, length, take, sym, ap, subst, arith}
+use Rattle.std.proofs.Common.{◌≡◌, ◌+◌, List, [], get_or, length, take, sym, ap, subst, arith}
 use Rattle.std.proofs.lemmas.List.{get_or_default, take_all, take_more}
 use Rattle.mach_types.specs.declared.events.Entry.{Entry}
 use Rattle.mach_types.specs.declared.events.Kind.TheVariants as kind
 use Rattle.block_model.specs.Setting.{setting_of}
 use Rattle.block_view.specs.Ledgers.{Kept, kept_in, noted}
+use Rattle.block_view.specs.Tied.{IsOfLog}
 use Rattle.block_view.proofs.Closing.{has_places}
 use Rattle.block_view.proofs.Entering.{HasMade, are_acts, first_refused, hart_is_kept, logged_few, made_more, made_none}
+use Rattle.block_view.proofs.FollowedLogs.{follows_whole}
+use Rattle.block_view.proofs.GoneActs.{behind_none}
 use Rattle.block_view.proofs.viewing.acts.Goals as goal
 
 -- the entry that a loop is at, within the log
@@ -56,10 +59,16 @@ loop-entry-preserved c =
     (subst (λ (entries : List Entry). HasMade s entries m (noted c.in-Some.passed k)) (sym (take_more log i no_entry c.loop-entry-test.true))
     (made_more s (take i log) c.loop-entry.machine m k entry c.in-Some.passed c.loop-entry.invariant c.in-Some.ensures.made))
 
+pub close-requires-clause-follows : goal.close-requires-clause-follows
+close-requires-clause-follows c = follows_whole c.loop-entry.machine (kept_in c.loop-entry.ledger) c.loop-entry.invariant.tied
+
 pub returns-clause-acts : goal.returns-clause-acts
 returns-clause-acts c =
     let s = setting_of c.args.image.now c.args.limits.now in
     let log = c.args.log.now in
     let whole : take c.loop-entry.entry-index log ≡ log = take_all c.loop-entry.entry-index log (omega arith) in
-    are_acts s log c.loop-entry.machine (kept_in c.loop-entry.ledger) c.close.new.ledger.list.items
-    (subst (λ (entries : List Entry). HasMade s entries c.loop-entry.machine (kept_in c.loop-entry.ledger)) whole c.loop-entry.invariant) c.close.ensures.acts
+    let k = kept_in c.loop-entry.ledger in
+    let tied = subst (IsOfLog c.loop-entry.machine) (sym (behind_none k)) c.loop-entry.invariant.tied in
+    are_acts s log c.loop-entry.machine k c.close.new.ledger.list.items
+    (subst (λ (entries : List Entry). HasMade s entries c.loop-entry.machine k) whole c.loop-entry.invariant)
+    (ap (λ (x : Kept). x.acts) (c.close.ensures [] tied))

@@ -30,7 +30,7 @@ follow-requires c =
       earlier = m;
       now = c.trace.new.machine;
       entry = e;
-      tied = c.requires.followed.sequences;
+      follows = c.requires.followed.sequences;
       made = c.seen_after-passed.ensures m made c.seen_ahead-ahead.ensures;
     }
 
@@ -44,7 +44,7 @@ returns-clause-followed c =
     let made = is_made m c.trace.new.machine e c.requires.decided c.in_ok-trace.ensures.machine c.in_ok-trace.ensures.run in
     record {
       lines = c.in_ok-trace.ensures.lines;
-      sequences = c.in_ok-turn.ensures.tied m c.trace.new.machine e c.requires.followed.sequences (c.seen_after-passed.ensures m made c.seen_ahead-ahead.ensures);
+      sequences = c.in_ok-turn.ensures.follows m c.trace.new.machine e c.requires.followed.sequences (c.seen_after-passed.ensures m made c.seen_ahead-ahead.ensures);
     }
 
 pub returns-clause-text : goal.returns-clause-text

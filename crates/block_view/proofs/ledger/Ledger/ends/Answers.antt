@@ -1,7 +1,9 @@
-use Rattle.std.proofs.Common.{ap, ◌∙◌}
+use Rattle.std.proofs.Common.{ap, sym, ◌∙◌}
 use Rattle.std.proofs.lemmas.Result.{IfOk-weaker}
 use Rattle.block_model.specs.Deciding.{history}
+use Rattle.block_view.specs.Following.{behind}
 use Rattle.block_view.specs.Ledgers.{Kept, kept_in, open_from}
+use Rattle.block_view.proofs.GoneActs.{open_behind}
 use Rattle.block_view.proofs.OpenActs.{open_told}
 use Rattle.block_view.proofs.ledger.Ledger.ends.Goals as goal
 
@@ -9,9 +11,10 @@ pub returns : goal.returns
 returns c =
     let s = c.args.machine.now.setting in
     let all = history s c.args.machine.now.log in
-    let closed = c.close.new.ledger in
+    let gone = c.requires.follows.gone in
+    let tied = c.requires.follows.tied in
     IfOk-weaker c.open_acts.result _ _
-    (λ acts is. is ∙ ap (λ (k : Kept). open_from k 0 closed.list.items) c.close.ensures.others
-    ∙ ap (open_from (record (kept_in c.args.self) { acts = closed.list.items }) 0) c.close.ensures.acts
-    ∙ open_told s all (kept_in c.args.self) c.requires.tied closed.list.items)
+    (λ acts is. is ∙ sym (open_behind gone (kept_in c.close.new.ledger))
+    ∙ ap (λ (k : Kept). open_from k 0 k.acts) (c.close.ensures gone tied)
+    ∙ open_told s all (behind gone (kept_in c.args.self)) tied _)
     c.open_acts.ensures
