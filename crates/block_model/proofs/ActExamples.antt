@@ -1,9 +1,7 @@
 -- Worked examples, proved by computation: the sequence of a program, each way in which it ends, and beside each what is there then.
-use Rattle.std.proofs.Common.{◌≡◌, ℕ, ◌*◌, ◌/◌, ◌%◌, Bool, true, false, List, [], ◌∷◌, ◌++◌, replicate, length, ◌-◌, refl, Option, Some, None, Result, Ok, Err}
-use Rattle.block_model.proofs.Common.{Ask, Entry, History, Killed, SIGSEGV, Sequence, Setting, all_signals, are_readable, before_last, can_write_frame, decide, done, end_at_verdict, end_before, end_so_far, ended, file, hanging, here_in_history, history, is_inside_at, meaning, memory, number_at, option_map, played, register, row_of, rows, sequence_on, touched_in, watched_at, word_at}
+use Rattle.block_model.proofs.Common.{◌≡◌, ℕ, ◌*◌, ◌/◌, ◌%◌, Bool, true, false, List, [], ◌∷◌, ◌++◌, replicate, length, ◌-◌, refl, Option, Some, None, Result, Ok, Err, Ask, Entry, History, Killed, SIGSEGV, Sequence, Setting, all_signals, are_readable, before_last, can_write_frame, decide, done, end_at_verdict, end_before, end_so_far, ended, file, hanging, here_in_history, history, is_inside_at, meaning, memory, number_at, option_map, played, register, row_of, rows, sequence_on, touched_in, watched_at, word_at, SeqEnd}
 use Rattle.mach_types.specs.declared.events.Choice.TheVariants as asked
 use Rattle.mach_types.specs.Kernel.Barriers as barriers
-use Rattle.block_model.specs.declared.acts.SeqEnd.{SeqEnd}
 use Rattle.block_model.specs.declared.acts.SeqEnd.TheVariants as ends
 use Rattle.block_model.proofs.ExamplePrograms.{code_and_page, line_of as line, within_frames}
 

@@ -1,9 +1,7 @@
 -- What each event leaves, whether it was allowed or not: files whose pc is below 2^64 and handlers that lie there where it was so
 -- before, an end that isn't the end of a script, and a live thread where it didn't end the process.
-use Rattle.std.proofs.Common.{◌≡◌, ℕ, ◌+◌, ◌<◌, ◌&&◌, ◌||◌, length, refl, sym, ◌∙◌, arith, Bool, true, false, not, cond, eqb, leb, Option, Some, None}
-use Rattle.block_model.proofs.Common.{Area, BadWhy, CallDone, Done, Entry, Here, IsSound, Killed, Kind, Named, Outcome, Ready, Running, SIGSEGV, Seq, USER_END, area_here, by_call, called, can_read_area, can_read_descriptor, choice_with, descriptor_at, done_of, fetched, files_interrupted, has_flags, interruption, interruption_here, is_clearable, is_inside, is_out_of_range, is_signed, is_writable, killed_by, leb-false, length-map, memory, named, named_by, pointer_of, sequence_of, signals_taken, state_if, view_of_all}
+use Rattle.block_model.proofs.Common.{◌≡◌, ℕ, ◌+◌, ◌<◌, ◌&&◌, ◌||◌, length, refl, sym, ◌∙◌, arith, Bool, true, false, not, cond, eqb, leb, Option, Some, None, Area, BadWhy, CallDone, Done, Entry, Here, IsSound, Killed, Kind, Named, Outcome, Ready, Running, SIGSEGV, Seq, USER_END, area_here, by_call, called, can_read_area, can_read_descriptor, choice_with, descriptor_at, done_of, fetched, files_interrupted, has_flags, interruption, interruption_here, is_clearable, is_inside, is_out_of_range, is_signed, is_writable, killed_by, leb-false, length-map, memory, named, named_by, pointer_of, sequence_of, signals_taken, state_if, view_of_all, Descriptor}
 use Rattle.mach_types.specs.declared.sequences.BadWhy.TheVariants as bad
-use Rattle.mach_types.specs.declared.sequences.Descriptor.{Descriptor}
 use Rattle.mach_types.specs.declared.sequences.Named.TheVariants as names
 use Rattle.mach_types.specs.declared.sequences.Outcome.TheVariants as comes_to
 use Rattle.mach_types.specs.Kernel.Areas as areas

@@ -1,7 +1,6 @@
 -- What each call of the table leaves, whether its thread runs or not: files whose pc is below 2^64 and handlers that lie there where
 -- it was so before, an end that isn't the end of a script, and a live thread where it didn't end the process.
-use Rattle.std.proofs.Common.{◌≡◌, ℕ, ◌+◌, ◌<◌, ◌≤◌, List, [], ◌∷◌, length, map, filter, refl, sym, ◌∙◌, subst, Bool, true, false, not, cond, eqb, None, arith}
-use Rattle.block_model.proofs.Common.{AllByRecursion, CallDone, Here, IsSound, Kernel, Ready, Saved, Thread, Waiting, Write, answered_wait, argument, called, clear_of, cleared, clears, clone_child_cleartid, had_child, has_flag, is_thread, left, length-map, nat_tests, new_thread, next_number, numbers, restricted, rows_changed, signalled, state_if, sum_64, waited, wake, woken, woken_at_exit}
+use Rattle.block_model.proofs.Common.{◌≡◌, ℕ, ◌+◌, ◌<◌, ◌≤◌, List, [], ◌∷◌, length, map, filter, refl, sym, ◌∙◌, subst, Bool, true, false, not, cond, eqb, None, arith, AllByRecursion, CallDone, Here, IsSound, Kernel, Ready, Saved, Thread, Waiting, Write, answered_wait, argument, called, clear_of, cleared, clears, clone_child_cleartid, had_child, has_flag, is_thread, left, length-map, nat_tests, new_thread, next_number, numbers, restricted, rows_changed, signalled, state_if, sum_64, waited, wake, woken, woken_at_exit}
 use Rattle.std.specs.List.Sorted.{IsStrictlyIncreasing}
 use Rattle.std.proofs.lemmas.List.{length_push}
 use Rattle.mach_types.specs.Kernel.Threads.{clear_if}

@@ -1,6 +1,5 @@
 -- Each live thread may run on some hart of the machine, at the start and after a step that keeps who is live and the affinities.
-use Rattle.std.proofs.Common.{◌≡◌, ◌≢◌, ℕ, ◌+◌, ◌-◌, ◌*◌, ◌/◌, ◌%◌, ◌^◌, ◌<◌, ◌≤◌, Bool, true, false, cond, ◌||◌, eqb, refl, sym, ap, ◌∙◌, arith, zero, suc, eq-eqb, List, [], ◌∷◌, ◌++◌, map, find, is_some, Option, None, Some, inl, inr}
-use Rattle.block_model.proofs.Common.{IsTables, Scheduling, Thread, ThreadState, Threads, affinity_of, cases_lt, eqb-true, eqb_same, eqb_tells, false≢true, filtered_same, forget, has_hart, is_live, is_of, is_thread, list_any, new_thread, on, option_map, option_map_or, running_on, set_if, start_scheduling, start_threads, thread_of, with_affinity, with_child, with_ready, without}
+use Rattle.block_model.proofs.Common.{◌≡◌, ◌≢◌, ℕ, ◌+◌, ◌-◌, ◌*◌, ◌/◌, ◌%◌, ◌^◌, ◌<◌, ◌≤◌, Bool, true, false, cond, ◌||◌, eqb, refl, sym, ap, ◌∙◌, arith, zero, suc, eq-eqb, List, [], ◌∷◌, ◌++◌, map, find, is_some, Option, None, Some, inl, inr, IsTables, Scheduling, Thread, ThreadState, Threads, affinity_of, cases_lt, eqb-true, eqb_same, eqb_tells, false≢true, filtered_same, forget, has_hart, is_live, is_of, is_thread, list_any, new_thread, on, option_map, option_map_or, running_on, set_if, start_scheduling, start_threads, thread_of, with_affinity, with_child, with_ready, without}
 use Rattle.std.proofs.lemmas.Nat.{pow_pos, and_mask}
 use Rattle.std.proofs.Math.Nat.{pow-suc}
 use Rattle.mach_types.specs.Kernel.Scheduling.{harts_in, all_harts, with_thread}

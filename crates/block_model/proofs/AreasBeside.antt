@@ -1,6 +1,5 @@
 -- Beside another process no thread ever gets an area, since rseq(2) isn't there.
-use Rattle.std.proofs.Common.{◌≡◌, ◌≢◌, ℕ, cond, [], None, ap, ◌∙◌, subst}
-use Rattle.block_model.proofs.Common.{CallDone, Choice, Done, Here, Kernel, Kind, List, Write, argument, call_number, clear_of, clears, clone_child_cleartid, done_of, entry_in, had_child, has_flag, next_number, without_area}
+use Rattle.block_model.proofs.Common.{◌≡◌, ◌≢◌, ℕ, cond, [], None, ap, ◌∙◌, subst, CallDone, Choice, Done, Here, Kernel, Kind, List, Write, argument, call_number, clear_of, clears, clone_child_cleartid, done_of, entry_in, had_child, has_flag, next_number, without_area}
 use Rattle.block_model.proofs.CallEffects.{Answers, Bears, CallDeed, Exits, Registers, TableStep, Unregisters, Wakes}
 use Rattle.block_model.proofs.CallEffects.EachCall.{deed_called}
 use Rattle.block_model.proofs.EventEffects.{Calls, EventDeed, deed_of}

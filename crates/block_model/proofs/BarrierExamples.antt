@@ -1,7 +1,6 @@
 -- Worked examples, proved by computation: membarrier(2), the requests of a barrier and the harts that take them, the return of a
 -- barrier, and what a thread that waits in one may not do.
-use Rattle.std.proofs.Common.{◌≡◌, ℕ, pos, Bool, true, false, cond, eqb, List, [], ◌∷◌, ◌++◌, replicate, length, map, refl, Option, Some, None, inl, inr}
-use Rattle.block_model.proofs.Common.{Barrier, Choice, Done, EINVAL, EPERM, End, Entry, Here, Idle, Killed, NoRequest, NotInBarrier, Outcome, Registered, Regs, Setting, Store, Targets, Threads, Why, Write, all_signals, are_readable, awaits_after, called, done, done_done, done_take, double_written, file, file_among, here_in_history, history, is_register_only, meaning, negative, no_registers, nothing, number_at, option_map, pick, refusal_of, refusal_take, register, requests_after, restart_after, row_of, rows, sight_in, start_signalling, start_threads, with_child, with_pending, with_register, with_state}
+use Rattle.block_model.proofs.Common.{◌≡◌, ℕ, pos, Bool, true, false, cond, eqb, List, [], ◌∷◌, ◌++◌, replicate, length, map, refl, Option, Some, None, inl, inr, Barrier, Choice, Done, EINVAL, EPERM, End, Entry, Here, Idle, Killed, NoRequest, NotInBarrier, Outcome, Registered, Regs, Setting, Store, Targets, Threads, Why, Write, all_signals, are_readable, awaits_after, called, done, done_done, done_take, double_written, file, file_among, here_in_history, history, is_register_only, meaning, negative, no_registers, nothing, number_at, option_map, pick, refusal_of, refusal_take, register, requests_after, restart_after, row_of, rows, sight_in, start_signalling, start_threads, with_child, with_pending, with_register, with_state, Pick}
 use Rattle.mach_types.specs.Kernel.Barriers as barriers
 use Rattle.mach_types.specs.declared.barriers.Answer.{Answer}
 use Rattle.mach_types.specs.declared.barriers.Answer.TheVariants.{Begin, Value}
@@ -9,7 +8,6 @@ use Rattle.mach_types.specs.declared.events.Choice.TheVariants as asked
 use Rattle.mach_types.specs.declared.events.Kind.TheVariants as kind
 use Rattle.mach_types.specs.declared.events.Why.TheVariants.{InBarrier, Waiting}
 use Rattle.mach_types.specs.declared.threads.ThreadState.TheVariants as state
-use Rattle.chooser.specs.declared.chooser.Pick.{Pick}
 use Rattle.mach_types.specs.Kernel.PairBarriers.{command_two}
 use Rattle.block_model.specs.Walks.{IsWalk, answers, computed}
 use Rattle.block_model.proofs.SequenceExamples.{pcs, program}

@@ -1,7 +1,6 @@
 -- What a call's deed can be. Each call of the table is one of these (CallEffects/EachCall.antt); a law of all
 -- calls goes over them, and names no call.
-use Rattle.std.proofs.Common.{◌≡◌, ◌≢◌, ℕ, ◌+◌, ◌≤◌, ◌<◌, ◌^◌, List, [], ◌∷◌, length, map, refl, Bool, true, false, cond, Option, Some, None, arith}
-use Rattle.block_model.proofs.Common.{Area, CONSOLE_ROOM, CallDone, End, Here, IsError, IsGoodHere, KeepsRows, Kernel, Pages, Registered, Signalling, Thread, Write, answered_wait, area_here, broken_wait, child_file, for_barriers, frame_read, id_of, is_full, is_writable, killed_in_call, left, memory, next_for, next_number, paged, printed, register, registered, restricted, resumed, returned, rows_changed, said, signalled, taken_by, unregistered, waited, waits, wake, with_new_child, woken, words_on, words_written}
+use Rattle.block_model.proofs.Common.{◌≡◌, ◌≢◌, ℕ, ◌+◌, ◌≤◌, ◌<◌, ◌^◌, List, [], ◌∷◌, length, map, refl, Bool, true, false, cond, Option, Some, None, arith, Area, CONSOLE_ROOM, CallDone, End, Here, IsError, IsGoodHere, KeepsRows, Kernel, Pages, Registered, Signalling, Thread, Write, answered_wait, area_here, broken_wait, child_file, for_barriers, frame_read, id_of, is_full, is_writable, killed_in_call, left, memory, next_for, next_number, paged, printed, register, registered, restricted, resumed, returned, rows_changed, said, signalled, taken_by, unregistered, waited, waits, wake, with_new_child, woken, words_on, words_written}
 use Rattle.mach_types.specs.declared.limits.End.TheVariants as over
 use Rattle.block_model.specs.Calls.Answers.{Errors, unless}
 use Rattle.block_model.specs.Calls.Barriers.{begins}

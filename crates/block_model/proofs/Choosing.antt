@@ -1,23 +1,18 @@
 -- The choice of `run`: it is allowed, some hart has one while the run goes on, and a log of choices goes on by the entry that a
 -- hart makes next.
-use Rattle.std.proofs.Common.{◌≡◌, ◌≢◌, ℕ, ◌%◌, ◌<◌, ◌&&◌, ◌||◌, List, [], ◌∷◌, ◌++◌, length, find, refl, sym, ap, ◌∙◌, subst, arith, Bool, true, false, not, cond, eqb, ltb, leb, Option, Some, None, Ok, is_none, is_some, zero, suc, ◌⊎◌, inl, inr}
-use Rattle.block_model.proofs.Common.{Choice, Effect, End, Entry, FullBuffer, Here, History, IsAllowedLog, IsChosen, IsGoodHere, IsRunHistory, IsSound, Kernel, NoRequest, Saved, Setting, Store, Thread, ThreadState, Why, affinity_of, and_parts, awaits, cases_eq, choice_at, choice_of, cond-false, cond-true, cond_both, decide, ended, entry_in, eqb-true, event, false≢true, fault_by, fault_in, fetched, first_for, first_ready, fold, fold-append, goes_on, has_ended, has_hart, here_in_history, history, instruction_gate, instruction_of, is_choice, is_deliverable_on, is_held, is_live, is_local_on, is_ready, is_ready_state, is_register_only, is_storable, is_stuck, is_waiting_state, kernel, leb-false, lt-ltb, ltb-true, luck, luck_after, meaning, ne_eqb, next_effect, next_entry, next_fault, not-false, numbers, option_map, option_map_or, option_or, others_gate, over_at, pick, pick_with, ran, reached, refusal_done_by, refusal_drain_of, refusal_exec, refusal_exec_by, refusal_of, refusal_preempt_by, refusal_return, requests, running_on, runs, sight_in, sight_with, state_of, thread, thread_of, times, unless, unless_waiting, waiting, waiting_here}
+use Rattle.block_model.proofs.Common.{◌≡◌, ◌≢◌, ℕ, ◌%◌, ◌<◌, ◌&&◌, ◌||◌, List, [], ◌∷◌, ◌++◌, length, find, refl, sym, ap, ◌∙◌, subst, arith, Bool, true, false, not, cond, eqb, ltb, leb, Option, Some, None, Ok, is_none, is_some, zero, suc, ◌⊎◌, inl, inr, Choice, Effect, End, Entry, FullBuffer, Here, History, IsAllowedLog, IsChosen, IsGoodHere, IsRunHistory, IsSound, Kernel, NoRequest, Saved, Setting, Store, Thread, ThreadState, Why, affinity_of, and_parts, awaits, cases_eq, choice_at, choice_of, cond-false, cond-true, cond_both, decide, ended, entry_in, eqb-true, event, false≢true, fault_by, fault_in, fetched, first_for, first_ready, fold, fold-append, goes_on, has_ended, has_hart, here_in_history, history, instruction_gate, instruction_of, is_choice, is_deliverable_on, is_held, is_live, is_local_on, is_ready, is_ready_state, is_register_only, is_storable, is_stuck, is_waiting_state, kernel, leb-false, lt-ltb, ltb-true, luck, luck_after, meaning, ne_eqb, next_effect, next_entry, next_fault, not-false, numbers, option_map, option_map_or, option_or, others_gate, over_at, pick, pick_with, ran, reached, refusal_done_by, refusal_drain_of, refusal_exec, refusal_exec_by, refusal_of, refusal_preempt_by, refusal_return, requests, running_on, runs, sight_in, sight_with, state_of, thread, thread_of, times, unless, unless_waiting, waiting, waiting_here, sorted_from_strictly_increasing, Sight, Inst, Pick}
 use Rattle.std.proofs.lemmas.Bool.{eq-eqb}
-use Rattle.std.proofs.lemmas.Map.Keys.{sorted_from_strictly_increasing}
 use Rattle.mach_types.specs.Events.{number_of_choice}
 use Rattle.mach_types.specs.declared.events.Choice.TheVariants as asked
-use Rattle.mach_types.specs.declared.events.Sight.{Sight}
 use Rattle.mach_types.specs.declared.events.Why.TheVariants.{Waiting}
 use Rattle.mach_types.specs.declared.threads.ThreadState.TheVariants as state
 use Rattle.rv_inst.proofs.Laws.{local-rows}
 use Rattle.rv_inst.specs.Class.{sets_register}
 use Rattle.rv_inst.specs.declared.effects.Effect.TheVariants as effect
-use Rattle.rv_inst.specs.declared.instruction.Inst.{Inst}
 use Rattle.chooser.specs.Cases.{by_word, credit_of, drains_by, emptied_before, has_credit, has_stores, leaves_by, on_credit, pick_in, plainly, when_held_up, when_idle, when_in_barrier}
 use Rattle.chooser.specs.Generators.{after_words, first_generator, word}
 use Rattle.chooser.specs.declared.cases.Case.{Case}
 use Rattle.chooser.specs.declared.cases.Case.TheVariants.{Settled, Open}
-use Rattle.chooser.specs.declared.chooser.Pick.{Pick}
 use Rattle.block_model.specs.Choosing.{all_chosen, pick_at}
 use Rattle.block_model.specs.Sights.{is_all_taken}
 use Rattle.block_model.proofs.Runs.{decided_is, IsAllowedLog-append, history-append, history-nil, settled}

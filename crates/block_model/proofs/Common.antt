@@ -1,5 +1,5 @@
 -- The words that several proofs of this crate speak of, in one place for their imports.
-pub use Rattle.block_model.specs.Acts.{Sequence, abort_of, begun_with, cut_or, end_at_verdict, end_before, end_so_far, hanging, hanging_after, has_died, has_killed, is_inside_at, is_taken_in, moved_out, sequence_on, taken_up, with_event}
+pub use Rattle.block_model.specs.Acts.{Sequence, abort_of, begun_with, cut_or, end_at_verdict, end_before, end_so_far, hanging, hanging_after, hanging_moved, has_died, has_killed, is_inside_at, is_taken_in, moved_out, sequence_on, taken_up, with_event}
 pub use Rattle.block_model.specs.Beside.{Neighbour, is_in_segment, or_in_segment, with_segment}
 pub use Rattle.block_model.specs.Calls.{called}
 pub use Rattle.block_model.specs.Calls.Answers.{CallDone, are_writable, argument, call_number, double_written, int_argument, killed_in_call, negative, returned, said, word_written}
@@ -37,11 +37,13 @@ pub use Rattle.block_model.specs.Solo.{IsSolo, solo_choice, solo_rule}
 pub use Rattle.block_model.specs.Standing.{IsGoodHere, IsSound, MayEnter}
 pub use Rattle.block_model.specs.Tables.{AreOfLive, AreSignalsOfLive, IsHeld, IsTables, on}
 pub use Rattle.block_model.specs.Whole.{EndsWhole, FindsBad, GoesOnWith, HasCause, IsCutProperly, IsDeadBy, IsLeftNull, IsWholeHistory, RunsThroughout, WasTouched, before_last, touched_in, touches, watched_at}
+pub use Rattle.block_model.specs.declared.acts.SeqEnd.{SeqEnd}
 pub use Rattle.block_model.specs.declared.refusals.Refused.{Refused}
 pub use Rattle.block_model.specs.declared.refusals.Refused.TheVariants.{Ended, Full, NotEnabled}
+pub use Rattle.chooser.specs.declared.chooser.Pick.{Pick}
 pub use Rattle.mach_types.proofs.Laws.{KeepsRows, each_page-at, eqb_same, filtered_same, has_hart-harts_that, keeps_clear, map_filters, map_stays, next_is_new, numbers-with_rows, running_on-with_rows, same_numbers, state_of-with_child_other, state_of-with_child_same, state_of-with_rows, state_of-with_state_other, state_of-with_state_same, state_of-without_other, state_of-without_same, times_cons, times_filtered_other, times_push, word_at-read}
 pub use Rattle.mach_types.specs.Bytes.{all_stored, byte_after, byte_of, byte_over, each_byte, overlay, word_at, written}
-pub use Rattle.mach_types.specs.Events.{choice_of, choice_with, is_instruction}
+pub use Rattle.mach_types.specs.Events.{choice_of, choice_with, is_instruction, is_preempt, nature_of}
 pub use Rattle.mach_types.specs.Kernel.Areas.{Words, are_words_writable, area_of, can_read_area, can_read_descriptor, descriptor_at, has_flags, interruption, is_area_of, is_clearable, is_inside, is_inside_named, is_out_of_range, is_signed, named, named_by, pointer_of, sequence_of, without_area, words_entered, words_on, words_written, writes_of}
 pub use Rattle.mach_types.specs.Kernel.Pages.{PageRun, Pages, can_read, can_write, is_in, pages_of, permission_at, permission_of, run}
 pub use Rattle.mach_types.specs.Kernel.Scheduling.{Scheduling, affinity_of, first_for, forget, has_hart, is_of, set_if, start_scheduling, with_affinity, with_ready}
@@ -53,13 +55,13 @@ pub use Rattle.mach_types.specs.declared.address_space.TheConstants.{FIRST_MAPPI
 pub use Rattle.mach_types.specs.declared.barriers.Registered.{Registered}
 pub use Rattle.mach_types.specs.declared.errors.Errno.{Errno}
 pub use Rattle.mach_types.specs.declared.errors.TheConstants.{EFAULT, EINTR, EINVAL, EPERM}
-pub use Rattle.mach_types.specs.declared.events.{Choice.Choice, Entry.Entry, Kind.Kind, Tid.Tid, Why.Why}
+pub use Rattle.mach_types.specs.declared.events.{Choice.Choice, Entry.Entry, Hart.Hart, Kind.Kind, Maker.Maker, Movement.Movement, Sight.Sight, Tid.Tid, Why.Why}
 pub use Rattle.mach_types.specs.declared.events.Why.TheVariants.{FullBuffer, Idle, NoHart, NoRequest, NoSignal, NotAllowed, NotInBarrier, NotReady, Others, Targets}
 pub use Rattle.mach_types.specs.declared.kernel_words.TheConstants.{CONSOLE_ROOM}
 pub use Rattle.mach_types.specs.declared.limits.End.{End}
 pub use Rattle.mach_types.specs.declared.limits.End.TheVariants.{Killed}
 pub use Rattle.mach_types.specs.declared.registers.Regs.{Regs}
-pub use Rattle.mach_types.specs.declared.sequences.{Area.Area, BadWhy.BadWhy, Named.Named, Outcome.Outcome, Seq.Seq}
+pub use Rattle.mach_types.specs.declared.sequences.{Area.Area, BadWhy.BadWhy, Descriptor.Descriptor, Named.Named, Outcome.Outcome, Seq.Seq}
 pub use Rattle.mach_types.specs.declared.sequences.TheConstants.{CPU_ID, MM_CID, NODE_ID, RSEQ_CS}
 pub use Rattle.mach_types.specs.declared.signal_words.{Action.Action, ThreadSignals.ThreadSignals}
 pub use Rattle.mach_types.specs.declared.signals.TheConstants.{SIGNAL_FRAME_SIZE, SIGSEGV, SIG_DFL}
@@ -72,12 +74,15 @@ pub use Rattle.rv_inst.specs.Class.{is_call}
 pub use Rattle.rv_inst.specs.Execution.{fault_in, instruction_gate, is_reserved, outcome, unless_allowed}
 pub use Rattle.rv_inst.specs.Words.{sum_64}
 pub use Rattle.rv_inst.specs.declared.effects.Effect.{Effect}
+pub use Rattle.rv_inst.specs.declared.instruction.Inst.{Inst}
+pub use Rattle.std.proofs.Common.{Any, Bool, Err, Less, None, Ok, Option, Result, Some, [], add-one, add-suc, add-zero, ap, append_assoc, arith, cond, drop, eq-eqb, eqb, false, filter, find, get_or, if◌then◌else◌, inl, inr, is_none, is_some, leb, length, length-append, length-drop, length-set, ltb, map, max, min, nat_le, nat_lt, not, pos, refl, replicate, set, slice_index, subst, suc, sym, take, true, unwrap_or, w64, zero, ℕ, ℤ, ◌%◌, ◌&&◌, ◌*◌, ◌++◌, ◌+◌, ◌-◌, ◌/◌, ◌<◌, ◌==◌, ◌^◌, ◌||◌, ◌↔◌, ◌∙◌, ◌∷◌, ◌≡◌, ◌≢◌, ◌≤◌, ◌⊎◌}
 pub use Rattle.std.proofs.Math.Nat.{mod-lt}
 pub use Rattle.std.proofs.lemmas.Bool.{and_from, and_parts, and_right, cases_eq, cases_lt, cond-false, cond-true, cond_both, eqb-false, eqb-true, false≢true, le-leb, le-ltb, leb-false, leb-true, lt-leb, lt-ltb, ltb-false, ltb-true, ne_eqb, not-false, not-true, or_cases, or_parts, or_right}
 pub use Rattle.std.proofs.lemmas.Bool.Decides.{Decides-eqb, eqb_tells, nat_tests}
 pub use Rattle.std.proofs.lemmas.List.{append-nil, length-map, length-take, map_push}
 pub use Rattle.std.proofs.lemmas.List.Elements.{All-from_recursion, All-head, All-tail}
 pub use Rattle.std.proofs.lemmas.List.Sums.{fold-append}
+pub use Rattle.std.proofs.lemmas.Map.Keys.{sorted_from_strictly_increasing}
 pub use Rattle.std.specs.List.{All, AllByRecursion, fold, list_any}
 pub use Rattle.std.specs.Option.{IsSome, option_and_then, option_map, option_map_or, option_or}
 pub use Rattle.std.specs.Prelude.{List}

@@ -1,6 +1,5 @@
 -- A hart makes no more events, and executes no more instructions, than there are events.
-use Rattle.std.proofs.Common.{ℕ, ◌+◌, ◌≤◌, [], ◌∷◌, length, Bool, true, false, cond, arith}
-use Rattle.block_model.proofs.Common.{History, IsRunHistory, Setting, events, is_of_hart, ran}
+use Rattle.block_model.proofs.Common.{ℕ, ◌+◌, ◌≤◌, [], ◌∷◌, length, Bool, true, false, cond, arith, History, IsRunHistory, Setting, events, is_of_hart, ran}
 use Rattle.block_model.proofs.Runs.{fit_at}
 
 grown : (b : Bool) (n m k : ℕ) → m ≤ k → n ≤ k + 1 → cond b n m ≤ k + 1

@@ -1,7 +1,6 @@
 -- What holds of each entry of a run: its hart is one of the machine, its thread has a number that was given or is none, and its
 -- pc is below 2^64.
-use Rattle.std.proofs.Common.{◌≡◌, ℕ, ◌^◌, ◌<◌, ◌≤◌, ◌+◌, ◌-◌, List, [], ◌∷◌, refl, sym, subst, arith, Bool, true, false, cond, eqb, Option, Some, None, find, is_some, length}
-use Rattle.block_model.proofs.Common.{All, All-from_recursion, All-head, All-tail, AllByRecursion, Choice, Entry, Event, Here, History, IsAllowedLog, IsRunHistory, IsSound, IsThreads, Saved, Setting, Thread, ThreadState, Threads, byte, choice_of, eqb-true, event, file, file_among, fold, here_in_history, history, is_thread, kernel, number_of, numbers, option_map, pc_in, refusal_of, runs, state_of, thread_in}
+use Rattle.block_model.proofs.Common.{◌≡◌, ℕ, ◌^◌, ◌<◌, ◌≤◌, ◌+◌, ◌-◌, List, [], ◌∷◌, refl, sym, subst, arith, Bool, true, false, cond, eqb, Option, Some, None, find, is_some, length, All, All-from_recursion, All-head, All-tail, AllByRecursion, Choice, Entry, Event, Here, History, IsAllowedLog, IsRunHistory, IsSound, IsThreads, Saved, Setting, Thread, ThreadState, Threads, byte, choice_of, eqb-true, event, file, file_among, fold, here_in_history, history, is_thread, kernel, number_of, numbers, option_map, pc_in, refusal_of, runs, state_of, thread_in}
 use Rattle.mach_types.specs.declared.events.Choice.TheVariants as asked
 use Rattle.block_model.proofs.Runs.{allowed_at, length-history, settled}
 use Rattle.block_model.proofs.Images.{HaveBytes, start_small, written_small}

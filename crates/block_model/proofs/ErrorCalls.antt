@@ -1,7 +1,6 @@
 -- Each call of the table is refused, or gives no error at its own entry; and an event of a block run that gives an error changes nothing
 -- else.
-use Rattle.std.proofs.Common.{◌≡◌, ◌≢◌, refl, ℕ, ◌<◌, ◌≤◌, ◌^◌, ◌⊎◌, inl, inr, List, [], ◌∷◌, length, map, set, get_or, sym, ap, ◌∙◌, subst, true, false, cond, Option, Some, None, is_some, arith, zero, suc, ◌-◌, ◌++◌, Bool}
-use Rattle.block_model.proofs.Common.{CallDone, Choice, Done, Entry, GivesError, Here, History, IsAllowedLog, IsError, IsRunHistory, Kernel, Killed, SIGSEGV, Saved, Setting, Thread, Write, answered_wait, broken_wait, by_call, by_effect, byte, call_number, called, called_here, child_file, choice_of, done, done_exec_by, done_of, eqb_same, event, false≢true, fault_by, fetched, file, file_among, filtered_same, fold, gone, here_in_history, history, is_inside_here, is_live, is_writable, kernel, killed_in_call, memory, ne_eqb, negative, next_number, number_of, refusal_exec, refusal_exec_by, refusal_of, register, returned, runs, said, signalled, sum_64, thread_in, wake, with_new_child, woken, woken_at_exit, written}
+use Rattle.block_model.proofs.Common.{◌≡◌, ◌≢◌, refl, ℕ, ◌<◌, ◌≤◌, ◌^◌, ◌⊎◌, inl, inr, List, [], ◌∷◌, length, map, set, get_or, sym, ap, ◌∙◌, subst, true, false, cond, Option, Some, None, is_some, arith, zero, suc, ◌-◌, ◌++◌, Bool, CallDone, Choice, Done, Entry, GivesError, Here, History, IsAllowedLog, IsError, IsRunHistory, Kernel, Killed, SIGSEGV, Saved, Setting, Thread, Write, answered_wait, broken_wait, by_call, by_effect, byte, call_number, called, called_here, child_file, choice_of, done, done_exec_by, done_of, eqb_same, event, false≢true, fault_by, fetched, file, file_among, filtered_same, fold, gone, here_in_history, history, is_inside_here, is_live, is_writable, kernel, killed_in_call, memory, ne_eqb, negative, next_number, number_of, refusal_exec, refusal_exec_by, refusal_of, register, returned, runs, said, signalled, sum_64, thread_in, wake, with_new_child, woken, woken_at_exit, written}
 use Rattle.block_model.specs.ErrorCalls.{GivesErrorAlone, IsCall, up_to}
 use Rattle.block_model.proofs.CallEffects.{Answers, AreFew, Bears, Begins, Breaks, CallDeed, Ends, Exits, Resumes, Says, Wakes, small_no_error}
 use Rattle.block_model.proofs.CallEffects.EachCall.{deed_called}

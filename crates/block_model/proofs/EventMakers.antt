@@ -1,10 +1,8 @@
 -- What follows of what an event is: one of the kernel executes no instruction and no store, and lets no
 -- store that waits enter memory; and one that interrupts no thread writes nothing, where it is of the
 -- kernel.
-use Rattle.std.proofs.Common.{◌≡◌, ℕ, [], Bool, true, false, None, refl, sym, ◌∙◌}
-use Rattle.block_model.proofs.Common.{Choice, Done, Here, Kind, done_of, false≢true}
-use Rattle.mach_types.specs.Events.{is_interrupting, is_preempt, kind_of, maker_of, nature_of}
-use Rattle.mach_types.specs.declared.events.Maker.{Maker}
+use Rattle.block_model.proofs.Common.{◌≡◌, ℕ, [], Bool, true, false, None, refl, sym, ◌∙◌, Choice, Done, Here, Kind, done_of, false≢true, is_preempt, nature_of, Maker}
+use Rattle.mach_types.specs.Events.{is_interrupting, kind_of, maker_of}
 use Rattle.mach_types.specs.declared.events.Maker.TheVariants.{Thread, Buffer, Kernel}
 use Rattle.block_model.proofs.EventEffects.{CallKills, Calls, Drains, EventDeed, Executes, FaultKills, Faults, Handles, Preempts, Restarts, RunKills, Runs, SignalKills, Skips, begun_by, deed_chosen}
 

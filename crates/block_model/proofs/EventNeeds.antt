@@ -1,17 +1,13 @@
 -- What an allowed event needs, by what it is: a thread that runs on its hart, and that this one waits in
 -- no barrier. And what holds of each event by which a thread leaves its hart, of whatever kind.
-use Rattle.std.proofs.Common.{◌≡◌, ◌||◌, ℕ, Bool, true, false, not, Option, Some, None, refl, [], cond, sym, ap, ◌∙◌}
-use Rattle.block_model.proofs.Common.{Choice, Entry, Event, Here, History, Kind, Sequence, Setting, Why, choice_with, done_of, done_preempt_by, false≢true, is_inside_at, next_for, number_of, refusal_delivery, refusal_done_by, refusal_exec_by, refusal_of, refusal_preempt_by, refusal_signal_by, runs, sequence_on, thread_in, unless_waiting, waiting_here}
-use Rattle.mach_types.specs.Events.{is_return, is_run, is_take, kind_of, nature_of, is_leaving, is_preempt}
+use Rattle.block_model.proofs.Common.{◌≡◌, ◌||◌, ℕ, Bool, true, false, not, Option, Some, None, refl, [], cond, sym, ap, ◌∙◌, Choice, Entry, Event, Here, History, Kind, Sequence, Setting, Why, choice_with, done_of, done_preempt_by, false≢true, is_inside_at, next_for, number_of, refusal_delivery, refusal_done_by, refusal_exec_by, refusal_of, refusal_preempt_by, refusal_signal_by, runs, sequence_on, thread_in, unless_waiting, waiting_here, nature_of, is_preempt, Maker, Movement, hanging_moved}
+use Rattle.mach_types.specs.Events.{is_return, is_run, is_take, kind_of, is_leaving}
 use Rattle.mach_types.specs.declared.events.Choice.TheVariants as asked
-use Rattle.mach_types.specs.declared.events.Maker.{Maker}
 use Rattle.mach_types.specs.declared.events.Maker.TheVariants.{Thread, Buffer, Kernel}
 use Rattle.mach_types.proofs.Laws.{kind_back}
 use Rattle.mach_types.specs.declared.events.Kind.TheVariants as kind
-use Rattle.mach_types.specs.declared.events.Movement.{Movement}
 use Rattle.mach_types.specs.declared.events.Movement.TheVariants.{Stays, Leaves, Begins}
 use Rattle.block_model.proofs.Invariants.Events.{out_of_barrier, none_waits}
-use Rattle.block_model.specs.Acts.{hanging_moved}
 
 -- WHAT AN EVENT NEEDS
 

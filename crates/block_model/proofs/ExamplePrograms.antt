@@ -1,6 +1,5 @@
 -- Programs, lines of scripts and entries of logs that the worked examples share.
-use Rattle.std.proofs.Common.{ℕ, List, [], ◌∷◌, ◌++◌, replicate, None, Result, Ok, Err}
-use Rattle.block_model.proofs.Common.{Ask, Choice, End, Entry, Kind, Setting, end_of, history}
+use Rattle.block_model.proofs.Common.{ℕ, List, [], ◌∷◌, ◌++◌, replicate, None, Result, Ok, Err, Ask, Choice, End, Entry, Kind, Setting, end_of, history}
 use Rattle.block_model.specs.History.{console}
 
 -- a program of two segments, its code at 0x100B0, and a page at 0x20000 that is read and written and begins with these bytes

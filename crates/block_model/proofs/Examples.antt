@@ -1,9 +1,7 @@
 -- Worked examples, proved by computation: what small programs do, read off a log and done by the plain machine.
-use Rattle.std.proofs.Common.{◌≡◌, ℕ, ◌-◌, ◌^◌, List, [], ◌∷◌, ◌++◌, replicate, map, refl, true, false, Option, Some, None, Result, Ok, Err}
-use Rattle.block_model.proofs.Common.{Ask, CallDone, Choice, Entry, Here, History, Idle, IsSolo, NoHart, NoRequest, NoSignal, NotAllowed, NotEnabled, NotInBarrier, NotReady, Refused, Setting, Store, Stored, ThreadState, Threads, Write, Zeroed, all_signals, called, can_be_written, clear_of, decide, done, end_of, entry_in, events, file, final, first_ready, here_in_history, history, is_local_on, is_register_only, is_stuck, kernel, left, lost_after, meaning, memory, no_registers, nothing, plain_after, plain_solo, played, ran, refusal_run, register, row_of, rows, running, sight_in, solo_choice, solo_rule, start_threads, state_of, view, with_register, with_state}
+use Rattle.block_model.proofs.Common.{◌≡◌, ℕ, ◌-◌, ◌^◌, List, [], ◌∷◌, ◌++◌, replicate, map, refl, true, false, Option, Some, None, Result, Ok, Err, Ask, CallDone, Choice, Entry, Here, History, Idle, IsSolo, NoHart, NoRequest, NoSignal, NotAllowed, NotEnabled, NotInBarrier, NotReady, Refused, Setting, Store, Stored, ThreadState, Threads, Write, Zeroed, all_signals, called, can_be_written, clear_of, decide, done, end_of, entry_in, events, file, final, first_ready, here_in_history, history, is_local_on, is_register_only, is_stuck, kernel, left, lost_after, meaning, memory, no_registers, nothing, plain_after, plain_solo, played, ran, refusal_run, register, row_of, rows, running, sight_in, solo_choice, solo_rule, start_threads, state_of, view, with_register, with_state, Sight}
 use Rattle.mach_types.specs.declared.events.Choice.TheVariants as asked
 use Rattle.mach_types.specs.declared.events.Kind.TheVariants as kind
-use Rattle.mach_types.specs.declared.events.Sight.{Sight}
 use Rattle.mach_types.specs.declared.events.Why.TheVariants.{Busy, NoStore}
 use Rattle.mach_types.specs.declared.limits.End.TheVariants as over
 use Rattle.mach_types.specs.declared.threads.ThreadState.TheVariants as state

@@ -1,17 +1,11 @@
 -- Who sets the file of a thread: the thread by its instruction or its call, an interruption, the handler of a
 -- signal, whoever ends its wait, or its parent.
-use Rattle.std.proofs.Common.{◌≡◌, ℕ, [], ◌∷◌, List, map, refl, sym, ap, ◌∙◌, subst, Bool, true}
-use Rattle.block_model.proofs.Common.{CallDone, Done, EINTR, Effect, End, Event, Here, History, IsRunHistory, Kind, Outcome, Saved, Setting, answered_wait, child_file, done, eqb-true, file, file_among, files_interrupted, here_in_history, interruption_here, is_call, negative, next_number, outcome_of, runs, wake, with_register, woken_at_exit}
-use Rattle.std.proofs.Common.{false, cond}
-use Rattle.std.proofs.Common.{eqb, Some, None}
+use Rattle.block_model.proofs.Common.{CallDone, Done, EINTR, Effect, End, Event, Here, History, IsRunHistory, Kind, Outcome, Saved, Setting, answered_wait, child_file, done, eqb-true, file, file_among, files_interrupted, here_in_history, interruption_here, is_call, negative, next_number, outcome_of, runs, wake, with_register, woken_at_exit, ◌≡◌, ℕ, [], ◌∷◌, List, map, refl, sym, ap, ◌∙◌, subst, Bool, true, false, cond, eqb, Some, None}
 use Rattle.mach_types.specs.declared.events.Kind.TheVariants as kind
 use Rattle.mach_types.specs.declared.sequences.Outcome.TheVariants as comes_to
-use Rattle.block_model.proofs.CallEffects.{Bears, Breaks, CallDeed, Ends, Exits}
-use Rattle.block_model.proofs.CallEffects.{Wakes}
+use Rattle.block_model.proofs.CallEffects.{Bears, Breaks, CallDeed, Ends, Exits, Wakes}
 use Rattle.block_model.proofs.CallEffects.EachCall.{deed_called}
-use Rattle.block_model.proofs.EventEffects.{Calls, EventDeed, Executes, Handles, IsNext, Restarts, Returns}
-use Rattle.block_model.proofs.EventEffects.{RunKills}
-use Rattle.block_model.proofs.EventEffects.{Runs, SignalKills, deed_of}
+use Rattle.block_model.proofs.EventEffects.{Calls, EventDeed, Executes, Handles, IsNext, Restarts, Returns, RunKills, Runs, SignalKills, deed_of}
 
 -- thread u is interrupted where it begins to run, or by a `take` on its hart
 pub data IsInterrupted (here : Here) (tid u : ℕ) (k : Kind) : Type 0 where

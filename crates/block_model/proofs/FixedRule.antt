@@ -1,7 +1,5 @@
 -- At each place of a run the fixed rule of `solo` has a choice where the machine has one hart, and its choice is made.
-use Rattle.std.proofs.Common.{◌≡◌, ◌≢◌, ℕ, ◌<◌, ◌+◌, ◌&&◌, ◌||◌, List, [], ◌∷◌, length, find, refl, sym, ap, ◌∙◌, subst, arith, Bool, true, false, not, cond, eqb, ltb, zero, suc, Option, Some, None, Ok, is_none, is_some}
-use Rattle.block_model.proofs.Common.{Choice, End, Entry, Here, History, IsAllowedLog, IsRunHistory, IsSound, IsTables, Kernel, Neighbour, Others, PageRun, Ready, Running, Setting, Store, Thread, ThreadState, Threads, Waiting, Why, affinity_of, and_right, awaits, call_number, decide, end_of, ended, entry_in, eqb-true, eqb_same, false≢true, first_for, goes_on, has_hart, here_in_history, history, instruction_gate, is_call, is_deliverable_on, is_held, is_inside_here, is_live, is_ready, is_ready_state, is_stuck, is_waiting_state, kernel, le-leb, lies_waiting_on, list_any, lt-ltb, next_effect, next_fault, next_for, not-false, numbers, on, option_map, option_map_or, option_or, others_gate, refusal_delivery, refusal_drain_of, refusal_exec, refusal_exec_by, refusal_of, refusal_run_by, refusal_signal_by, requests, running, running_on, runs, solo_choice, state_of, taken_by, thread, thread_of, times, times_cons, unless, unless_in_barrier, unless_waiting, waiting_here}
-use Rattle.std.proofs.lemmas.Map.Keys.{sorted_from_strictly_increasing}
+use Rattle.block_model.proofs.Common.{◌≡◌, ◌≢◌, ℕ, ◌<◌, ◌+◌, ◌&&◌, ◌||◌, List, [], ◌∷◌, length, find, refl, sym, ap, ◌∙◌, subst, arith, Bool, true, false, not, cond, eqb, ltb, zero, suc, Option, Some, None, Ok, is_none, is_some, Choice, End, Entry, Here, History, IsAllowedLog, IsRunHistory, IsSound, IsTables, Kernel, Neighbour, Others, PageRun, Ready, Running, Setting, Store, Thread, ThreadState, Threads, Waiting, Why, affinity_of, and_right, awaits, call_number, decide, end_of, ended, entry_in, eqb-true, eqb_same, false≢true, first_for, goes_on, has_hart, here_in_history, history, instruction_gate, is_call, is_deliverable_on, is_held, is_inside_here, is_live, is_ready, is_ready_state, is_stuck, is_waiting_state, kernel, le-leb, lies_waiting_on, list_any, lt-ltb, next_effect, next_fault, next_for, not-false, numbers, on, option_map, option_map_or, option_or, others_gate, refusal_delivery, refusal_drain_of, refusal_exec, refusal_exec_by, refusal_of, refusal_run_by, refusal_signal_by, requests, running, running_on, runs, solo_choice, state_of, taken_by, thread, thread_of, times, times_cons, unless, unless_in_barrier, unless_waiting, waiting_here, sorted_from_strictly_increasing}
 use Rattle.std.specs.Result.{IsOk}
 use Rattle.mach_types.specs.declared.events.Choice.TheVariants as asked
 use Rattle.mach_types.specs.declared.limits.End.TheVariants as over

@@ -1,7 +1,6 @@
 -- Sets of harts: what is in one with a hart more, and in one without it; that something is in each that isn't 0; and how code says
 -- them.
-use Rattle.std.proofs.Common.{◌≡◌, ◌≢◌, ℕ, suc, zero, ◌+◌, ◌-◌, ◌*◌, ◌/◌, ◌%◌, ◌^◌, ◌<◌, ◌≤◌, max, min, Bool, true, false, eqb, inl, inr, refl, sym, ap, ◌∙◌, arith}
-use Rattle.block_model.proofs.Common.{cases_eq, cases_lt, cond_both, eqb-false, eqb-true, has_hart, with_hart, without_hart}
+use Rattle.block_model.proofs.Common.{◌≡◌, ◌≢◌, ℕ, suc, zero, ◌+◌, ◌-◌, ◌*◌, ◌/◌, ◌%◌, ◌^◌, ◌<◌, ◌≤◌, max, min, Bool, true, false, eqb, inl, inr, refl, sym, ap, ◌∙◌, arith, cases_eq, cases_lt, cond_both, eqb-false, eqb-true, has_hart, with_hart, without_hart}
 use Rattle.std.specs.Int.{bit_at, bit_not, w8}
 use Rattle.std.specs.Int.Bits.{bit_and, bit_or, bit_xor, or_add_and}
 use Rattle.std.proofs.lemmas.Nat.Bits.{and_pow, bit_at-lt, bit_at-pow_other, bit_at-pow_same, bit_at-suc, bit_at-zero, bit_at_above, bit_at_and, bit_at_clear_other, bit_at_clear_same, bit_at_lowest, bit_at_or, bit_at_set_other, bit_at_set_same, bit_at_xor, same_from_bits}

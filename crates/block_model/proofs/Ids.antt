@@ -1,10 +1,8 @@
 -- The concurrency ids of the threads that run: each holds one, no two hold the same, and the next is below the number of harts and
 -- of live threads, where the machine has at most 8 harts.
-use Rattle.std.proofs.Common.{ℕ, zero, suc, ◌+◌, ◌<◌, ◌≤◌, ◌≡◌, ◌≢◌, ◌&&◌, ◌||◌, Bool, true, false, not, cond, eqb, ltb, List, [], ◌∷◌, ◌++◌, length, map, filter, find, Option, Some, None, is_some, refl, sym, ap, ◌∙◌, subst, inl, inr, arith}
-use Rattle.block_model.proofs.Common.{All-from_recursion, AreIdsApart, IsLeastFree, IsTables, Ready, Running, Scheduling, Thread, ThreadState, Threads, cases_lt, eqb_same, eqb_tells, false≢true, has_hart, has_hart-harts_that, held_ids, id_of, is_id_of, is_running_state, is_taken, is_thread, length-map, list_any, lt-ltb, map_filters, map_push, next_id, not-false, not-true, numbers, option_map, option_map_or, or_parts, running_on, start_threads, state_of, thread_of, times, times_cons, times_filtered_other, times_push, without_id}
+use Rattle.block_model.proofs.Common.{ℕ, zero, suc, ◌+◌, ◌<◌, ◌≤◌, ◌≡◌, ◌≢◌, ◌&&◌, ◌||◌, Bool, true, false, not, cond, eqb, ltb, List, [], ◌∷◌, ◌++◌, length, map, filter, find, Option, Some, None, is_some, refl, sym, ap, ◌∙◌, subst, inl, inr, arith, All-from_recursion, AreIdsApart, IsLeastFree, IsTables, Running, Scheduling, Thread, ThreadState, Threads, cases_lt, eqb_same, eqb_tells, false≢true, has_hart, has_hart-harts_that, held_ids, id_of, is_id_of, is_running_state, is_taken, is_thread, length-map, list_any, lt-ltb, map_filters, map_push, next_id, not-false, not-true, numbers, option_map, option_map_or, or_parts, running_on, start_threads, state_of, thread_of, times, times_cons, times_filtered_other, times_push, without_id, Hart, new_thread}
 use Rattle.std.proofs.lemmas.List.Elements.{All-append, All-filter}
 use Rattle.std.specs.Prelude.{unwrap_or}
-use Rattle.mach_types.specs.declared.events.Hart.{Hart}
 use Rattle.block_model.specs.Ids.{with_id}
 use Rattle.mach_types.specs.Kernel.Areas.{concurrency_ids}
 use Rattle.block_model.proofs.KernelTables.{any_of, its_ready, its_state, joined, once, ready_state, running_there, taken}
@@ -30,7 +28,7 @@ IsSmall pair = pair.1 < length concurrency_ids
 
 pub ids_start : AreIdsApart start_threads []
 ids_start = record {
-  held = λ t. elim (eqb 1 t) as (λ b. 0 ≡ once (its_run (its_state (cond b (Some (record { tid = 1; state = Ready; clear_at = 0 })) None))))
+  held = λ t. elim (eqb 1 t) as (λ b. 0 ≡ once (its_run (its_state (cond b (Some (new_thread 1)) None))))
       [ true ↦ refl | false ↦ refl ];
   apart = λ n. omega arith;
   small = All-from_recursion IsSmall [] tt;

@@ -1,6 +1,5 @@
 -- Which concurrency ids a call leaves, and that a thread holds the same one while it runs.
-use Rattle.std.proofs.Common.{◌≡◌, ℕ, ◌⊎◌, Bool, true, false, cond, List, refl, ap, inl, inr, ◌≢◌, ◌≤◌, ◌∷◌, ◌++◌, ◌∙◌, ◌||◌, not, eqb, [], find, Option, Some, sym, subst}
-use Rattle.block_model.proofs.Common.{CallDone, Done, Entry, Here, History, IsAllowedLog, IsRunHistory, Kernel, Kind, Setting, Write, argument, called, choice_of, clear_of, cleared, clears, clone_child_cleartid, done, done_of, eqb-true, eqb_tells, event, false≢true, had_child, has_flag, here_in_history, history, id_of, is_id_of, kernel, list_any, ne_eqb, next_id, next_number, option_map_or, running, wake, without_id}
+use Rattle.block_model.proofs.Common.{◌≡◌, ℕ, ◌⊎◌, Bool, true, false, cond, List, refl, ap, inl, inr, ◌≢◌, ◌≤◌, ◌∷◌, ◌++◌, ◌∙◌, ◌||◌, not, eqb, [], find, Option, Some, sym, subst, CallDone, Done, Entry, Here, History, IsAllowedLog, IsRunHistory, Kernel, Kind, Setting, Write, argument, called, choice_of, clear_of, cleared, clears, clone_child_cleartid, done, done_of, eqb-true, eqb_tells, event, false≢true, had_child, has_flag, here_in_history, history, id_of, is_id_of, kernel, list_any, ne_eqb, next_id, next_number, option_map_or, running, wake, without_id}
 use Rattle.block_model.proofs.CallEffects.{Answers, Bears, CallDeed, Exits, Leaves, MovesOff, TableStep, Waits, Wakes}
 use Rattle.block_model.proofs.CallEffects.EachCall.{deed_called}
 use Rattle.block_model.proofs.Invariants.Calls.Futexes.{wake_keeps}

@@ -1,6 +1,5 @@
 -- What the record holds for threads at each place of a block run: their ids and their areas.
-use Rattle.std.proofs.Common.{◌≡◌, ℕ, ◌<◌, ◌≤◌, ◌||◌, List, [], ◌∷◌, ◌++◌, length, find, refl, sym, ap, ◌∙◌, subst, arith, Bool, true, false, cond, Some, None, Ok}
-use Rattle.block_model.proofs.Common.{AreIdsApart, Area, Choice, Done, Entry, Here, History, IsAllowedLog, IsHeld, IsLeastFree, IsRunHistory, IsSome, Setting, Tid, area_of, choice_of, decide, done, done_killed, done_of, done_running, event, here_in_history, history, id_of, interruption_here, is_area_of, is_live, is_ready, kernel, list_any, lives_on, next_id, option_map, refusal_of, running, running_on, runs, state_of}
+use Rattle.block_model.proofs.Common.{◌≡◌, ℕ, ◌<◌, ◌≤◌, ◌||◌, List, [], ◌∷◌, ◌++◌, length, find, refl, sym, ap, ◌∙◌, subst, arith, Bool, true, false, cond, Some, None, Ok, AreIdsApart, Area, Choice, Done, Entry, Here, History, IsAllowedLog, IsHeld, IsLeastFree, IsRunHistory, IsSome, Setting, Tid, area_of, choice_of, decide, done, done_killed, done_of, done_running, event, here_in_history, history, id_of, interruption_here, is_area_of, is_live, is_ready, kernel, list_any, lives_on, next_id, option_map, refusal_of, running, running_on, runs, state_of}
 use Rattle.mach_types.specs.declared.events.Choice.TheVariants as asked
 use Rattle.block_model.proofs.Runs.{allowed_at, fit_at, history-append, settled}
 use Rattle.block_model.proofs.Invariants.Events.{run_ready}

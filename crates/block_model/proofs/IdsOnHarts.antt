@@ -1,6 +1,5 @@
 -- The ids that are held are those of the threads that harts run.
-use Rattle.std.proofs.Common.{ℕ, zero, suc, ◌<◌, ◌≤◌, ◌≡◌, ◌≢◌, ◌||◌, Bool, true, false, eqb, List, [], ◌∷◌, Option, Some, None, refl, sym, ap, ◌∙◌, subst, inl, inr, arith}
-use Rattle.block_model.proofs.Common.{AreIdsApart, IsTables, Scheduling, Threads, cases_lt, eqb-true, eqb_same, eqb_tells, false≢true, has_hart, has_hart-harts_that, held_ids, id_of, is_id_of, is_taken, list_any, lt-ltb, option_map_or, or_right, running_on, state_of, times, times_cons}
+use Rattle.block_model.proofs.Common.{ℕ, zero, suc, ◌<◌, ◌≤◌, ◌≡◌, ◌≢◌, ◌||◌, Bool, true, false, eqb, List, [], ◌∷◌, Option, Some, None, refl, sym, ap, ◌∙◌, subst, inl, inr, arith, AreIdsApart, IsTables, Scheduling, Threads, cases_lt, eqb-true, eqb_same, eqb_tells, false≢true, has_hart, has_hart-harts_that, held_ids, id_of, is_id_of, is_taken, list_any, lt-ltb, option_map_or, or_right, running_on, state_of, times, times_cons}
 use Rattle.block_model.proofs.Ids.{first_id, holder_there, holders, in_set, is_run, its_run, once_most, run_state}
 use Rattle.block_model.proofs.KernelCalls.{any_from_times}
 use Rattle.block_model.proofs.KernelTables.{any_of, once, running_is, running_there}

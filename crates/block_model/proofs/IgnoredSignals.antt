@@ -1,6 +1,5 @@
 -- No signal is pending that its action ignores (signal(7)): what each step of signals keeps of this.
-use Rattle.std.proofs.Common.{◌≡◌, ◌≢◌, ℕ, zero, suc, ◌-◌, ◌<◌, ◌≤◌, ◌%◌, ◌^◌, ◌&&◌, ◌||◌, ◌⊎◌, Bool, true, false, not, cond, eqb, min, max, List, [], ◌∷◌, ◌++◌, map, filter, find, get_or, set, Option, Some, None, refl, sym, ap, ◌∙◌, inl, inr, arith, w64}
-use Rattle.block_model.proofs.Common.{Action, AllByRecursion, SIG_DFL, Signalling, ThreadSignals, acted, action_of, and_parts, cases_eq, cond_both, default_action, dropped, entered_action, false≢true, handler_mask, has_signal, is_handler, is_ignored, joined, less, mask_if, mask_of, nat_tests, only, option_map_or, or_cases, pending_of, post_if, posted, restored_mask, set_action, signals_handled, start_signalling, take_if, with_mask, with_pending, with_thread, without_pending, without_signal}
+use Rattle.block_model.proofs.Common.{◌≡◌, ◌≢◌, ℕ, zero, suc, ◌-◌, ◌<◌, ◌≤◌, ◌%◌, ◌^◌, ◌&&◌, ◌||◌, ◌⊎◌, Bool, true, false, not, cond, eqb, min, max, List, [], ◌∷◌, ◌++◌, map, filter, find, get_or, set, Option, Some, None, refl, sym, ap, ◌∙◌, inl, inr, arith, w64, Action, AllByRecursion, SIG_DFL, Signalling, ThreadSignals, acted, action_of, and_parts, cases_eq, cond_both, default_action, dropped, entered_action, false≢true, handler_mask, has_signal, is_handler, is_ignored, joined, less, mask_if, mask_of, nat_tests, only, option_map_or, or_cases, pending_of, post_if, posted, restored_mask, set_action, signals_handled, start_signalling, take_if, with_mask, with_pending, with_thread, without_pending, without_signal}
 use Rattle.std.specs.Int.{bit_at}
 use Rattle.std.proofs.lemmas.List.{get_or-set_other}
 use Rattle.std.proofs.lemmas.Nat.Bits.{bit_at-lt, bit_at-pow_other, bit_at-pow_same, bit_at_and, bit_at_not, bit_at_or}

@@ -1,6 +1,5 @@
 -- At each place of a block run no signal is pending that its action ignores: what calls and events keep of this.
-use Rattle.std.proofs.Common.{ℕ, List, Bool, true, false, not, cond, ◌∷◌, [], Some, sym, subst}
-use Rattle.block_model.proofs.Common.{CallDone, Done, Entry, Event, Here, History, IsRunHistory, Kernel, Kind, Setting, Write, action_of, and_parts, argument, call_number, clear_of, cleared, clears, clone_child_cleartid, done, had_child, has_flag, has_signal, here_in_history, is_handler, kernel, mask_of, next_number, signals_taken, wake}
+use Rattle.block_model.proofs.Common.{ℕ, List, Bool, true, false, not, cond, ◌∷◌, [], Some, sym, subst, CallDone, Done, Entry, Event, Here, History, IsRunHistory, Kernel, Kind, Setting, Write, action_of, and_parts, argument, call_number, clear_of, cleared, clears, clone_child_cleartid, done, had_child, has_flag, has_signal, here_in_history, is_handler, kernel, mask_of, next_number, signals_taken, wake}
 use Rattle.block_model.proofs.CallEffects.{Answers, Bears, Breaks, CallDeed, Exits, Resumes, Signalled, TableStep, Wakes}
 use Rattle.block_model.proofs.CallEffects.EachCall.{deed_called}
 use Rattle.block_model.proofs.EventEffects.{Calls, EventDeed, Faults, Handles, SignalKills, deed_of}

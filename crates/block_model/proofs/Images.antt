@@ -1,7 +1,9 @@
 -- A file has one image, which is laid out, and its bytes are those of memory.
-use Rattle.std.proofs.Common.{◌≡◌, ◌≢◌, ◌⊎◌, ◌↔◌, ℕ, zero, suc, ◌+◌, ◌*◌, ◌<◌, List, [], ◌∷◌, length, refl, sym, ap, ◌∙◌, subst, arith, inl, inr, get_or, ◌-◌, ◌≤◌, map, add-one, None, ◌/◌, ◌%◌, ◌^◌, ◌==◌, ◌&&◌, nat_le, nat_lt, find, Bool, true, false, cond, Option, Some, slice_index, unwrap_or}
-use Rattle.block_model.proofs.Common.{All, All-from_recursion, All-head, All-tail, AllByRecursion, FIRST_MAPPING_PAGE, FIRST_STACK_PAGE, Here, MAPPING_START, PAGE_SIZE, Saved, Store, Stored, Write, Zeroed, byte_after, byte_of, byte_over, can_read, cases_eq, frame_read, is_in, length-map, memory, mod-lt, overlay, pages_of, permission_at, permission_of, word_at, word_before, words_at, written}
-use Rattle.std.proofs.lemmas.Grind.{get_or_default_zero, same_number_lists}
+use Rattle.block_model.proofs.Common.{◌≡◌, ◌≢◌, ◌⊎◌, ◌↔◌, ℕ, zero, suc, ◌+◌, ◌*◌, ◌<◌, List, [], ◌∷◌, length, refl, sym, ap, ◌∙◌, subst, arith, inl, inr, get_or, ◌-◌, ◌≤◌, map, None, ◌/◌, ◌%◌, ◌^◌, ◌==◌, ◌&&◌, nat_le, nat_lt, find, Bool, true, false, cond, Option, Some, slice_index, unwrap_or, All, All-from_recursion, All-head, All-tail, AllByRecursion, FIRST_MAPPING_PAGE, FIRST_STACK_PAGE, Here, MAPPING_START, PAGE_SIZE, Saved, Store, Stored, Write, Zeroed, byte_after, byte_of, byte_over, can_read, cases_eq, frame_read, is_in, length-map, memory, mod-lt, overlay, pages_of, permission_at, permission_of, word_at, word_before, words_at, written}
+use Rattle.std.proofs.lemmas.Grind.{same_number_lists}
+use Rattle.std.proofs.lemmas.List.Elements.{Contains-append_right}
+use Rattle.std.proofs.lemmas.List.Kept.{AllPairs-from_increasing}
+use Rattle.std.proofs.lemmas.Map.Made.{Contains-tail}
 use Rattle.std.specs.List.{Contains}
 use Rattle.std.specs.List.Sorted.{IsStrictlyIncreasing}
 use Rattle.mach_types.specs.declared.limits.Limits.{Limits}
@@ -20,16 +22,9 @@ use Rattle.elf_load.specs.declared.program_headers.ProgramHeader.{ProgramHeader}
 use Rattle.block_model.specs.Calls.Answers.{number_at}
 
 -- in a rising list the first is the least
-least_at : (x : ℕ) (xs : List ℕ) → IsStrictlyIncreasing (x ∷ xs) → (k : ℕ) → k < length xs → x < get_or xs k 0
-least_at x xs rising zero lt = rising 0 (omega arith)
-least_at x xs rising (suc k) lt =
-    let was : x < get_or xs k 0 = least_at x xs rising k (omega arith) in
-    let step : suc k + 1 ≡ suc (suc k) = omega arith in
-    let up : get_or xs k 0 < get_or xs (suc k) 0 = subst (λ j. get_or xs k 0 < get_or (x ∷ xs) j 0) step (rising (suc k) (omega arith)) in
-    omega arith
-
 least : (x : ℕ) (xs : List ℕ) → IsStrictlyIncreasing (x ∷ xs) → (n : ℕ) → Contains xs n → x < n
-least x xs rising n (k, lt, is) = let up = least_at x xs rising k lt in omega (arith, get_or_default_zero xs k n lt, is)
+least x xs rising n (k, lt, is) =
+    let up = AllPairs-from_increasing (x ∷ xs) rising 0 (suc k) n (omega arith) (omega arith) in omega (arith, up, is)
 
 rising_tail : (x : ℕ) (xs : List ℕ) → IsStrictlyIncreasing (x ∷ xs) → IsStrictlyIncreasing xs
 rising_tail x xs rising k lt =
@@ -42,9 +37,6 @@ contains_cases x xs n (suc k, lt, is) = inr (k, omega arith, is)
 
 contains_first : (x : ℕ) (xs : List ℕ) → Contains (x ∷ xs) x
 contains_first x xs = (0, omega arith, refl)
-
-contains_later : (x : ℕ) (xs : List ℕ) (n : ℕ) → Contains xs n → Contains (x ∷ xs) n
-contains_later x xs n (k, lt, is) = (suc k, omega arith, is)
 
 nothing_in : (n : ℕ) → Contains [] n → n ≢ n
 nothing_in n (k, lt, is) = λ same. absurd (omega arith)
@@ -59,11 +51,8 @@ same_first x y xs ys up over there here = go (contains_cases y ys x there) (cont
     go (inr later) (inr other) = let below = least y ys over x later in let above = least x xs up y other in omega arith
 
 in_rest : (x y : ℕ) (xs ys : List ℕ) → IsStrictlyIncreasing (x ∷ xs) → x ≡ y → (n : ℕ) → Contains xs n → Contains (y ∷ ys) n → Contains ys n
-in_rest x y xs ys up same n here there = go (contains_cases y ys n there)
-  where
-    go : (n ≡ y) ⊎ Contains ys n → Contains ys n
-    go (inl first) = let above = least x xs up n here in absurd (omega arith)
-    go (inr later) = later
+in_rest x y xs ys up same n here there =
+    Contains-tail y ys n (λ first. let above = least x xs up n here in omega arith) there
 
 same_rising : (xs ys : List ℕ) → IsStrictlyIncreasing xs → IsStrictlyIncreasing ys → ((n : ℕ) → Contains xs n ↔ Contains ys n) → xs ≡ ys
 same_rising [] [] up over both = refl
@@ -73,7 +62,7 @@ same_rising (x ∷ xs) (y ∷ ys) up over both =
     let first : x ≡ y = same_first x y xs ys up over ((both x).0 (contains_first x xs)) ((both y).1 (contains_first y ys)) in
     let rest : xs ≡ ys =
     same_rising xs ys (rising_tail x xs up) (rising_tail y ys over) (λ n.
-    (λ here. in_rest x y xs ys up first n here ((both n).0 (contains_later x xs n here)), λ there. in_rest y x ys xs over (sym first) n there ((both n).1 (contains_later y ys n there)))) in
+    (λ here. in_rest x y xs ys up first n here ((both n).0 (Contains-append_right (x ∷ []) xs n here)), λ there. in_rest y x ys xs over (sym first) n there ((both n).1 (Contains-append_right (y ∷ []) ys n there)))) in
     cc
 
 -- the number of a page fixes it
@@ -117,16 +106,6 @@ one_setting file a b limits one other =
     let break_at : a.break_at ≡ b.break_at = one.break_at ∙ ap end_of pages ∙ sym other.break_at in
     cc
 
--- among rising numbers, a later one is greater
-rises : (xs : List ℕ) (i j : ℕ) → IsStrictlyIncreasing xs → i < j → j < length xs → get_or xs i 0 < get_or xs j 0
-rises xs i zero up lt within = absurd (omega arith)
-rises xs i (suc j) up lt within =
-    let next : get_or xs j 0 < get_or xs (suc j) 0 = rw add-one at (up j (omega arith)) in
-    elim (cases_eq i j) [
-      | inl same ↦ rw same next
-      | inr ne ↦ let below = rises xs i j up (omega arith) (omega arith) in omega (arith, below, next)
-    ]
-
 number_of_page : (pages : List ImagePage) (k : ℕ) (d : ImagePage) → k < length pages → get_or (numbers pages) k 0 ≡ (get_or pages k d).number
 number_of_page [] k d lt = absurd (omega arith)
 number_of_page (p ∷ pages) zero d lt = refl
@@ -140,7 +119,7 @@ below_end pages up k d lt =
     let size : length (numbers pages) ≡ length pages = length-map pages number_of in
     let last : get_or (numbers pages) k 0 ≤ get_or (numbers pages) (length pages - 1) 0 = elim (cases_eq k (length pages - 1)) [
       | inl same ↦ rw same (omega arith)
-      | inr two ↦ let less = rises (numbers pages) k (length pages - 1) up (omega arith) (omega arith) in omega (arith, less)
+      | inr two ↦ let less = AllPairs-from_increasing (numbers pages) up k (length pages - 1) 0 (omega arith) (omega arith) in omega (arith, less)
     ] in
     omega (arith, here, last)
 

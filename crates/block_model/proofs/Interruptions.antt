@@ -1,6 +1,5 @@
 -- What an interruption comes to, and that it leaves the pointer of the thread's area 0 (rseq(2)).
-use Rattle.std.proofs.Common.{◌≡◌, ℕ, ◌+◌, ◌-◌, ◌/◌, ◌%◌, ◌^◌, ◌*◌, ◌<◌, ◌≤◌, ◌&&◌, ◌⊎◌, inl, inr, List, [], ◌∷◌, ◌++◌, drop, length, take, refl, sym, ap, ◌∙◌, arith, Bool, true, false, if◌then◌else◌, cond, leb, ltb, Option, Some, None, is_some, length-append, subst, not, Any}
-use Rattle.block_model.proofs.Common.{Area, BadWhy, CPU_ID, Done, Here, MM_CID, NODE_ID, Named, Outcome, RSEQ_CS, SIGNAL_FRAME_SIZE, Saved, Seq, Store, Stored, Words, Write, and_right, are_readable, area_here, byte_of, byte_over, can_read, can_write_words, done_running, false≢true, frame_at, frame_words, frame_writes, interruption, interruption_here, is_clearable, is_inside, is_inside_named, is_writable, length-take, lives_on, ltb-false, meets, memory, memory_in, named, nat_tests, next_id, number_at, option_map_or, permission_at, pointer_of, stack_pointer, word_at, word_at-read, words_entered, words_on, words_stored, words_to, words_written, writes_of, written}
+use Rattle.block_model.proofs.Common.{◌≡◌, ℕ, ◌+◌, ◌-◌, ◌/◌, ◌%◌, ◌^◌, ◌*◌, ◌<◌, ◌≤◌, ◌&&◌, ◌⊎◌, inl, inr, List, [], ◌∷◌, ◌++◌, drop, length, take, refl, sym, ap, ◌∙◌, arith, Bool, true, false, if◌then◌else◌, cond, leb, ltb, Option, Some, None, is_some, length-append, subst, not, Any, Area, BadWhy, CPU_ID, Done, Here, MM_CID, NODE_ID, Named, Outcome, RSEQ_CS, SIGNAL_FRAME_SIZE, Saved, Seq, Store, Stored, Words, Write, and_right, are_readable, area_here, byte_of, byte_over, can_read, can_write_words, done_running, false≢true, frame_at, frame_words, frame_writes, interruption, interruption_here, is_clearable, is_inside, is_inside_named, is_writable, length-take, lives_on, ltb-false, meets, memory, memory_in, named, nat_tests, next_id, number_at, option_map_or, permission_at, pointer_of, stack_pointer, word_at, word_at-read, words_entered, words_on, words_stored, words_to, words_written, writes_of, written}
 use Rattle.mach_types.proofs.Laws.{each_byte-same}
 use Rattle.mach_types.specs.Kernel.Areas.{pointer_cleared, outcome_of}
 use Rattle.block_model.proofs.NamedSequences.{number_agrees, IsNull, number_null, nothing_null, read_unless_bad}

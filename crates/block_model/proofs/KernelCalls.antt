@@ -1,11 +1,9 @@
 -- What holds of the threads of a process and of their scheduling together holds after each call that changes them (clone(2), futex(2), exit(2), sched_setaffinity(2)).
-use Rattle.std.proofs.Common.{ℕ, ◌+◌, ◌≡◌, ◌≢◌, Bool, true, false, not, ◌||◌, cond, eqb, List, [], ◌∷◌, ◌++◌, length, map, filter, Option, Some, None, is_some, refl, sym, ap, ◌∙◌, inl, inr, arith}
-use Rattle.block_model.proofs.Common.{Decides-eqb, IsTables, Ready, Running, Scheduling, Thread, Threads, Waiting, affinity_of, eqb_tells, forget, is_full, is_of, is_ready, list_any, map_filters, map_push, map_stays, new_thread, next_is_new, numbers, on, option_map, running_on, same_numbers, set_if, state_of, state_of-with_child_other, state_of-with_child_same, state_of-with_state_other, state_of-without_other, state_of-without_same, times, waits, with_affinity, with_child, with_ready, with_waiter, without}
+use Rattle.block_model.proofs.Common.{ℕ, ◌+◌, ◌≡◌, ◌≢◌, Bool, true, false, not, ◌||◌, cond, eqb, List, [], ◌∷◌, ◌++◌, length, map, filter, Option, Some, None, is_some, refl, sym, ap, ◌∙◌, inl, inr, arith, Decides-eqb, IsTables, Ready, Running, Scheduling, Thread, Threads, Waiting, affinity_of, eqb_tells, forget, is_full, is_of, is_ready, list_any, map_filters, map_push, map_stays, new_thread, next_is_new, numbers, on, option_map, running_on, same_numbers, set_if, state_of, state_of-with_child_other, state_of-with_child_same, state_of-with_state_other, state_of-without_other, state_of-without_same, times, waits, with_affinity, with_child, with_ready, with_waiter, without, Hart}
 use Rattle.mach_types.proofs.Laws.{IsThreads-child, IsThreads-without, IsThreads-woken, IsThreads-waiter}
 use Rattle.block_model.proofs.KernelTables.{once, its_ready, held_from_alike, joined, running_is, stopped_idle, stopped_others, runs_once, not_running, state_now, tables_stopped}
 use Rattle.mach_types.specs.Kernel.Threads.{with_woken}
 use Rattle.mach_types.specs.Kernel.Scheduling.{with_thread}
-use Rattle.mach_types.specs.declared.events.Hart.{Hart}
 
 -- a thread is in the ready list where it is ready
 pub any_from_times : (t : ℕ) (order : List ℕ) (b : Bool) → times t order ≡ once b → list_any (λ u. eqb u t) order ≡ b

@@ -1,13 +1,10 @@
 -- What holds of the threads of a process and of their scheduling together, and that it holds after each change of them.
-use Rattle.std.proofs.Common.{ℕ, ◌<◌, ◌≡◌, ◌≢◌, ◌⊎◌, Bool, true, false, not, ◌||◌, cond, eqb, List, [], ◌∷◌, ◌++◌, length, map, filter, find, Option, Some, None, Less, is_some, refl, sym, ap, ◌∙◌, subst, inl, inr, arith}
-use Rattle.block_model.proofs.Common.{AllByRecursion, Decides-eqb, IsTables, IsThreads, KeepsRows, Ready, Running, Scheduling, Thread, ThreadState, Threads, Waiting, eqb_same, eqb_tells, false≢true, is_live, is_of, is_ready, is_ready_state, is_running_state, is_thread, is_waiting_state, list_any, nat_tests, numbers, numbers-with_rows, on, option_map, option_map_or, running_on, same_numbers, start_scheduling, start_threads, state_of, state_of-with_rows, state_of-with_state_other, state_of-with_state_same, thread_of, times, times_filtered_other, times_push, waits, with_ready, with_rows, with_state}
+use Rattle.block_model.proofs.Common.{ℕ, ◌<◌, ◌≡◌, ◌≢◌, ◌⊎◌, Bool, true, false, not, ◌||◌, cond, eqb, List, [], ◌∷◌, ◌++◌, length, map, filter, find, Option, Some, None, Less, is_some, refl, sym, ap, ◌∙◌, subst, inl, inr, arith, AllByRecursion, Decides-eqb, IsTables, IsThreads, KeepsRows, Ready, Running, Scheduling, Thread, ThreadState, Threads, Waiting, eqb_same, eqb_tells, false≢true, is_live, is_of, is_ready, is_ready_state, is_running_state, is_thread, is_waiting_state, list_any, nat_tests, numbers, numbers-with_rows, on, option_map, option_map_or, running_on, same_numbers, start_scheduling, start_threads, state_of, state_of-with_rows, state_of-with_state_other, state_of-with_state_same, thread_of, times, times_filtered_other, times_push, waits, with_ready, with_rows, with_state, sorted_from_strictly_increasing, Hart, new_thread}
 use Rattle.std.specs.List.Sorted.{IsStrictlySortedBy}
 use Rattle.std.specs.Ordering.{nat_cmp}
-use Rattle.std.proofs.lemmas.Map.Keys.{sorted_from_strictly_increasing}
 use Rattle.mach_types.proofs.Laws.{times_one, times_one_other, times_filtered_same, IsThreads-start, IsThreads-with_state, IsThreads-with_rows}
 use Rattle.mach_types.specs.Kernel.Threads.{is_running_on, is_on}
 use Rattle.mach_types.specs.Kernel.Scheduling.{without_ready}
-use Rattle.mach_types.specs.declared.events.Hart.{Hart}
 
 abbrev pub once : Bool → ℕ
 once b = cond b 1 0
@@ -195,10 +192,10 @@ start_one : (t : ℕ) (s : ThreadState) → state_of t start_threads ≡ Some s 
 start_one t s e =
     elim (eqb_tells 1 t) [
       | inl p ↦
-          let found : state_of t start_threads ≡ Some Ready = ap (λ b. its_state (cond b (Some (record { tid = 1; state = Ready; clear_at = 0 })) None)) p.0 in
+          let found : state_of t start_threads ≡ Some Ready = ap (λ b. its_state (cond b (Some (new_thread 1)) None)) p.0 in
           (sym p.1, cc)
       | inr q ↦
-          let none : state_of t start_threads ≡ None = ap (λ b. its_state (cond b (Some (record { tid = 1; state = Ready; clear_at = 0 })) None)) q.0 in
+          let none : state_of t start_threads ≡ None = ap (λ b. its_state (cond b (Some (new_thread 1)) None)) q.0 in
           let no : ⊥ = cc in
           absurd no
     ]
@@ -209,7 +206,7 @@ tables_start harts =
       threads = IsThreads-start;
       one = λ h t u p q. (start_one t (on h) p).0 ∙ sym (start_one u (on h) q).0;
       below = λ t k p. let no : Running k ≡ Ready = (start_one t (Running k) p).1 in cc;
-      ready = λ t. elim (eqb 1 t) as (λ b. length {A = ℕ} (cond b (1 ∷ []) []) ≡ once (its_ready (its_state (cond b (Some (record { tid = 1; state = Ready; clear_at = 0 })) None))))
+      ready = λ t. elim (eqb 1 t) as (λ b. length {A = ℕ} (cond b (1 ∷ []) []) ≡ once (its_ready (its_state (cond b (Some (new_thread 1)) None))))
           [ true ↦ refl | false ↦ refl ];
       held = held_from_alike start_threads (start_scheduling harts) refl;
       alike = refl;

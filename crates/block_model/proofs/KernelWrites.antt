@@ -1,7 +1,6 @@
 -- What the kernel writes it writes where its pages say that it may: in a call, and in an event that is no instruction and no entering of
 -- a store. So none of it lies where there is no page.
-use Rattle.std.proofs.Common.{◌≡◌, ◌≢◌, ℕ, Bool, true, false, not, cond, Option, Some, None, refl}
-use Rattle.block_model.proofs.Common.{Area, CallDone, Choice, Done, Here, Kind, Outcome, SIGSEGV, Words, action_of, are_words_writable, area_here, call_number, called, called_here, can_write_frame, cond_both, done_killed, done_next, done_of, done_running, done_signal_by, file_interrupted, frame_writes, handled_unless_killed, interruption_here, is_handler, is_inside_here, is_writable, killed_in_call, kills, mask_of, memory, next_for, next_id, runs, words_entered, words_on, words_to, writes_of}
+use Rattle.block_model.proofs.Common.{◌≡◌, ◌≢◌, ℕ, Bool, true, false, not, cond, Option, Some, None, refl, Area, CallDone, Choice, Done, Here, Kind, Outcome, SIGSEGV, Words, action_of, are_words_writable, area_here, call_number, called, called_here, can_write_frame, cond_both, done_killed, done_next, done_of, done_running, done_signal_by, file_interrupted, frame_writes, handled_unless_killed, interruption_here, is_handler, is_inside_here, is_writable, killed_in_call, kills, mask_of, memory, next_for, next_id, runs, words_entered, words_on, words_to, writes_of}
 use Rattle.mach_types.specs.declared.events.Choice.TheVariants as asked
 use Rattle.mach_types.specs.declared.events.Kind.TheVariants as kind
 use Rattle.mach_types.specs.declared.sequences.Outcome.TheVariants as comes_to

@@ -1,10 +1,8 @@
 -- Worked examples of the laws' words: a call that gives an error, an exit that doesn't, a walk, and the choices of `run`.
-use Rattle.std.proofs.Common.{◌≡◌, ◌≢◌, ℕ, ◌-◌, ◌^◌, List, [], ◌∷◌, ◌++◌, ◌&&◌, Bool, true, false, take, refl, ap, ◌∙◌, arith, Option, Some, None, inl, inr}
-use Rattle.block_model.proofs.Common.{Choice, Entry, GivesError, History, IsChosen, Luck, Setting, all_signals, choice_at, done, entry_in, file, has_ended, here_in_history, history, is_choice, is_register_only, luck, luck_after, meaning, next_entry, option_map, pick, pick_with, register, row_of, rows, sight_with}
+use Rattle.block_model.proofs.Common.{◌≡◌, ◌≢◌, ℕ, ◌-◌, ◌^◌, List, [], ◌∷◌, ◌++◌, ◌&&◌, Bool, true, false, take, refl, ap, ◌∙◌, arith, Option, Some, None, inl, inr, Choice, Entry, GivesError, History, IsChosen, Luck, Setting, all_signals, choice_at, done, entry_in, file, has_ended, here_in_history, history, is_choice, is_register_only, luck, luck_after, meaning, next_entry, option_map, pick, pick_with, register, row_of, rows, sight_with, Pick}
 use Rattle.mach_types.specs.declared.events.Choice.TheVariants as asked
 use Rattle.mach_types.specs.declared.events.Kind.TheVariants as kind
 use Rattle.chooser.specs.Generators.{first_generator, next_generator, word}
-use Rattle.chooser.specs.declared.chooser.Pick.{Pick}
 use Rattle.block_model.specs.Walks.{IsWalk, answers, computed}
 use Rattle.block_model.proofs.ExamplePrograms.{code_and_data, entry}
 

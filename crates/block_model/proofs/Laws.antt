@@ -1,8 +1,6 @@
 -- The laws that crates above cite: what is decided at a place, what an event that is allowed did, and where a log begins.
-use Rattle.std.proofs.Common.{◌≡◌, ◌≢◌, ℕ, ◌≤◌, ◌<◌, ◌-◌, ◌^◌, List, [], ◌∷◌, ◌++◌, length, All, arith, refl, sym, ap, ◌∙◌, subst, append-nil, append_assoc, Some, None, Ok, Err}
-use Rattle.block_model.proofs.Common.{AllAnswer, AreSignalsOfLive, Ask, Choice, Done, End, Ended, Entry, Full, History, IsAllowedLog, IsBlockRun, IsChosen, IsHeld, IsRunHistory, IsSolo, NoHart, NotEnabled, Plain, Seen, Setting, apply, choice_at, choice_of, decide, decide_in, done_of, end_of, entry_in, event, events, here_in_history, here_of, history, le-leb, lt-leb, next_entry, over_at, plain_after, plain_over, plain_solo, played, ran, refusal_of, script_of, sight_in, solo_choice, solo_rule, unless}
+use Rattle.block_model.proofs.Common.{◌≡◌, ◌≢◌, ℕ, ◌≤◌, ◌<◌, ◌-◌, ◌^◌, List, [], ◌∷◌, ◌++◌, length, All, arith, refl, sym, ap, ◌∙◌, subst, append-nil, append_assoc, Some, None, Ok, Err, AllAnswer, AreSignalsOfLive, Ask, Choice, Done, End, Ended, Entry, Full, History, IsAllowedLog, IsBlockRun, IsChosen, IsHeld, IsRunHistory, IsSolo, NoHart, NotEnabled, Plain, Seen, Setting, apply, choice_at, choice_of, decide, decide_in, done_of, end_of, entry_in, event, events, here_in_history, here_of, history, le-leb, lt-leb, next_entry, over_at, plain_after, plain_over, plain_solo, played, ran, refusal_of, script_of, sight_in, solo_choice, solo_rule, unless, Sight}
 use Rattle.std.specs.Result.{IsOk}
-use Rattle.mach_types.specs.declared.events.Sight.{Sight}
 use Rattle.mach_types.specs.declared.limits.End.TheVariants.{Unended}
 use Rattle.block_model.specs.Stands.{stand_of}
 use Rattle.block_model.specs.Plain.{plain_seen}

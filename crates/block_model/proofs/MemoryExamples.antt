@@ -1,6 +1,5 @@
 -- Worked examples, proved by computation: calls that map, remove and protect pages, and what holds them up.
-use Rattle.std.proofs.Common.{◌≡◌, ℕ, ◌-◌, ◌^◌, List, [], ◌∷◌, map, replicate, refl, true, false, cond, eqb, Option, Some, None}
-use Rattle.block_model.proofs.Common.{Here, Neighbour, Others, Saved, Why, Zeroed, called, count_pages, here_in_history, is_held, is_storable, lowest_hole, memory, no_registers, others_gate, paged, permission_at, reached, register, with_register}
+use Rattle.block_model.proofs.Common.{◌≡◌, ℕ, ◌-◌, ◌^◌, List, [], ◌∷◌, map, replicate, refl, true, false, cond, eqb, Option, Some, None, Here, Neighbour, Others, Saved, Why, Zeroed, called, count_pages, here_in_history, is_held, is_storable, lowest_hole, memory, no_registers, others_gate, paged, permission_at, reached, register, with_register}
 use Rattle.mach_types.specs.Kernel.Barriers.{none_registered}
 use Rattle.mach_types.specs.Kernel.PageCalls.{break_moved}
 use Rattle.mach_types.specs.Kernel.Pages.{each_page, first_page}

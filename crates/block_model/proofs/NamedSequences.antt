@@ -1,10 +1,8 @@
 -- What an area names where a thread is inside (rseq(2)), and that it stays where the bytes do at which a check looks.
-use Rattle.std.proofs.Common.{◌≡◌, ◌≢◌, ℕ, zero, suc, ◌+◌, ◌-◌, ◌≤◌, ◌<◌, refl, sym, ap, ◌∙◌, arith, Bool, true, false, not, cond, ◌&&◌, eqb, leb, Option, is_some, unwrap_or, subst, eq-eqb, Some, None}
-use Rattle.block_model.proofs.Common.{Area, BadWhy, Named, RSEQ_CS, Seq, USER_END, are_readable, can_read_area, can_read_descriptor, descriptor_at, each_byte, eqb-true, false≢true, has_flags, is_inside, is_inside_named, is_out_of_range, is_signed, named, named_by, nat_tests, number_at, option_map_or, pointer_of, sequence_of, word_at, word_at-read}
+use Rattle.block_model.proofs.Common.{◌≡◌, ◌≢◌, ℕ, zero, suc, ◌+◌, ◌-◌, ◌≤◌, ◌<◌, refl, sym, ap, ◌∙◌, arith, Bool, true, false, not, cond, ◌&&◌, eqb, leb, Option, is_some, unwrap_or, subst, eq-eqb, Some, None, Area, BadWhy, Named, RSEQ_CS, Seq, USER_END, are_readable, can_read_area, can_read_descriptor, descriptor_at, each_byte, eqb-true, false≢true, has_flags, is_inside, is_inside_named, is_out_of_range, is_signed, named, named_by, nat_tests, number_at, option_map_or, pointer_of, sequence_of, word_at, word_at-read, Descriptor}
 use Rattle.mach_types.specs.Bytes.{joined}
 use Rattle.mach_types.specs.Kernel.Areas.{flags_of}
 use Rattle.mach_types.specs.declared.sequences.BadWhy.TheVariants as bad
-use Rattle.mach_types.specs.declared.sequences.Descriptor.{Descriptor}
 use Rattle.mach_types.specs.declared.sequences.Named.TheVariants as names
 use Rattle.mach_types.specs.declared.sequences.TheConstants.{AREA_SIZE, DESCRIPTOR_SIZE, FLAGS}
 

@@ -1,7 +1,6 @@
 -- What a call leaves as it is of other threads: who is ready stays so with its file, and each other thread keeps its area. Each call of
 -- the table does.
-use Rattle.std.proofs.Common.{◌≡◌, ◌≢◌, ℕ, ◌+◌, List, [], refl, sym, ap, ◌∙◌, inl, inr, Bool, true, false, cond, Option, Some, None, ◌∷◌, length, map}
-use Rattle.block_model.proofs.Common.{Area, CallDone, Here, IsGoodHere, IsThreads, KeepsRows, Kernel, Ready, Saved, Thread, ThreadState, Threads, Waiting, Write, answered_wait, area_of, argument, broken_wait, called, child_file, clear_if, clear_of, cleared, clears, clone_child_cleartid, eqb_tells, false≢true, file_among, gone, had_child, has_flag, is_ready, keeps_clear, left, ne_eqb, next_is_new, next_number, option_map, registered, restricted, returned, rows_changed, runs, said, signalled, state_of, state_of-with_child_other, state_of-with_child_same, state_of-with_rows, state_of-with_state_other, state_of-with_state_same, state_of-without_other, sum_64, unregistered, waited, waits, wake, with_child, with_new_child, with_state, woken}
+use Rattle.block_model.proofs.Common.{◌≡◌, ◌≢◌, ℕ, ◌+◌, List, [], refl, sym, ap, ◌∙◌, inl, inr, Bool, true, false, cond, Option, Some, None, ◌∷◌, length, map, Area, CallDone, Here, IsGoodHere, IsThreads, KeepsRows, Kernel, Ready, Saved, Thread, ThreadState, Threads, Waiting, Write, answered_wait, area_of, argument, broken_wait, called, child_file, clear_if, clear_of, cleared, clears, clone_child_cleartid, eqb_tells, false≢true, file_among, gone, had_child, has_flag, is_ready, keeps_clear, left, ne_eqb, next_is_new, next_number, option_map, registered, restricted, returned, rows_changed, runs, said, signalled, state_of, state_of-with_child_other, state_of-with_child_same, state_of-with_rows, state_of-with_state_other, state_of-with_state_same, state_of-without_other, sum_64, unregistered, waited, waits, wake, with_child, with_new_child, with_state, woken}
 use Rattle.mach_types.proofs.Laws.{area_of-with_area_other, area_of-without_area_other}
 use Rattle.block_model.proofs.Invariants.Calls.Futexes.{answered, wake_by, wake_keeps}
 use Rattle.block_model.proofs.Invariants.Events.{ready_apart}

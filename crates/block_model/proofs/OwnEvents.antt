@@ -1,8 +1,5 @@
 -- What an event leaves of the thread on its own hart, and of that one's area.
-use Rattle.std.proofs.Common.{◌≡◌, ◌≢◌, ℕ, [], ◌∷◌, ◌⊎◌, inl, inr, List, Option, Some, None, Bool, true}
-use Rattle.block_model.proofs.Common.{Area, CallDone, Done, Effect, Event, Here, History, IsGoodHere, IsRunHistory, Kernel, Kind, Setting, Write, area_of, argument, by_call, call_number, called, choice_of, choice_with, clear_of, cleared, clears, clone_child_cleartid, done, had_child, has_flag, here_in_history, id_of, instruction_gate, is_call, is_held, kernel, left, next_effect, next_fault, next_number, option_or, others_gate, refusal_exec_by, refusal_of, running, running_on, running_on-with_rows, runs, signalled, waiting_here, wake, words_on, words_written}
-use Rattle.std.proofs.Common.{false}
-use Rattle.std.proofs.Common.{cond, length, is_some, refl, sym, ap, ◌∙◌, subst}
+use Rattle.block_model.proofs.Common.{Area, CallDone, Done, Effect, Event, Here, History, IsGoodHere, IsRunHistory, Kernel, Kind, Setting, Write, area_of, argument, by_call, call_number, called, choice_of, choice_with, clear_of, cleared, clears, clone_child_cleartid, done, had_child, has_flag, here_in_history, id_of, instruction_gate, is_call, is_held, kernel, left, next_effect, next_fault, next_number, option_or, others_gate, refusal_exec_by, refusal_of, running, running_on, running_on-with_rows, runs, signalled, waiting_here, wake, words_on, words_written, ◌≡◌, ◌≢◌, ℕ, [], ◌∷◌, ◌⊎◌, inl, inr, List, Option, Some, None, Bool, true, false, cond, length, is_some, refl, sym, ap, ◌∙◌, subst}
 use Rattle.mach_types.proofs.Laws.{area_of-with_area_same, area_of-without_area_same}
 use Rattle.mach_types.specs.declared.events.Kind.TheVariants as kind
 use Rattle.block_model.proofs.Runs.{allowed_at}

@@ -1,7 +1,6 @@
 -- What holds of the pages at each place of a run, and that brk(2), mmap(2), munmap(2) and mprotect(2) keep it: code stays, no page above the
 -- break is mapped below mappings, and each frame is counted. Where mmap(2) puts a mapping, and which pages are in a run.
-use Rattle.std.proofs.Common.{◌≡◌, ℕ, ◌+◌, ◌-◌, ◌*◌, ◌<◌, ◌≤◌, inl, inr, refl, sym, arith, Bool, true, false, cond, eqb, leb, ltb, Option, Some, None, Result, Ok, Err, zero, suc, ◌/◌, ◌⊎◌, ◌∷◌, ap, ◌∙◌, ◌&&◌, is_some, ◌%◌, List, not, is_none}
-use Rattle.block_model.proofs.Common.{EINVAL, Errno, FIRST_MAPPING_PAGE, FIRST_STACK_PAGE, MAPPING_START, PAGE_SIZE, PageRun, Pages, Setting, USER_END, and_parts, and_right, cases_lt, count_pages, each_page-at, eqb-true, false≢true, first_kernel, is_in, le-leb, le-ltb, leb-false, leb-true, lowest_hole, lt-leb, lt-ltb, ltb-false, not-false, not-true, pages_of, permission_of, run}
+use Rattle.block_model.proofs.Common.{◌≡◌, ℕ, ◌+◌, ◌-◌, ◌*◌, ◌<◌, ◌≤◌, inl, inr, refl, sym, arith, Bool, true, false, cond, eqb, leb, ltb, Option, Some, None, Result, Ok, Err, zero, suc, ◌/◌, ◌⊎◌, ◌∷◌, ap, ◌∙◌, ◌&&◌, is_some, ◌%◌, List, not, is_none, EINVAL, Errno, FIRST_MAPPING_PAGE, FIRST_STACK_PAGE, MAPPING_START, PAGE_SIZE, PageRun, Pages, Setting, USER_END, and_parts, and_right, cases_lt, count_pages, each_page-at, eqb-true, false≢true, first_kernel, is_in, le-leb, le-ltb, leb-false, leb-true, lowest_hole, lt-leb, lt-ltb, ltb-false, not-false, not-true, pages_of, permission_of, run}
 use Rattle.mach_types.proofs.Laws.{first_page-some, count_pages-more, count_pages-none}
 use Rattle.mach_types.specs.declared.errors.TheConstants.{EACCES, ENOMEM}
 use Rattle.mach_types.specs.declared.kernel_words.TheConstants.{MOST_PROT, PROT_EXEC, PROT_READ, PROT_WRITE}

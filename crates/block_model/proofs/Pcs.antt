@@ -1,8 +1,6 @@
 -- Each instruction goes on at an address below 2^64, as `rv_inst` proves row by row.
-use Rattle.std.proofs.Common.{◌≡◌, ℕ, ◌+◌, ◌^◌, ◌<◌, subst, arith, Option, Some, None}
-use Rattle.block_model.proofs.Common.{Effect, Saved, instruction_of, meaning, mod-lt, option_map, outcome, sum_64}
+use Rattle.block_model.proofs.Common.{◌≡◌, ℕ, ◌+◌, ◌^◌, ◌<◌, subst, arith, Option, Some, None, Effect, Saved, instruction_of, meaning, mod-lt, option_map, outcome, sum_64, Inst}
 use Rattle.rv_inst.proofs.Laws.{pc-fits}
-use Rattle.rv_inst.specs.declared.instruction.Inst.{Inst}
 use Rattle.block_model.specs.Instruction.{effect_of}
 
 -- a sum of words is a word

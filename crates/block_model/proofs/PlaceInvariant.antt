@@ -1,6 +1,5 @@
 -- What holds at each place of a run, and what an event has to do so that it goes on to hold. No kind of event occurs here.
-use Rattle.std.proofs.Common.{◌≡◌, ◌≢◌, ℕ, ◌+◌, ◌≤◌, ◌<◌, List, [], ◌∷◌, ◌++◌, length, drop, refl, sym, ap, ◌∙◌, arith, subst, Bool, true, false, cond, eqb, Option, Some, None, length-append, length-drop, suc}
-use Rattle.block_model.proofs.Common.{AllByRecursion, Done, Here, IsGoodHere, IsHeld, IsSound, MayEnter, Plain, Saved, Setting, Store, apply, awaits_of_own, eqb-false, eqb-true, file_among, here_in_plain, option_map, running_on, waiting_here, without_hart}
+use Rattle.block_model.proofs.Common.{◌≡◌, ◌≢◌, ℕ, ◌+◌, ◌≤◌, ◌<◌, List, [], ◌∷◌, ◌++◌, length, drop, refl, sym, ap, ◌∙◌, arith, subst, Bool, true, false, cond, eqb, Option, Some, None, length-append, length-drop, suc, AllByRecursion, Done, Here, IsGoodHere, IsHeld, IsSound, MayEnter, Plain, Saved, Setting, Store, apply, awaits_of_own, eqb-false, eqb-true, file_among, here_in_plain, option_map, running_on, waiting_here, without_hart}
 use Rattle.mach_types.specs.declared.user_memory.TheConstants.{STORE_BUFFER_CAPACITY}
 use Rattle.block_model.proofs.Barriers.Requests.{IsAwaited}
 use Rattle.block_model.proofs.Barriers.Events.{IsFitBarriers, IsStill, awaited_next, own_still, restart_next, waited_before}

@@ -1,6 +1,5 @@
 -- The plain machine's state after a run is what is read by looking back. No kind of event occurs here.
-use Rattle.std.proofs.Common.{◌≡◌, ℕ, List, [], ◌∷◌, ◌++◌, length, refl, sym, ap, ◌∙◌, subst}
-use Rattle.block_model.proofs.Common.{Choice, Entry, History, IsAllowedLog, IsRunHistory, Plain, Setting, decide, end_of, event, fold, fold-append, here_in_history, here_in_plain, history, plain_after, plain_decide, plain_end, plain_next, plain_solo_choice, plain_start}
+use Rattle.block_model.proofs.Common.{◌≡◌, ℕ, List, [], ◌∷◌, ◌++◌, length, refl, sym, ap, ◌∙◌, subst, Choice, Entry, History, IsAllowedLog, IsRunHistory, Plain, Setting, decide, end_of, event, fold, fold-append, here_in_history, here_in_plain, history, plain_after, plain_decide, plain_end, plain_next, plain_solo_choice, plain_start}
 use Rattle.block_model.specs.PlainSays.{SaysOf}
 use Rattle.block_model.proofs.PlainEvents.{plain_of}
 use Rattle.block_model.proofs.PlaceInvariant.{IsGood}

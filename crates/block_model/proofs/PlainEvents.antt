@@ -1,6 +1,5 @@
 -- What one event does to the plain state is what it does to what is read by looking back. No kind of event occurs here.
-use Rattle.std.proofs.Common.{◌≡◌, ℕ, ◌+◌, ◌≤◌, List, [], ◌∷◌, ◌++◌, length, drop, refl, sym, ap, arith, Bool, true, false, cond, eqb, length-append, length-drop, zero, suc}
-use Rattle.block_model.proofs.Common.{Event, History, Plain, Setting, Store, apply, drains, eqb-true, stores, waiting}
+use Rattle.block_model.proofs.Common.{◌≡◌, ℕ, ◌+◌, ◌≤◌, List, [], ◌∷◌, ◌++◌, length, drop, refl, sym, ap, arith, Bool, true, false, cond, eqb, length-append, length-drop, zero, suc, Event, History, Plain, Setting, Store, apply, drains, eqb-true, stores, waiting}
 use Rattle.std.proofs.Math.Path.{fun_ext}
 pub use Rattle.block_model.specs.PlainOf.{plain_of}
 

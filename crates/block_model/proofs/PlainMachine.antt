@@ -1,6 +1,5 @@
 -- The plain machine's run over a script, and by the fixed rule of `solo`, makes the log of the block run.
-use Rattle.std.proofs.Common.{◌≡◌, ℕ, ◌+◌, List, [], ◌∷◌, ◌++◌, length, refl, sym, ap, ◌∙◌, subst, Bool, true, false, cond, Option, Some, None, Result, Ok, Err, ◌≢◌, ◌-◌, ◌≤◌, zero, suc, arith, append-nil, append_assoc, add-zero, add-suc}
-use Rattle.block_model.proofs.Common.{Ask, Choice, Entry, History, IsAllowedLog, IsSolo, Plain, Refused, Setting, Tid, checked, choice_of, decide, end_of, event, extended, fold, history, is_as_said, plain_after, plain_decide, plain_next, plain_solo, plain_solo_choice, play_line, played, script_of, solo_choice}
+use Rattle.block_model.proofs.Common.{◌≡◌, ℕ, ◌+◌, List, [], ◌∷◌, ◌++◌, length, refl, sym, ap, ◌∙◌, subst, Bool, true, false, cond, Option, Some, None, Result, Ok, Err, ◌≢◌, ◌-◌, ◌≤◌, zero, suc, arith, append-nil, append_assoc, add-zero, add-suc, Ask, Choice, Entry, History, IsAllowedLog, IsSolo, Plain, Refused, Setting, Tid, checked, choice_of, decide, end_of, event, extended, fold, history, is_as_said, plain_after, plain_decide, plain_next, plain_solo, plain_solo_choice, play_line, played, script_of, solo_choice}
 use Rattle.block_model.specs.Plain.{PlainRun, plain_begin, plain_line, plain_run, confirmed, gone_on, log_made, solo_chosen, solo_gone_on}
 use Rattle.block_model.specs.PlainSays.{SaysOf, MakesLog}
 use Rattle.block_model.proofs.PlainAgreement.{agreement_decide, plain-append, plain-made, plain-nil, says_of}

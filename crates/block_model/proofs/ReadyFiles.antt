@@ -1,6 +1,5 @@
 -- A ready thread stays ready, with its file, until it begins to run; and a thread keeps its area but where it runs itself.
-use Rattle.std.proofs.Common.{◌≡◌, ◌≢◌, ℕ, List, [], ◌∷◌, refl, sym, ap, ◌∙◌, subst, true, cond, Some}
-use Rattle.block_model.proofs.Common.{Done, Event, Here, History, IsGoodHere, IsRunHistory, Kind, Saved, Setting, area_of, choice_of, done, file, file_among, files_interrupted, here_in_history, interruption_here, is_ready, kernel, ne_eqb, on, running, runs, state_of-with_state_other}
+use Rattle.block_model.proofs.Common.{◌≡◌, ◌≢◌, ℕ, List, [], ◌∷◌, refl, sym, ap, ◌∙◌, subst, true, cond, Some, Done, Event, Here, History, IsGoodHere, IsRunHistory, Kind, Saved, Setting, area_of, choice_of, done, file, file_among, files_interrupted, here_in_history, interruption_here, is_ready, kernel, ne_eqb, on, running, runs, state_of-with_state_other}
 use Rattle.mach_types.specs.declared.events.Kind.TheVariants as kind
 use Rattle.block_model.proofs.Runs.{allowed_at, settled}
 use Rattle.block_model.proofs.PlainEvents.{plain_of}

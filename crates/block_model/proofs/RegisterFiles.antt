@@ -1,9 +1,5 @@
 -- Each thread has 32 registers at every place of a run.
-use Rattle.std.proofs.Common.{◌≡◌, ℕ, zero, suc, ◌+◌, List, [], ◌∷◌, length, map, drop, set, length-set, refl}
-use Rattle.block_model.proofs.Common.{AllByRecursion, CallDone, Done, Effect, Event, Here, History, IsRunHistory, Kind, Regs, Saved, Setting, answered_wait, argument, child_file, cond_both, done, file, file_among, files_interrupted, frame_read, has_flag, here_in_history, interruption_here, is_reserved, length-take, memory, outcome, view_of_all, wake, with_register, woken_at_exit, word_at, word_before, words_at}
-use Rattle.std.proofs.Common.{sym, ap, ◌∙◌}
-use Rattle.std.proofs.Common.{arith, subst, Bool, true, false, cond, not, eqb, Option, Some}
-use Rattle.std.proofs.Common.{length-drop}
+use Rattle.block_model.proofs.Common.{AllByRecursion, CallDone, Done, Effect, Event, Here, History, IsRunHistory, Kind, Regs, Saved, Setting, answered_wait, argument, child_file, cond_both, done, file, file_among, files_interrupted, frame_read, has_flag, here_in_history, interruption_here, is_reserved, length-take, memory, outcome, view_of_all, wake, with_register, woken_at_exit, word_at, word_before, words_at, ◌≡◌, ℕ, zero, suc, ◌+◌, List, [], ◌∷◌, length, map, drop, set, length-set, refl, sym, ap, ◌∙◌, arith, subst, Bool, true, false, cond, not, eqb, Option, Some, length-drop}
 use Rattle.mach_types.specs.Kernel.SignalFrames.{restored}
 use Rattle.mach_types.specs.declared.address_space.TheConstants.{HANDLER_RETURN}
 use Rattle.mach_types.specs.declared.sequences.Outcome as interruptions
@@ -11,12 +7,9 @@ use Rattle.mach_types.specs.declared.sequences.Outcome.TheVariants as comes_to
 use Rattle.rv_inst.specs.Execution.{Outcome}
 use Rattle.rv_inst.specs.declared.effects.Effect.TheVariants as effect
 use Rattle.block_model.specs.Calls.Cloning.{clone_settls, set_if}
-use Rattle.block_model.proofs.CallEffects.{Answers, Bears, Begins, Breaks, CallDeed, Ends, Exits, Resumes, Says}
-use Rattle.block_model.proofs.CallEffects.{Wakes}
+use Rattle.block_model.proofs.CallEffects.{Answers, Bears, Begins, Breaks, CallDeed, Ends, Exits, Resumes, Says, Wakes}
 use Rattle.block_model.proofs.CallEffects.EachCall.{deed_called}
-use Rattle.block_model.proofs.EventEffects.{Calls, EventDeed, Executes, Handles, Restarts, Returns, RunKills}
-use Rattle.block_model.proofs.EventEffects.{Runs}
-use Rattle.block_model.proofs.EventEffects.{SignalKills, deed_of}
+use Rattle.block_model.proofs.EventEffects.{Calls, EventDeed, Executes, Handles, Restarts, Returns, RunKills, Runs, SignalKills, deed_of}
 
 abbrev pub HasRegisters : Saved → Type 0
 HasRegisters f = length f.file.x ≡ 32

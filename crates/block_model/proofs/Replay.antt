@@ -1,6 +1,5 @@
 -- What a script makes is a block run that answers it, and each block run answers the script that it is.
-use Rattle.std.proofs.Common.{◌≡◌, ℕ, ◌+◌, List, [], ◌∷◌, ◌++◌, length, map, refl, sym, ap, ◌∙◌, subst, Bool, true, false, cond, Option, Some, None, Result, Ok, Err, arith, append-nil, append_assoc, eq-eqb}
-use Rattle.block_model.proofs.Common.{AllAnswer, Ask, Entry, IsAllowedLog, IsRunHistory, Refused, Setting, checked, choice_of, decide, event, extended, fold, fold-append, history, is_as_said, map_push, play_line, played, played_read, script_of}
+use Rattle.block_model.proofs.Common.{◌≡◌, ℕ, ◌+◌, List, [], ◌∷◌, ◌++◌, length, map, refl, sym, ap, ◌∙◌, subst, Bool, true, false, cond, Option, Some, None, Result, Ok, Err, arith, append-nil, append_assoc, eq-eqb, AllAnswer, Ask, Entry, IsAllowedLog, IsRunHistory, Refused, Setting, checked, choice_of, decide, event, extended, fold, fold-append, history, is_as_said, map_push, play_line, played, played_read, script_of}
 use Rattle.block_model.specs.Replay.{Answers, IsFirstBad, IsFirstRefused, made_by, play_read_line, line_of}
 use Rattle.block_model.proofs.Runs.{decided_is, IsAllowedLog-append, IsAllowedLog-nil, run_before}
 

@@ -1,7 +1,6 @@
 -- The taking of requests one of which asks for a restart interrupts the thread of its hart, which goes on at once with the file that
 -- this leaves it; or the process ends.
-use Rattle.std.proofs.Common.{◌≡◌, ℕ, ◌+◌, [], ◌∷◌, refl, sym, ap, ◌∙◌, subst, Bool, true, false, List, Option, Some, is_some}
-use Rattle.block_model.proofs.Common.{Area, BadWhy, Done, End, EndsWhole, Event, FindsBad, GoesOnWith, Here, History, IsDeadBy, IsLeftNull, IsRunHistory, Killed, Outcome, RSEQ_CS, RunsThroughout, SIGSEGV, Saved, Sequence, Setting, Write, append-nil, area_here, done_take_by, false≢true, file, file_among, file_interrupted, files_interrupted, has_killed, interruption_here, killed_by, number_of, runs, sequence_on, took_and_interrupted, waiting_here, word_at, writes_of}
+use Rattle.block_model.proofs.Common.{◌≡◌, ℕ, ◌+◌, [], ◌∷◌, refl, sym, ap, ◌∙◌, subst, Bool, true, false, List, Option, Some, is_some, Area, BadWhy, Done, End, EndsWhole, Event, FindsBad, GoesOnWith, Here, History, IsDeadBy, IsLeftNull, IsRunHistory, Killed, Outcome, RSEQ_CS, RunsThroughout, SIGSEGV, Saved, Sequence, Setting, Write, append-nil, area_here, done_take_by, false≢true, file, file_among, file_interrupted, files_interrupted, has_killed, interruption_here, killed_by, number_of, runs, sequence_on, took_and_interrupted, waiting_here, word_at, writes_of}
 use Rattle.mach_types.specs.declared.events.Kind.TheVariants as kind
 use Rattle.mach_types.specs.declared.sequences.Outcome.TheVariants as comes_to
 use Rattle.block_model.proofs.Invariants.Events.{takes_where}

@@ -1,7 +1,6 @@
 -- A run has no more entries than the step limit, no event leaves it open, and while it isn't ended some thread is live; where a run goes
 -- on, where it has room, and how it ends.
-use Rattle.std.proofs.Common.{◌≡◌, ◌≢◌, refl, ◌≤◌, List, [], ◌∷◌, length, sym, arith, subst, Option, Some, None, ℕ, ◌<◌, ap, ◌∙◌, Bool, true, false, cond, Err, leb}
-use Rattle.block_model.proofs.Common.{Choice, End, Ended, Entry, Event, Full, Here, History, IsAllowedLog, IsRunHistory, Refused, Setting, choice_of, decide, decide_in, done, done_of, end_of, ended, entry_in, here_in_history, history, is_stuck, kernel, le-leb, leb-false, leb-true, lt-leb, option_or, over_at, refusal_of, unless}
+use Rattle.block_model.proofs.Common.{◌≡◌, ◌≢◌, refl, ◌≤◌, List, [], ◌∷◌, length, sym, arith, subst, Option, Some, None, ℕ, ◌<◌, ap, ◌∙◌, Bool, true, false, cond, Err, leb, Choice, End, Ended, Entry, Event, Full, Here, History, IsAllowedLog, IsRunHistory, Refused, Setting, choice_of, decide, decide_in, done, done_of, end_of, ended, entry_in, here_in_history, history, is_stuck, kernel, le-leb, leb-false, leb-true, lt-leb, option_or, over_at, refusal_of, unless}
 use Rattle.mach_types.specs.declared.limits.End.TheVariants as over
 use Rattle.block_model.specs.Deciding.{end_unless}
 use Rattle.block_model.proofs.Runs.{allowed_at, choice_in, length-history, settled}

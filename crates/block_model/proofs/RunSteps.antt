@@ -1,17 +1,14 @@
 -- Each event of a run, read from its history: that it was allowed and did what is done there, and what it
 -- leaves as
 -- it is on other harts.
-use Rattle.std.proofs.Common.{◌≡◌, ◌≢◌, ℕ, ◌+◌, ◌∷◌, ◌++◌, drop, refl, sym, ap, ◌∙◌, false, cond, eqb}
-use Rattle.block_model.proofs.Common.{Done, Event, Here, History, IsGoodHere, IsRunHistory, Kernel, Kind, Setting, ThreadState, choice_of, done, done_of, drains, entry_in, eqb-false, eqb_same, file, here_in_history, is_ready, is_ready_state, kernel, on, option_map_or, refusal_of, running, stores, waiting}
-use Rattle.std.proofs.Common.{Option, Some, None}
+use Rattle.block_model.proofs.Common.{Done, Event, Here, History, IsGoodHere, IsRunHistory, Kernel, Kind, Setting, ThreadState, choice_of, done, done_of, drains, entry_in, eqb-false, eqb_same, file, here_in_history, is_ready, is_ready_state, kernel, on, option_map_or, refusal_of, running, stores, waiting, ◌≡◌, ◌≢◌, ℕ, ◌+◌, ◌∷◌, ◌++◌, drop, refl, sym, ap, ◌∙◌, false, cond, eqb, Option, Some, None}
 use Rattle.mach_types.specs.declared.events.Kind.TheVariants as kind
-use Rattle.block_model.proofs.Runs.{allowed_at}
+use Rattle.block_model.proofs.Runs.{allowed_at, fit_at, settled}
 use Rattle.block_model.proofs.PlainEvents.{drop_more}
 use Rattle.block_model.proofs.EventEffects.{Drains, EventDeed, deed_of}
 use Rattle.block_model.proofs.PlaceInvariant.{IsFit}
 use Rattle.block_model.proofs.KernelTables.{running_is, same_hart}
 use Rattle.block_model.proofs.ReadyFiles.{good_at}
-use Rattle.block_model.proofs.Runs.{fit_at, settled}
 
 -- an event of a run: its condition held, it is the entry of its choice, it did what is done at its place,
 -- which is

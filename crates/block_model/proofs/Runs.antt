@@ -1,7 +1,6 @@
 -- What an entry that is decided tells, what is good at each place of a run, and that a run that goes on is a run; what holds of the harts
 -- and of the kernel's record at each place of a block run.
-use Rattle.std.proofs.Common.{◌≡◌, ℕ, ◌<◌, refl, ap, ◌∙◌, Bool, true, false, cond, Option, Some, None, Result, Ok, Err, length, leb, ◌+◌, List, [], ◌∷◌, ◌++◌, sym, arith, subst, ◌≢◌}
-use Rattle.block_model.proofs.Common.{All, All-from_recursion, Choice, End, Entry, Event, Full, Here, History, IsAllowedLog, IsGoodHere, IsRunHistory, IsSound, NoHart, NotEnabled, Refused, Setting, Store, Why, awaits, can_be_written, choice_of, decide, decide_in, done, done_of, each_byte, entry_in, event, fold, fold-append, here_in_history, history, kernel, leb-false, on, over_at, plain_next, plain_start, refusal_of, running, unless, waiting}
+use Rattle.block_model.proofs.Common.{◌≡◌, ℕ, ◌<◌, refl, ap, ◌∙◌, Bool, true, false, cond, Option, Some, None, Result, Ok, Err, length, leb, ◌+◌, List, [], ◌∷◌, ◌++◌, sym, arith, subst, ◌≢◌, All, All-from_recursion, Choice, End, Entry, Event, Full, Here, History, IsAllowedLog, IsGoodHere, IsRunHistory, IsSound, NoHart, NotEnabled, Refused, Setting, Store, Why, awaits, can_be_written, choice_of, decide, decide_in, done, done_of, each_byte, entry_in, event, fold, fold-append, here_in_history, history, kernel, leb-false, on, over_at, plain_next, plain_start, refusal_of, running, unless, waiting}
 use Rattle.mach_types.specs.declared.events.Choice.TheVariants as asked
 use Rattle.block_model.proofs.PlainEvents.{plain_of, IsCounted, counted_next, applied}
 use Rattle.block_model.proofs.AllowedHarts.{start_allowed}

@@ -1,11 +1,8 @@
 -- What the next event of its hart makes of a sequence that it isn't of: where it doesn't interrupt the thread, and where it does.
-use Rattle.std.proofs.Common.{◌≡◌, ◌≢◌, ℕ, [], ◌∷◌, ◌&&◌, ◌||◌, refl, sym, ap, ◌∙◌, subst, Bool, true, false, not, cond, eqb, Option, Some, None, is_some, ◌+◌, ◌⊎◌, inl, inr, List, ◌++◌, Any}
-use Rattle.block_model.proofs.Common.{Area, Done, End, EndsWhole, Entry, Event, FindsBad, GoesOnWith, Here, History, IsCutProperly, IsDeadBy, IsLeftNull, IsRunHistory, Killed, Kind, NotInBarrier, Outcome, RSEQ_CS, RunsThroughout, SIGSEGV, Saved, Sequence, Setting, Stored, WasTouched, Write, abort_of, area_here, choice_with, cut_or, end_before, end_so_far, ended, eqb_same, false≢true, file, file_interrupted, hanging, hanging_after, has_died, has_killed, here_in_history, interruption_here, is_inside_at, is_inside_here, is_inside_named, is_inside_waiting, is_taken_in, is_writable, memory, moved_out, named, number_of, option_map_or, option_or, refusal_done_by, refusal_of, refusal_return, refusal_run_by, runs, sequence_on, taken_up, view, waiting_here, with_event, writes_of}
+use Rattle.block_model.proofs.Common.{◌≡◌, ◌≢◌, ℕ, [], ◌∷◌, ◌&&◌, ◌||◌, refl, sym, ap, ◌∙◌, subst, Bool, true, false, not, cond, eqb, Option, Some, None, is_some, ◌+◌, ◌⊎◌, inl, inr, List, ◌++◌, Any, Area, Done, End, EndsWhole, Entry, Event, FindsBad, GoesOnWith, Here, History, IsCutProperly, IsDeadBy, IsLeftNull, IsRunHistory, Killed, Kind, NotInBarrier, Outcome, RSEQ_CS, RunsThroughout, SIGSEGV, Saved, Sequence, Setting, Stored, WasTouched, Write, abort_of, area_here, choice_with, cut_or, end_before, end_so_far, ended, eqb_same, false≢true, file, file_interrupted, hanging, hanging_after, has_died, has_killed, here_in_history, interruption_here, is_inside_at, is_inside_here, is_inside_named, is_inside_waiting, is_taken_in, is_writable, memory, moved_out, number_of, option_map_or, option_or, refusal_done_by, refusal_of, refusal_return, refusal_run_by, runs, sequence_on, taken_up, view, waiting_here, with_event, writes_of, is_preempt, nature_of, SeqEnd}
 use Rattle.block_model.proofs.EventNeeds.{leaving_runs, moved_leaving}
-use Rattle.mach_types.specs.Events.{is_preempt, nature_of}
 use Rattle.mach_types.specs.declared.events.Kind.TheVariants as kind
 use Rattle.mach_types.specs.declared.sequences.Outcome.TheVariants as comes_to
-use Rattle.block_model.specs.declared.acts.SeqEnd.{SeqEnd}
 use Rattle.block_model.specs.declared.acts.SeqEnd.TheVariants as ends
 use Rattle.block_model.specs.Acts.{left_or_dropped}
 use Rattle.block_model.specs.Sequences.{named_over}

@@ -1,7 +1,6 @@
 -- Worked examples, proved by computation: interruptions of a thread inside and outside its sequence, rseq(2) and its refusals, and
 -- a call inside a sequence.
-use Rattle.std.proofs.Common.{◌≡◌, ℕ, Bool, false, List, [], ◌∷◌, ◌++◌, replicate, map, refl, Option, Some, None}
-use Rattle.block_model.proofs.Common.{Area, Done, EFAULT, EINVAL, EPERM, End, Here, IsWholeHistory, Killed, SIGSEGV, Saved, Setting, Stored, Write, are_readable, called_here, done_run, here_in_history, interruption_here, negative, next_id, no_registers, number_at, register, sequence_on, with_register}
+use Rattle.block_model.proofs.Common.{◌≡◌, ℕ, Bool, false, List, [], ◌∷◌, ◌++◌, replicate, map, refl, Option, Some, None, Area, Done, EFAULT, EINVAL, EPERM, End, Here, IsWholeHistory, Killed, SIGSEGV, Saved, Setting, Stored, Write, are_readable, called_here, done_run, here_in_history, interruption_here, negative, next_id, no_registers, number_at, register, sequence_on, with_register}
 use Rattle.mach_types.specs.declared.errors.TheConstants.{EBUSY}
 use Rattle.mach_types.specs.declared.sequences.BadWhy.TheVariants as bad
 use Rattle.mach_types.specs.declared.sequences.Outcome.TheVariants as comes_to

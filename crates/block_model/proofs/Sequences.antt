@@ -1,12 +1,9 @@
 -- What an event makes of the newest sequence of a hart, and of one that hangs; and where the thread of a sequence is: it runs on the
 -- sequence's hart from the place before the first event on.
-use Rattle.std.proofs.Common.{◌≡◌, ◌≢◌, ℕ, ◌∷◌, refl, sym, ◌∙◌, subst, Bool, true, false, not, cond, eqb, Option, Some, None, [], ap}
-use Rattle.block_model.proofs.Common.{Done, Entry, Event, Here, History, IsRunHistory, Kernel, Kind, Outcome, RunsThroughout, Sequence, Setting, begun_with, choice_of, choice_with, done, done_of, eqb-false, eqb-true, false≢true, hanging, hanging_after, here_in_history, is_inside_at, is_inside_here, is_instruction, is_of_hart, is_taken_in, number_of, option_map_or, running, running_on, runs, sequence_on, taken_up, thread_in, with_event}
-use Rattle.mach_types.specs.Events.{is_beginning, is_leaving, is_preempt, nature_of}
+use Rattle.block_model.proofs.Common.{◌≡◌, ◌≢◌, ℕ, ◌∷◌, refl, sym, ◌∙◌, subst, Bool, true, false, not, cond, eqb, Option, Some, None, [], ap, Done, Entry, Event, Here, History, IsRunHistory, Kernel, Kind, Outcome, RunsThroughout, Sequence, Setting, begun_with, choice_of, choice_with, done, done_of, eqb-false, eqb-true, false≢true, hanging, hanging_after, here_in_history, is_inside_at, is_inside_here, is_instruction, is_of_hart, is_taken_in, number_of, option_map_or, running, running_on, runs, sequence_on, taken_up, thread_in, with_event, is_preempt, nature_of, Movement, hanging_moved}
+use Rattle.mach_types.specs.Events.{is_beginning, is_leaving}
 use Rattle.mach_types.specs.declared.events.Kind.TheVariants as kind
-use Rattle.mach_types.specs.declared.events.Movement.{Movement}
 use Rattle.mach_types.specs.declared.events.Movement.TheVariants.{Stays, Leaves, Begins as StartsToRun}
-use Rattle.block_model.specs.Acts.{hanging_moved}
 use Rattle.block_model.proofs.Runs.{allowed_at, fit_at}
 use Rattle.block_model.proofs.EventEffects.{Calls, EventDeed, Preempts, Runs, deed_of}
 use Rattle.block_model.proofs.SignalTables.{OnlySignals}

@@ -1,7 +1,6 @@
 -- The delivery of a signal interrupts the thread of its hart, which goes on with the file that this leaves it once the handler of the
 -- signal returns; or the process ends.
-use Rattle.std.proofs.Common.{◌≡◌, ℕ, ◌+◌, [], ◌∷◌, refl, sym, ap, ◌∙◌, subst, Bool, true, false, not, cond, Option, Some, None, is_some}
-use Rattle.block_model.proofs.Common.{Area, BadWhy, Done, End, EndsWhole, Event, FindsBad, GoesOnWith, Here, History, IsDeadBy, IsLeftNull, IsRunHistory, Killed, Outcome, RSEQ_CS, RunsThroughout, SIGSEGV, Saved, Sequence, Setting, action_of, area_here, can_write_frame, done_next, done_signal_by, false≢true, file, file_among, file_interrupted, frame_writes, handled, handled_unless_killed, handler_file, has_killed, interruption_here, is_handler, is_writable, kills, mask_of, next_for, number_of, option_map, refusal_delivery, refusal_signal_by, runs, sequence_on, waiting_here, word_at, writes_of}
+use Rattle.block_model.proofs.Common.{◌≡◌, ℕ, ◌+◌, [], ◌∷◌, refl, sym, ap, ◌∙◌, subst, Bool, true, false, not, cond, Option, Some, None, is_some, Area, BadWhy, Done, End, EndsWhole, Event, FindsBad, GoesOnWith, Here, History, IsDeadBy, IsLeftNull, IsRunHistory, Killed, Outcome, RSEQ_CS, RunsThroughout, SIGSEGV, Saved, Sequence, Setting, action_of, area_here, can_write_frame, done_next, done_signal_by, false≢true, file, file_among, file_interrupted, frame_writes, handled, handled_unless_killed, handler_file, has_killed, interruption_here, is_handler, is_writable, kills, mask_of, next_for, number_of, option_map, refusal_delivery, refusal_signal_by, runs, sequence_on, waiting_here, word_at, writes_of}
 use Rattle.mach_types.specs.declared.events.Kind.TheVariants as kind
 use Rattle.mach_types.specs.declared.sequences.Outcome.TheVariants as comes_to
 use Rattle.block_model.specs.Events.Signal.{done_delivery, kills_unhandled}

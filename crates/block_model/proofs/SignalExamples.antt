@@ -1,7 +1,6 @@
 -- Worked examples, proved by computation: signals that are posted, masked and delivered, their handlers, faults that become pending,
 -- and waits that a signal breaks.
-use Rattle.std.proofs.Common.{◌≡◌, ℕ, ◌+◌, ◌*◌, true, false, List, [], ◌∷◌, ◌++◌, replicate, map, take, drop, refl, Option, Some, None}
-use Rattle.block_model.proofs.Common.{Action, Done, EFAULT, EINTR, EINVAL, End, Entry, Here, Idle, IsBlockRun, Kernel, Killed, NoSignal, Regs, Saved, Setting, Signalling, Store, ThreadState, Threads, Write, action_of, all_signals, are_readable, called, can_write_frame, choice_at, decide, done, done_exec, done_signal, double_written, file_among, frame_read, gone, had_child, has_ended, has_signal, here_in_history, history, is_ignored, is_register_only, kernel, mask_of, meaning, negative, next_entry, next_for, no_registers, number_at, pending_of, pick, refusal_signal, register, row_of, rows, sight_in, start_signalling, start_threads, state_of, waits, with_child, with_mask, with_pending, with_register, with_state, with_thread, with_waiter, written}
+use Rattle.block_model.proofs.Common.{◌≡◌, ℕ, ◌+◌, ◌*◌, true, false, List, [], ◌∷◌, ◌++◌, replicate, map, take, drop, refl, Option, Some, None, Action, Done, EFAULT, EINTR, EINVAL, End, Entry, Here, Idle, IsBlockRun, Kernel, Killed, NoSignal, Regs, Saved, Setting, Signalling, Store, ThreadState, Threads, Write, action_of, all_signals, are_readable, called, can_write_frame, choice_at, decide, done, done_exec, done_signal, double_written, file_among, frame_read, gone, had_child, has_ended, has_signal, here_in_history, history, is_ignored, is_register_only, kernel, mask_of, meaning, negative, next_entry, next_for, no_registers, number_at, pending_of, pick, refusal_signal, register, row_of, rows, sight_in, start_signalling, start_threads, state_of, waits, with_child, with_mask, with_pending, with_register, with_state, with_thread, with_waiter, written}
 use Rattle.mach_types.specs.declared.errors.TheConstants.{EAGAIN, ESRCH}
 use Rattle.mach_types.specs.declared.events.Kind.TheVariants as kind
 use Rattle.mach_types.specs.declared.events.Why.TheVariants.{Waiting}

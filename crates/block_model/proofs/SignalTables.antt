@@ -1,6 +1,5 @@
 -- What steps of signals keep, and events that change only signals of the record.
-use Rattle.std.proofs.Common.{◌≡◌, ◌≢◌, ℕ, refl, ap, cond, ◌-◌, ◌<◌, ◌^◌, Bool, true, false, List, [], ◌∷◌, map, get_or, set, replicate, Option, Some, None, zero, suc, ◌∙◌, subst, arith}
-use Rattle.block_model.proofs.Common.{Action, AllByRecursion, Here, Kernel, Outcome, SIG_DFL, Saved, Signalling, ThreadSignals, acted, action_of, default_action, dropped, entered_action, file_among, files_interrupted, handler_mask, is_ignored, joined, map_stays, mask_if, mask_of, ne_eqb, only, post_if, posted, restored_mask, set_action, signalled, signals_handled, start_signalling, take_if, with_mask, with_pending, without_pending, without_signal}
+use Rattle.block_model.proofs.Common.{◌≡◌, ◌≢◌, ℕ, refl, ap, cond, ◌-◌, ◌<◌, ◌^◌, Bool, true, false, List, [], ◌∷◌, map, get_or, set, replicate, Option, Some, None, zero, suc, ◌∙◌, subst, arith, Action, AllByRecursion, Here, Kernel, Outcome, SIG_DFL, Saved, Signalling, ThreadSignals, acted, action_of, default_action, dropped, entered_action, file_among, files_interrupted, handler_mask, is_ignored, joined, map_stays, mask_if, mask_of, ne_eqb, only, post_if, posted, restored_mask, set_action, signalled, signals_handled, start_signalling, take_if, with_mask, with_pending, without_pending, without_signal}
 use Rattle.mach_types.specs.declared.sequences.Outcome.TheVariants as comes_to
 use Rattle.mach_types.specs.Kernel.SignalFrames.{entered, has_flag, returned}
 use Rattle.mach_types.specs.Kernel.Signals.{is_of}

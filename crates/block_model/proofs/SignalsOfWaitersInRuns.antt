@@ -1,6 +1,5 @@
 -- At each place of a block run no thread waits with a signal that can be delivered to it: what calls and events keep of this.
-use Rattle.std.proofs.Common.{◌≡◌, ◌≢◌, ℕ, List, Bool, true, false, cond, eqb, ◌∷◌, [], Some, None, sym, subst, ◌∙◌}
-use Rattle.block_model.proofs.Common.{CallDone, Done, Entry, Event, Here, History, IsRunHistory, IsTables, Kernel, Kind, Ready, Running, Setting, Thread, Waiting, Write, argument, call_number, clear_if, clear_of, cleared, clears, clone_child_cleartid, done, had_child, has_flag, here_in_history, keeps_clear, kernel, new_thread, next_for, next_number, option_map, runs, signals_taken, start_signalling, start_threads, waits, wake}
+use Rattle.block_model.proofs.Common.{◌≡◌, ◌≢◌, ℕ, List, Bool, true, false, cond, eqb, ◌∷◌, [], Some, None, sym, subst, ◌∙◌, CallDone, Done, Entry, Event, Here, History, IsRunHistory, IsTables, Kernel, Kind, Ready, Running, Setting, Thread, Waiting, Write, argument, call_number, clear_if, clear_of, cleared, clears, clone_child_cleartid, done, had_child, has_flag, here_in_history, keeps_clear, kernel, new_thread, next_for, next_number, option_map, runs, signals_taken, start_signalling, start_threads, waits, wake}
 use Rattle.block_model.proofs.CallEffects.{Answers, Bears, Breaks, CallDeed, ChangesRows, Exits, Leaves, MovesOff, Resumes, Signalled, TableStep, Waits, Wakes}
 use Rattle.block_model.proofs.CallEffects.EachCall.{deed_called}
 use Rattle.block_model.proofs.SignalsOfWaiters.{AreCalm, next_born, next_gone, next_handled, next_pending, next_returned, next_taken, waited_before, waited_beside, waited_or_own, waited_other, waited_rows, waited_with}

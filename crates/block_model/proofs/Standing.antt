@@ -1,6 +1,5 @@
 -- What an event makes of where a process stands: one of its own, and one of another process beside it.
-use Rattle.std.proofs.Common.{◌≡◌, ◌≢◌, ℕ, ◌+◌, ◌≤◌, ◌<◌, Bool, true, false, cond, eqb, Option, List, [], ◌∷◌, suc, None, refl, ap, ◌∙◌, arith}
-use Rattle.block_model.proofs.Common.{AllByRecursion, Choice, Done, Here, IsLeastFree, MayEnter, Neighbour, Pages, Store, Write, can_write, done_of, each_byte, held_ids, is_taken, next_id, or_in_segment, permission_at, refusal_of, refusal_run}
+use Rattle.block_model.proofs.Common.{◌≡◌, ◌≢◌, ℕ, ◌+◌, ◌≤◌, ◌<◌, Bool, true, false, cond, eqb, Option, List, [], ◌∷◌, suc, None, refl, ap, ◌∙◌, arith, AllByRecursion, Choice, Done, IsLeastFree, MayEnter, Neighbour, Pages, Store, Write, can_write, done_of, each_byte, held_ids, is_taken, next_id, or_in_segment, permission_at, refusal_of, refusal_run}
 use Rattle.block_model.specs.Standing.{IsStanding}
 use Rattle.block_model.specs.Stands.{Stand, aside, here_at, stand_after}
 use Rattle.block_model.proofs.Barriers.Events.{waited_before}

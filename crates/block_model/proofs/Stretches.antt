@@ -1,6 +1,5 @@
 -- What a hart keeps while other harts make events, and the instructions of a stretch one by one.
-use Rattle.std.proofs.Common.{◌≡◌, ◌≢◌, ℕ, ◌+◌, ◌≤◌, ◌<◌, List, [], ◌∷◌, ◌++◌, refl, sym, ap, ◌∙◌, subst, arith, Bool, true, false, cond, eqb, ◌&&◌, not, ltb, Option, Some, None, is_some, zero, suc, append_assoc}
-use Rattle.block_model.proofs.Common.{Entry, History, IsAllowedLog, IsRunHistory, Setting, and_parts, awaits, awaits_of_own, cond-false, cond-true, done, eqb-false, event, events, file, fold, has_ended, history, ltb-true, luck, not-true, option_map, running, sight_with, without_hart}
+use Rattle.block_model.proofs.Common.{◌≡◌, ◌≢◌, ℕ, ◌+◌, ◌≤◌, ◌<◌, List, [], ◌∷◌, ◌++◌, refl, sym, ap, ◌∙◌, subst, arith, Bool, true, false, cond, eqb, ◌&&◌, not, ltb, Option, Some, None, is_some, zero, suc, append_assoc, Entry, History, IsAllowedLog, IsRunHistory, Setting, and_parts, awaits, awaits_of_own, cond-false, cond-true, done, eqb-false, event, events, file, fold, has_ended, history, ltb-true, luck, not-true, option_map, running, sight_with, without_hart}
 use Rattle.elf_load.specs.declared.image.ImagePage.{ImagePage}
 use Rattle.block_model.specs.Stretches.{Stretch, goes_on, is_on_credit, lent, lent_to, may_lend, stepped, worked}
 use Rattle.block_model.proofs.Replay.{history-more}

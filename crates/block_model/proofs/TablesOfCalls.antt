@@ -1,7 +1,6 @@
 -- Whatever else holds at a place, each call leaves tables that agree: where the threads, the scheduling, the areas and the signals
 -- agreed before it, they agree after it.
-use Rattle.std.proofs.Common.{◌≡◌, ℕ, List, Bool, true, false, cond, Some, is_some, refl, ap, ◌∙◌, arith, Option}
-use Rattle.block_model.proofs.Common.{AreOfLive, AreSignalsOfLive, CallDone, Here, IsHeld, IsTables, KeepsRows, Kernel, Thread, ThreadState, Write, argument, call_number, called, clear_if, clear_of, cleared, clears, clone_child_cleartid, gone, had_child, has_flag, keeps_clear, left, next_number, restricted, rows_changed, running_on, runs, signalled, waits, wake, woken}
+use Rattle.block_model.proofs.Common.{◌≡◌, ℕ, List, Bool, true, false, cond, Some, is_some, refl, ap, ◌∙◌, arith, Option, AreOfLive, AreSignalsOfLive, CallDone, Here, IsHeld, IsTables, KeepsRows, Kernel, Thread, ThreadState, Write, argument, call_number, called, clear_if, clear_of, cleared, clears, clone_child_cleartid, gone, had_child, has_flag, keeps_clear, left, next_number, restricted, rows_changed, running_on, runs, signalled, waits, wake, woken}
 use Rattle.mach_types.specs.Kernel.SignalFrames as frame
 use Rattle.block_model.proofs.CallEffects.{Answers, Bears, Breaks, CallDeed, ChangesRows, Exits, Leaves, MovesOff, Registers, Resumes, Signalled, Stays, TableStep, Unregisters, Waits, Wakes}
 use Rattle.block_model.proofs.CallEffects.EachCall.{deed_called}

@@ -1,7 +1,6 @@
 -- What the kernel's record holds for threads: ids for those that run, and areas and signals for live ones alone. It stays so after
 -- each step.
-use Rattle.std.proofs.Common.{ℕ, ◌+◌, ◌<◌, ◌≤◌, ◌≡◌, ◌≢◌, ◌||◌, ◌⊎◌, Bool, true, false, not, cond, eqb, List, [], ◌∷◌, ◌++◌, length, map, filter, find, Option, Some, None, is_some, refl, sym, ap, ◌∙◌, inl, inr, arith}
-use Rattle.block_model.proofs.Common.{AreIdsApart, AreOfLive, AreSignalsOfLive, Area, IsHeld, IsThreads, KeepsRows, Kernel, Ready, Setting, Signalling, Thread, ThreadSignals, ThreadState, Threads, Waiting, area_of, cases_lt, eqb-true, eqb_tells, false≢true, first_kernel, gone, had_child, is_area_of, is_live, is_running_state, left, length-map, list_any, map_filters, map_push, mask_of, new_thread, next_is_new, next_number, numbers, numbers-with_rows, on, option_map, or_cases, or_right, registered, rows_changed, same_numbers, signalled, state_of, state_of-with_child_other, state_of-with_child_same, state_of-with_rows, state_of-with_state_other, state_of-with_state_same, state_of-without_other, state_of-without_same, thread_of, times, times_cons, times_push, unregistered, waited, waits, with_child, with_state, without, without_area, woken}
+use Rattle.block_model.proofs.Common.{ℕ, ◌+◌, ◌<◌, ◌≤◌, ◌≡◌, ◌≢◌, ◌||◌, ◌⊎◌, Bool, true, false, not, cond, eqb, List, [], ◌∷◌, ◌++◌, length, map, filter, find, Option, Some, None, is_some, refl, sym, ap, ◌∙◌, inl, inr, arith, AreIdsApart, AreOfLive, AreSignalsOfLive, Area, IsHeld, IsThreads, KeepsRows, Kernel, Ready, Setting, Signalling, Thread, ThreadSignals, ThreadState, Threads, Waiting, area_of, cases_lt, eqb-true, eqb_tells, false≢true, first_kernel, gone, had_child, is_area_of, is_live, is_running_state, left, length-map, list_any, map_filters, map_push, mask_of, new_thread, next_is_new, next_number, numbers, numbers-with_rows, on, option_map, or_cases, or_right, registered, rows_changed, same_numbers, signalled, state_of, state_of-with_child_other, state_of-with_child_same, state_of-with_rows, state_of-with_state_other, state_of-with_state_same, state_of-without_other, state_of-without_same, thread_of, times, times_cons, times_push, unregistered, waited, waits, with_child, with_state, without, without_area, woken}
 use Rattle.mach_types.specs.Kernel.Areas.{with_area}
 use Rattle.mach_types.specs.Kernel.Signals as signals
 use Rattle.block_model.specs.Kernel.{ran}

@@ -1,6 +1,5 @@
 -- A sequence is dropped only where something touched what its area named: the area, the descriptor or the signature (rseq(2)).
-use Rattle.std.proofs.Common.{◌≡◌, ℕ, ◌⊎◌, inl, inr, List, [], refl, sym, ap, ◌∙◌, arith, Bool, true, false, Option, Some, None}
-use Rattle.block_model.proofs.Common.{Area, Bytes, History, IsRunHistory, Named, Saved, Seq, Sequence, Setting, WasTouched, area_of, before_last, false≢true, file, hanging, has_died, here_in_history, is_inside, is_inside_at, is_inside_here, is_inside_named, is_inside_waiting, kernel, memory, moved_out, named, not-false, option_map_or, running, sequence_on, touched_in, view, watched_at}
+use Rattle.block_model.proofs.Common.{◌≡◌, ℕ, ◌⊎◌, inl, inr, List, [], refl, sym, ap, ◌∙◌, arith, Bool, true, false, Option, Some, None, Area, Bytes, History, IsRunHistory, Named, Saved, Seq, Sequence, Setting, WasTouched, area_of, before_last, false≢true, file, hanging, has_died, here_in_history, is_inside, is_inside_at, is_inside_here, is_inside_named, is_inside_waiting, kernel, memory, moved_out, named, not-false, option_map_or, running, sequence_on, touched_in, view, watched_at}
 use Rattle.mach_types.specs.declared.sequences.Named.TheVariants as names
 use Rattle.block_model.specs.Acts.{named_at}
 use Rattle.block_model.specs.Sequences.{named_here}

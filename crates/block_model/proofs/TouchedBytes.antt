@@ -1,6 +1,5 @@
 -- An event that doesn't touch bytes leaves them as they are: in memory, and as each hart sees them.
-use Rattle.std.proofs.Common.{◌≡◌, ℕ, ◌+◌, ◌-◌, ◌/◌, ◌≤◌, ◌<◌, ◌⊎◌, inl, inr, List, [], ◌∷◌, ◌++◌, drop, refl, sym, ap, ◌∙◌, subst, arith, Bool, true, false, cond, ◌&&◌, ◌||◌, eqb, leb, ltb, Option, Some, None}
-use Rattle.block_model.proofs.Common.{Bytes, Done, Event, Here, History, IsRunHistory, Kind, PAGE_SIZE, Setting, Store, Stored, Write, Zeroed, and_from, and_parts, append-nil, byte, byte_after, byte_over, can_read, cases_eq, done, drains, eqb-true, false≢true, here_in_history, kernel, leb-true, list_any, lt-ltb, ltb-true, meets, memory, not-false, option_map, or_parts, overlay, permission_at, permission_of, stores, touches, view, waiting, waiting_here, written}
+use Rattle.block_model.proofs.Common.{◌≡◌, ℕ, ◌+◌, ◌-◌, ◌/◌, ◌≤◌, ◌<◌, ◌⊎◌, inl, inr, List, [], ◌∷◌, ◌++◌, drop, refl, sym, ap, ◌∙◌, subst, arith, Bool, true, false, cond, ◌&&◌, ◌||◌, eqb, leb, ltb, Option, Some, None, Bytes, Done, Event, Here, History, IsRunHistory, Kind, PAGE_SIZE, Setting, Store, Stored, Write, Zeroed, and_from, and_parts, append-nil, byte, byte_after, byte_over, can_read, cases_eq, done, drains, eqb-true, false≢true, here_in_history, kernel, leb-true, list_any, lt-ltb, ltb-true, meets, memory, not-false, option_map, or_parts, overlay, permission_at, permission_of, stores, touches, view, waiting, waiting_here, written}
 use Rattle.block_model.specs.Whole.{changed_page, is_same, permission_changed, store_meets, write_meets}
 use Rattle.block_model.proofs.PlainEvents.{drop_more}
 use Rattle.block_model.proofs.EventEffects.{Drains, EventDeed, deed_of}

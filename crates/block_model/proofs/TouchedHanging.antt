@@ -1,8 +1,6 @@
 -- A sequence that hangs: what its thread keeps from the place on at which it was preempted, and that bytes stay which nothing touched.
-use Rattle.std.proofs.Common.{◌≡◌, ◌≢◌, ℕ, ◌+◌, ◌<◌, List, [], ◌∷◌, length, refl, sym, ap, ◌∙◌, arith, true, false, Option, Some, None}
-use Rattle.block_model.proofs.Common.{Bytes, Done, Entry, Event, Here, History, IsRunHistory, Kernel, Ready, Sequence, Setting, Store, area_of, before_last, choice_of, done, done_preempt_by, file, file_among, hanging, here_in_history, is_inside_at, is_ready, kernel, left, list_any, memory, number_of, on, option_map, or_parts, overlay, running, sequence_on, touched_in, touches, view, waiting_here}
+use Rattle.block_model.proofs.Common.{◌≡◌, ◌≢◌, ℕ, ◌+◌, ◌<◌, List, [], ◌∷◌, length, refl, sym, ap, ◌∙◌, arith, true, false, Option, Some, None, Bytes, Done, Entry, Event, Here, History, IsRunHistory, Kernel, Ready, Sequence, Setting, Store, area_of, before_last, choice_of, done, done_preempt_by, file, file_among, hanging, here_in_history, is_inside_at, is_ready, kernel, left, list_any, memory, number_of, on, option_map, or_parts, overlay, running, sequence_on, touched_in, touches, view, waiting_here, is_preempt}
 use Rattle.mach_types.specs.declared.events.Kind.TheVariants as kind
-use Rattle.mach_types.specs.Events.{is_preempt}
 use Rattle.block_model.proofs.EventNeeds.{leaving_does, leaving_runs, leaving_waits}
 use Rattle.block_model.proofs.Runs.{allowed_at, settled}
 use Rattle.block_model.proofs.Invariants.Events.{ready_apart}

@@ -1,6 +1,5 @@
 -- From the place before the last event of a sequence on: what its thread keeps, and that bytes stay which nothing touched since.
-use Rattle.std.proofs.Common.{◌≡◌, ◌≢◌, ℕ, ◌+◌, ◌-◌, ◌≤◌, ◌<◌, ◌⊎◌, inl, inr, List, [], ◌∷◌, length, refl, sym, ap, ◌∙◌, subst, arith, Bool, true, false, not, cond, ◌&&◌, ◌||◌, eqb, Option, Some, is_none}
-use Rattle.block_model.proofs.Common.{AllByRecursion, Bytes, Done, Entry, Event, Here, History, IsRunHistory, Kernel, Kind, PAGE_SIZE, Saved, Sequence, Setting, Store, area_of, before_last, choice_with, done, done_drain_of, done_of, done_take, done_take_by, eqb-false, false≢true, file, file_among, here_in_history, is_inside_at, is_instruction, is_of_hart, is_taken_in, kernel, list_any, ne_eqb, only_took, or_parts, running, running_on, runs, sequence_on, touched_in, touches, view, waiting_here}
+use Rattle.block_model.proofs.Common.{◌≡◌, ◌≢◌, ℕ, ◌+◌, ◌-◌, ◌≤◌, ◌<◌, ◌⊎◌, inl, inr, List, [], ◌∷◌, length, refl, sym, ap, ◌∙◌, subst, arith, Bool, true, false, not, cond, ◌&&◌, ◌||◌, eqb, Option, Some, is_none, AllByRecursion, Bytes, Done, Entry, Event, Here, History, IsRunHistory, Kernel, Kind, PAGE_SIZE, Saved, Sequence, Setting, Store, area_of, before_last, choice_with, done, done_drain_of, done_of, done_take, done_take_by, eqb-false, false≢true, file, file_among, here_in_history, is_inside_at, is_instruction, is_of_hart, is_taken_in, kernel, list_any, ne_eqb, only_took, or_parts, running, running_on, runs, sequence_on, touched_in, touches, view, waiting_here}
 use Rattle.mach_types.specs.declared.events.Kind.TheVariants as kind
 use Rattle.block_model.proofs.Invariants.Calls.Conditions.{runs_apart}
 use Rattle.block_model.proofs.NamedSequences.{Agree}

@@ -1,6 +1,5 @@
 -- At the end of a walk the file of its thread is what its instructions make of the file at its start.
-use Rattle.std.proofs.Common.{◌≡◌, ◌≢◌, ℕ, List, [], ◌∷◌, ◌++◌, refl, sym, ap, ◌∙◌, subst, Bool, true, false, cond, eqb, ◌&&◌, Option, Some, None, inl, inr, append_assoc}
-use Rattle.block_model.proofs.Common.{Choice, Done, Effect, Entry, Here, History, IsAllowedLog, IsRunHistory, Kernel, Saved, Setting, Store, by_call, by_effect, by_outcome, called_here, choice_of, done, done_drain_of, done_exec_by, done_of, done_take_by, eqb-false, eqb-true, eqb_same, event, file, file_among, fold, fold-append, here_in_history, history, is_call, next_effect, option_map_or, outcome_of, running, running_on, runs, waiting_here}
+use Rattle.block_model.proofs.Common.{◌≡◌, ◌≢◌, ℕ, List, [], ◌∷◌, ◌++◌, refl, sym, ap, ◌∙◌, subst, Bool, true, false, cond, eqb, ◌&&◌, Option, Some, None, inl, inr, append_assoc, Choice, Done, Effect, Entry, Here, History, IsAllowedLog, IsRunHistory, Kernel, Saved, Setting, Store, by_call, by_effect, by_outcome, called_here, choice_of, done, done_drain_of, done_exec_by, done_of, done_take_by, eqb-false, eqb-true, eqb_same, event, file, file_among, fold, fold-append, here_in_history, history, is_call, next_effect, option_map_or, outcome_of, running, running_on, runs, waiting_here}
 use Rattle.mach_types.specs.declared.events.Choice.TheVariants as asked
 use Rattle.rv_inst.specs.declared.effects.Effect.TheVariants as effect
 use Rattle.block_model.specs.Walks.{AreOfWalk, IsOfWalk, IsPlainExec, IsPlainTake, IsWalk, Answer, answer_in, answered, answers, computed, file_by, file_next, file_of, is_exec}

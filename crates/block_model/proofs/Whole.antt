@@ -1,6 +1,5 @@
 -- Every log whose entries are allowed is whole.
-use Rattle.std.proofs.Common.{◌≡◌, ◌≢◌, ℕ, [], ◌∷◌, refl, sym, ap, ◌∙◌, subst, true, false, Option, Some, None, is_some}
-use Rattle.block_model.proofs.Common.{Done, End, EndsWhole, Event, Here, History, IsRunHistory, IsWholeHistory, Killed, Kind, Outcome, SIGSEGV, Sequence, Setting, by_call, done_preempt_by, eqb_same, false≢true, is_inside_at, is_inside_here, is_instruction, is_taken_in, killed_in_call, next_fault, number_of, one_instruction, option_map_or, runs, sequence_on}
+use Rattle.block_model.proofs.Common.{◌≡◌, ◌≢◌, ℕ, [], ◌∷◌, refl, sym, ap, ◌∙◌, subst, true, false, Option, Some, None, is_some, Done, End, EndsWhole, Event, Here, History, IsRunHistory, IsWholeHistory, Killed, Kind, Outcome, SIGSEGV, Sequence, Setting, by_call, done_preempt_by, eqb_same, false≢true, is_inside_at, is_inside_here, is_instruction, is_taken_in, killed_in_call, next_fault, number_of, one_instruction, option_map_or, runs, sequence_on}
 use Rattle.mach_types.specs.declared.events.Kind.TheVariants as kind
 use Rattle.block_model.specs.Whole.{IsFatalInstruction, IsWholeEvent, IsWholePlace, TouchesNothing, faults_or_calls, signal_inside}
 use Rattle.block_model.proofs.EventEffects.{CallKills, Calls, EventDeed, FaultKills, Restarts, RunKills, SignalKills, deed_of}

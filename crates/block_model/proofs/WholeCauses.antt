@@ -1,6 +1,5 @@
 -- Why the process ends where a waiting thread would begin to run; and that a thread which is outside isn't sent to an abort handler.
-use Rattle.std.proofs.Common.{◌≡◌, ℕ, ◌⊎◌, [], refl, ap, ◌∙◌, Bool, true, false, not, cond, Option, Some, None, inl, inr}
-use Rattle.block_model.proofs.Common.{Area, BadWhy, FindsBad, HasCause, Here, Named, Outcome, Seq, area_here, can_write_words, files_interrupted, interruption, interruption_here, is_clearable, is_inside, is_inside_named, is_inside_waiting, is_writable, lives_on, memory, named, option_map_or}
+use Rattle.block_model.proofs.Common.{◌≡◌, ℕ, ◌⊎◌, [], refl, ap, ◌∙◌, Bool, true, false, not, cond, Option, Some, None, inl, inr, Area, BadWhy, FindsBad, HasCause, Here, Named, Outcome, Seq, area_here, can_write_words, files_interrupted, interruption, interruption_here, is_clearable, is_inside, is_inside_named, is_inside_waiting, is_writable, lives_on, memory, named, option_map_or}
 use Rattle.mach_types.specs.Kernel.Areas.{outcome_of}
 use Rattle.mach_types.specs.declared.sequences.BadWhy.TheVariants as bad
 use Rattle.mach_types.specs.declared.sequences.Named.TheVariants as names

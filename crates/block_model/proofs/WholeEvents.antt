@@ -1,7 +1,6 @@
 -- What an event of a run tells, by its kind; and where the thread of a sequence that hangs is: it is ready, and its registers and its pc are
 -- those that the sequence left.
-use Rattle.std.proofs.Common.{◌≡◌, ◌<◌, ◌≤◌, ◌+◌, ◌-◌, ℕ, [], ◌∷◌, sym, ap, ◌∙◌, cond, None, ◌≢◌, subst, true, Some, Any}
-use Rattle.block_model.proofs.Common.{Entry, Event, GoesOnWith, Here, History, IsCutProperly, IsLeftNull, IsRunHistory, IsTables, Kind, RSEQ_CS, Saved, Sequence, Setting, Stored, area_here, choice_of, choice_with, done, done_of, eqb-false, eqb_same, file, file_among, hanging, here_in_history, is_ready, is_writable, kernel, memory, named, number_of, option_map_or, over_at, refusal_of, sequence_on, thread_in, word_at}
+use Rattle.block_model.proofs.Common.{◌≡◌, ◌<◌, ◌≤◌, ◌+◌, ◌-◌, ℕ, [], ◌∷◌, sym, ap, ◌∙◌, cond, None, ◌≢◌, subst, true, Some, Any, Entry, Event, GoesOnWith, Here, History, IsCutProperly, IsLeftNull, IsRunHistory, IsTables, Kind, RSEQ_CS, Saved, Sequence, Setting, Stored, area_here, choice_of, choice_with, done, done_of, eqb-false, eqb_same, file, file_among, hanging, here_in_history, is_ready, is_writable, kernel, memory, named, number_of, option_map_or, over_at, refusal_of, sequence_on, thread_in, word_at}
 use Rattle.mach_types.specs.declared.sequences.Named.TheVariants as names
 use Rattle.block_model.proofs.Interruptions.{InsideOf}
 use Rattle.block_model.proofs.NamedSequences.{good_signed}

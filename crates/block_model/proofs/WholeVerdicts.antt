@@ -1,10 +1,8 @@
 -- What `run` makes of a sequence that hangs: the process ends, or the sequence is cut, or it was dropped; and its thread isn't inside
 -- any more.
-use Rattle.std.proofs.Common.{◌≡◌, ℕ, ◌+◌, ◌-◌, ◌≤◌, List, [], ◌∷◌, ◌++◌, drop, refl, sym, ap, ◌∙◌, subst, Bool, true, false, cond, Option, Some, None, Any, is_some, inl, inr}
-use Rattle.block_model.proofs.Common.{Area, Done, Event, GoesOnWith, HasCause, Here, History, IsCutProperly, IsDeadBy, IsLeftNull, IsRunHistory, Outcome, Plain, RSEQ_CS, Saved, Sequence, Setting, Store, Stored, abort_of, area_here, area_of, cut_or, done_killed, done_run, done_running, end_at_verdict, eqb_same, false≢true, file, file_among, files_interrupted, hanging, has_killed, here_in_history, interruption_here, is_inside_at, is_inside_here, is_inside_waiting, is_ready, is_writable, lives_on, memory, option_map_or, pointer_of, running, running_on, runs, view, waiting, word_at}
+use Rattle.block_model.proofs.Common.{◌≡◌, ℕ, ◌+◌, List, [], ◌∷◌, ◌++◌, drop, refl, sym, ap, ◌∙◌, subst, Bool, true, false, cond, Option, Some, None, Any, is_some, inl, inr, Area, Done, Event, GoesOnWith, HasCause, Here, History, IsCutProperly, IsDeadBy, IsLeftNull, IsRunHistory, Outcome, Plain, RSEQ_CS, Saved, Sequence, Setting, Store, Stored, abort_of, area_here, area_of, cut_or, done_killed, done_run, done_running, end_at_verdict, eqb_same, false≢true, file, file_among, files_interrupted, hanging, has_killed, here_in_history, interruption_here, is_inside_at, is_inside_here, is_inside_waiting, is_ready, is_writable, lives_on, memory, option_map_or, pointer_of, running, running_on, runs, view, waiting, word_at, SeqEnd}
 use Rattle.mach_types.specs.declared.events.Kind.TheVariants as kind
 use Rattle.mach_types.specs.declared.sequences.Outcome.TheVariants as comes_to
-use Rattle.block_model.specs.declared.acts.SeqEnd.{SeqEnd}
 use Rattle.block_model.specs.declared.acts.SeqEnd.TheVariants as ends
 use Rattle.block_model.specs.Whole.{EndsWholeAtVerdict}
 use Rattle.block_model.proofs.PlainEvents.{applied}

@@ -1,6 +1,5 @@
 -- Bytes that can be written among those of an access; and writes of the kernel that have such bytes alone.
-use Rattle.std.proofs.Common.{◌≡◌, ℕ, suc, ◌+◌, ◌-◌, ◌*◌, ◌<◌, ◌≤◌, ◌||◌, Bool, true, false, not, cond, List, [], ◌∷◌, ◌++◌, filter, length, Option, Some, None, refl, sym, ap, ◌∙◌, subst, arith}
-use Rattle.block_model.proofs.Common.{AllByRecursion, Area, CPU_ID, MM_CID, NODE_ID, Named, SIGNAL_FRAME_SIZE, Saved, Store, Stored, Words, Write, Zeroed, and_parts, are_words_writable, can_write_frame, each_byte, frame_at, frame_words, frame_writes, interruption, is_clearable, is_inside, named, stack_pointer, words_stored, words_written, writes_of}
+use Rattle.block_model.proofs.Common.{◌≡◌, ℕ, suc, ◌+◌, ◌-◌, ◌*◌, ◌<◌, ◌≤◌, ◌||◌, Bool, true, false, not, cond, List, [], ◌∷◌, ◌++◌, filter, length, Option, Some, None, refl, sym, ap, ◌∙◌, subst, arith, AllByRecursion, Area, CPU_ID, MM_CID, NODE_ID, Named, SIGNAL_FRAME_SIZE, Saved, Store, Stored, Words, Write, Zeroed, and_parts, are_words_writable, can_write_frame, each_byte, frame_at, frame_words, frame_writes, interruption, is_clearable, is_inside, named, stack_pointer, words_stored, words_written, writes_of}
 use Rattle.mach_types.proofs.Laws.{each_byte-split}
 use Rattle.mach_types.specs.Kernel.Areas.{outcome_of}
 use Rattle.mach_types.specs.declared.sequences.BadWhy.TheVariants as bad

@@ -5,7 +5,6 @@ use Rattle.std.specs.Option.{option_map}
 use Rattle.std.proofs.lemmas.Bool.{eqb-true}
 use Rattle.std.proofs.lemmas.List.{drop_all, drop_more}
 use Rattle.mach_types.proofs.Laws.{eqb_same}
-use Rattle.block_model.specs.Acts.{Sequence as Known}
 use Rattle.block_model.specs.History.{History}
 use Rattle.block_model.specs.Setting.{Setting}
 use Rattle.block_view.specs.Ledgers.{Kept, going_on, hanging_of, is_open, is_place, open_from, open_one}
@@ -53,31 +52,26 @@ module _ (s : Setting) (all : History) (k : Kept) (tied : IsTied s all k) where
   abbrev standing : List Standing
   standing = standings s all
 
+  -- what stands elsewhere isn't there
+  elsewhere : (act : Act) (i place : ℕ) (x : Standing) → StandsAt standing i (Over act) → StandsAt standing place x
+      → (Some x ≡ Some (Over act) → ⊥) → eqb place i ≡ false
+  elsewhere act i place x over stands never = by_place (eqb place i) refl
+    where
+      by_place : (b : Bool) → eqb place i ≡ b → b ≡ false
+      by_place false is = refl
+      by_place true is = absurd (never (sym stands ∙ ap (slice_get standing) (eqb-true place i is) ∙ over))
+
   no_going : (act : Act) (i : ℕ) → StandsAt standing i (Over act) → (o : Option KeptGoing) → going_on k act.hart.0 ≡ o → is_place i (option_map (λ g. g.place) o) ≡ false
   no_going act i at None on = refl
-  no_going act i at (Some g) on = by_place (eqb g.place i) refl
-    where
-      not_both : (o : Option Standing) (q : Known) → o ≡ Some (Over act) → o ≡ Some (Going q) → ⊥
-      not_both o q one two = cc
-
-      by_place : (b : Bool) → eqb g.place i ≡ b → b ≡ false
-      by_place false is = refl
-      by_place true is =
-          let there = goes_on s all k tied act.hart.0 g on in
-          absurd (not_both (slice_get standing i) there.sequence at (ap (slice_get standing) (sym (eqb-true g.place i is)) ∙ there.stands))
+  no_going act i at (Some g) on =
+      let there = goes_on s all k tied act.hart.0 g on in
+      elsewhere act i g.place (Going there.sequence) at there.stands (λ same. cc)
 
   no_hanging : (act : Act) (i : ℕ) → StandsAt standing i (Over act) → (o : Option KeptHanging) → hanging_of k act.tid ≡ o → is_place i (option_map (λ x. x.place) o) ≡ false
   no_hanging act i at None hangs = refl
-  no_hanging act i at (Some x) hangs = by_place (eqb x.place i) refl
-    where
-      not_both : (o : Option Standing) (q : Known) → o ≡ Some (Over act) → o ≡ Some (Hanging q) → ⊥
-      not_both o q one two = cc
-
-      by_place : (b : Bool) → eqb x.place i ≡ b → b ≡ false
-      by_place false is = refl
-      by_place true is =
-          let there = tied.hangs act.tid x hangs in
-          absurd (not_both (slice_get standing i) there.sequence at (ap (slice_get standing) (sym (eqb-true x.place i is)) ∙ there.stands))
+  no_hanging act i at (Some x) hangs =
+      let there = tied.hangs act.tid x hangs in
+      elsewhere act i x.place (Hanging there.sequence) at there.stands (λ same. cc)
 
   -- an act is open exactly where it has no end
   open_at : (i : ℕ) (x : Standing) → StandsAt standing i x → is_open k i (at_the_end s all [] x) ≡ has_no_end x

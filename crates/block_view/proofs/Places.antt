@@ -115,9 +115,7 @@ module _ (s : Setting) (e : Event) (before : History) (r q : Sequence) where
 pub goes_on : (s : Setting) (e : Event) (before : History) (x : Standing) (q : Sequence) → after s e before x ≡ Going q → GoesOn s e before x q
 goes_on s e before (Over act) q is = absurd cc
 goes_on s e before (Going r) q is =
-    goes_on_by s e before r q
-    (is_of_hart r.hart e) (is_inside_at s r.hart before) (is_taken_in e.entry.kind e.done.interrupted) (is_preempt e.entry.kind)
-    refl refl refl is
+    goes_on_by s e before r q _ _ _ (is_preempt e.entry.kind) refl refl refl is
 goes_on s e before (Hanging r) q is =
     absurd (over_or_hanging s e before r q (begins_to_run r.thread e) (act_of (record { sequence = r; end = end_at_verdict s r e before })) is)
 
@@ -125,9 +123,7 @@ goes_on s e before (Hanging r) q is =
 pub hangs : (s : Setting) (e : Event) (before : History) (x : Standing) (q : Sequence) → after s e before x ≡ Hanging q → Hangs s e before x q
 hangs s e before (Over act) q is = absurd cc
 hangs s e before (Going r) q is =
-    hangs_by s e before r q
-    (is_of_hart r.hart e) (is_inside_at s r.hart before) (is_taken_in e.entry.kind e.done.interrupted) (is_preempt e.entry.kind)
-    refl refl refl is
+    hangs_by s e before r q _ _ (is_taken_in e.entry.kind e.done.interrupted) _ refl refl refl is
 hangs s e before (Hanging r) q is =
     over_or_hangs s e before r q (begins_to_run r.thread e) (act_of (record { sequence = r; end = end_at_verdict s r e before })) refl is
 

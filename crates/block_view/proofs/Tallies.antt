@@ -74,15 +74,22 @@ plus_none n = omega arith
 added_none : (counts : Counts) → added counts (λ so. false) ≡ counts
 added_none counts = simp plus_none
 
--- one of the hart is counted once
+-- one of the hart is counted once, and together they are one more
+record IsOneMore (form : Form) (counts : Counts) : Type 0 where
+  one : added counts (λ so. so form) ≡ counted form counts
+  more : total (counted form counts) ≡ total counts + 1
+
+is_one_more : (form : Form) (counts : Counts) → IsOneMore form counts
+is_one_more Step counts = record { one = simp plus_none; more = omega arith }
+is_one_more Kernel counts = record { one = simp plus_none; more = omega arith }
+is_one_more (Sequence ends.Dead) counts = record { one = simp plus_none; more = omega arith }
+is_one_more (Sequence (ends.Cut at)) counts = record { one = simp plus_none; more = omega arith }
+is_one_more (Sequence ends.Left) counts = record { one = simp plus_none; more = omega arith }
+is_one_more (Sequence ends.Dropped) counts = record { one = simp plus_none; more = omega arith }
+is_one_more (Sequence ends.Unended) counts = record { one = simp plus_none; more = omega arith }
+
 added_one : (form : Form) (counts : Counts) → added counts (λ so. so form) ≡ counted form counts
-added_one Step counts = simp plus_none
-added_one Kernel counts = simp plus_none
-added_one (Sequence ends.Dead) counts = simp plus_none
-added_one (Sequence (ends.Cut at)) counts = simp plus_none
-added_one (Sequence ends.Left) counts = simp plus_none
-added_one (Sequence ends.Dropped) counts = simp plus_none
-added_one (Sequence ends.Unended) counts = simp plus_none
+added_one form counts = (is_one_more form counts).one
 
 -- so an act of the hart is counted
 pub counts_last : (list : List Act) (a : Act) (h : ℕ) → eqb a.hart.0 h ≡ true → counts_of (list ++ a ∷ []) h ≡ counted a.form (counts_of list h)
@@ -96,16 +103,6 @@ counts_other list a h other =
 
 -- TOGETHER
 
--- one more is counted
-total_more : (form : Form) (counts : Counts) → total (counted form counts) ≡ total counts + 1
-total_more Step counts = omega arith
-total_more Kernel counts = omega arith
-total_more (Sequence ends.Dead) counts = omega arith
-total_more (Sequence (ends.Cut at)) counts = omega arith
-total_more (Sequence ends.Left) counts = omega arith
-total_more (Sequence ends.Dropped) counts = omega arith
-total_more (Sequence ends.Unended) counts = omega arith
-
 -- an act at the head of a list adds 1 where it is of the hart and passes
 added_first : (list : List Act) (a : Act) (h : ℕ) → counts_of (a ∷ list) h ≡ added (counts_of list h) (λ so. eqb a.hart.0 h && so a.form)
 added_first list a h =
@@ -117,7 +114,7 @@ added_first list a h =
 
 -- so the sum grows by 1 where it is of the hart
 total_added : (own : Bool) (form : Form) (counts : Counts) → total (added counts (λ so. own && so form)) ≡ total counts + once own
-total_added true form counts = ap total (added_one form counts) ∙ total_more form counts
+total_added true form counts = ap total (added_one form counts) ∙ (is_one_more form counts).more
 total_added false form counts = ap total (added_none counts) ∙ omega arith
 
 -- the counts of a hart are as many as its acts

@@ -1,9 +1,13 @@
--- What a reader answers at the next line of a script.
-use Rattle.std.proofs.Common.{◌≡◌, ℕ, ◌+◌, List, [], ◌∷◌, Option, Some, None, Ok, Err, refl, ap, ◌∙◌}
+-- What a reader answers at the next line of a script, and an entry that isn't as the line says.
+use Rattle.std.proofs.Common.{◌≡◌, ℕ, ◌+◌, Bool, true, false, List, [], ◌∷◌, Option, Some, None, Ok, Err, refl, ap, ◌∙◌}
+use Rattle.std.proofs.Common.{if◌then◌else◌}
+use Rattle.mach_types.specs.declared.events.Entry.{Entry}
 use Rattle.step_log.specs.Reading.{Unread, after_next, answer_at, answer_to}
 use Rattle.step_log.specs.Script.{line_meaning}
 use Rattle.step_log.specs.declared.fields.Line.{Line}
 use Rattle.step_log.specs.declared.reading.BadLine.{BadLine}
+use Rattle.outcomes.specs.declared.reasons.LineFault.{LineFault}
+use Rattle.outcomes.specs.declared.reasons.LineFault.TheVariants.{Differs}
 
 -- the reader's answer at the end, at a line that says something, and at a malformed one
 pub record IsNext (u : Unread) (line : Line) : Type 0 where
@@ -50,3 +54,9 @@ pub at_bad : (lines : List (List ℕ)) (read : ℕ) (bad : BadLine) → answer_t
     → IsMalformed (record { left = lines; read = read })
 at_bad [] read bad is = absurd cc
 at_bad (text ∷ more) read bad is = by_unsaid text more read bad (line_meaning text) refl is
+
+-- an entry that something is wrong with, as it isn't what the line says, isn't made
+pub differs_unmade : (b : Bool) (e : Entry) (fault : LineFault) → (if b then None else Some (Differs e)) ≡ Some fault
+    → (if b then Some e else None) ≡ None
+differs_unmade true e fault none = absurd cc
+differs_unmade false e fault some = refl

@@ -1,7 +1,6 @@
 -- What a line of a script makes of a machine and its reader.
 use Rattle.std.proofs.Common.{◌≡◌, ℕ, ◌+◌, List, [], ◌∷◌, ◌++◌, length, map, refl, sym, ap, ◌∙◌, subst}
-use Rattle.std.proofs.Common.{Bool, true, false, Option, Some, None, Result, Ok, Err, append-nil, append_assoc, ap₂}
-use Rattle.std.proofs.Common.{if◌then◌else◌}
+use Rattle.std.proofs.Common.{Option, Some, None, Result, Ok, Err, append-nil, append_assoc, ap₂}
 use Rattle.std.proofs.lemmas.List.{map-append}
 use Rattle.std.specs.Option.{option_map}
 use Rattle.step_log.specs.Reading.{Unread, unread, next_answer, after_next}
@@ -16,12 +15,12 @@ use Rattle.block_model.specs.Setting.{Setting, Seen}
 use Rattle.block_model.proofs.Laws.{length-answers, played-append, played-nil, played_is_run}
 use Rattle.block_model.specs.declared.refusals.Refused.{Refused}
 use Rattle.outcomes.specs.declared.reasons.LineFault.{LineFault}
-use Rattle.outcomes.specs.declared.reasons.LineFault.TheVariants.{Differs, Malformed}
+use Rattle.outcomes.specs.declared.reasons.LineFault.TheVariants.{Malformed}
 use Rattle.command_runs.specs.Playing.{IsPlaying}
-use Rattle.command_runs.proofs.NextLines.{at_bad, at_end, at_line}
+use Rattle.command_runs.proofs.NextLines.{at_bad, at_end, at_line, differs_unmade}
 use Rattle.outcomes.specs.Programs.{ask_in, ask_of}
 use Rattle.outcomes.specs.Reasons.{IsBadLine, decided_fault, line_fault}
-use Rattle.outcomes.specs.Runs.{IsPlayedRun, IsWholePlay}
+use Rattle.outcomes.specs.Runs.{IsFirstBadLine, IsPlayedRun, IsWholePlay}
 
 -- before the first line
 pub playing-start : (text : List ℕ) (m : Seen) (s : Setting) (seed : ℕ) (r : Unread)
@@ -70,11 +69,7 @@ playing-next text m n line more ask r p left said same made q rest =
 faulty_unmade : (check : Option (Tid × ℕ)) (r : Result Entry Refused) (fault : LineFault)
     → decided_fault check r ≡ Some fault → checked check r ≡ None
 faulty_unmade check (Err refused) fault is = refl
-faulty_unmade check (Ok e) fault is = by_said (is_as_said check e) is
-  where
-    by_said : (b : Bool) → (if b then None else Some (Differs e)) ≡ Some fault → (if b then Some e else None) ≡ None
-    by_said true none = absurd cc
-    by_said false some = refl
+faulty_unmade check (Ok e) fault is = differs_unmade (is_as_said check e) e fault is
 
 line_unmade : (s : Setting) (log : List Entry) (line : Option Ask) (fault : LineFault)
     → line_fault s log line ≡ Some fault → made_by_read s log line ≡ None
@@ -82,23 +77,28 @@ line_unmade s log None fault is = refl
 line_unmade s log (Some ask) fault is =
     faulty_unmade ask.check (decide s (history s log) ask.hart.0 ask.choice) fault is
 
--- the next line is the first bad one: something is wrong with it
+-- the next line makes no entry
+abbrev first_unmade : (text : List ℕ) (m : Seen) (line : List ℕ) (more : List (List ℕ)) (r : Unread)
+    → IsPlaying text m r → r.left ≡ line ∷ more → made_by_read m.setting m.log (ask_in line) ≡ None
+    → IsFirstBadLine m.setting text (length m.log + 1)
+first_unmade text m line more r p left unmade = record {
+  earlier = p.asks;
+  line = ask_in line;
+  later = map ask_in more;
+  log = m.log;
+  parts = ap (map ask_in) (p.parts ∙ ap (λ ls. p.earlier ++ ls) left)
+      ∙ map-append ask_in p.earlier (line ∷ more) ∙ ap (λ xs. xs ++ ask_in line ∷ map ask_in more) p.readable;
+  number = ap (λ n. n + 1) (length-answers p.asks m.log (played_is_run m.setting p.asks m.log p.allowed).1);
+  allowed = p.allowed;
+  refused = unmade;
+}
+
+-- it is the first bad one: something is wrong with it
 first_bad : (text : List ℕ) (m : Seen) (line : List ℕ) (more : List (List ℕ)) (r : Unread) (fault : LineFault)
     → IsPlaying text m r → r.left ≡ line ∷ more → line_fault m.setting m.log (ask_in line) ≡ Some fault
     → IsBadLine m.setting text (length m.log + 1) fault
 first_bad text m line more r fault p left faulty = record {
-  first = record {
-    earlier = p.asks;
-    line = ask_in line;
-    later = map ask_in more;
-    log = m.log;
-    parts = ap (map ask_in) (p.parts ∙ ap (λ ls. p.earlier ++ ls) left)
-        ∙ map-append ask_in p.earlier (line ∷ more) ∙ ap (λ xs. xs ++ ask_in line ∷ map ask_in more) p.readable;
-    number =
-        ap (λ n. n + 1) (length-answers p.asks m.log (played_is_run m.setting p.asks m.log p.allowed).1);
-    allowed = p.allowed;
-    refused = line_unmade m.setting m.log (ask_in line) fault faulty;
-  };
+  first = first_unmade text m line more r p left (line_unmade m.setting m.log (ask_in line) fault faulty);
   why = faulty;
 }
 

@@ -20,7 +20,7 @@ use Rattle.outcomes.specs.PlayedPairs.{IsWholePair, checked_two, made_two, pair_
 use Rattle.outcomes.specs.Programs.{ask_in, ask_of}
 use Rattle.outcomes.specs.Reasons.{IsBadLineOfPair, decided_for_pair, line_fault_of_pair}
 use Rattle.command_runs.specs.Playing.{IsPlayingPair}
-use Rattle.command_runs.proofs.NextLines.{at_bad, at_end, at_line}
+use Rattle.command_runs.proofs.NextLines.{at_bad, at_end, at_line, differs_unmade}
 
 -- before the first line
 nothing_run : (s : PairSetting) → IsPairRun s []
@@ -92,11 +92,7 @@ goes_on text v w line e r q p is after made answers run =
 faulty_unmade : (check : Option (Tid × ℕ)) (r : Result Entry PairRefused) (fault : LineFault)
     → decided_for_pair check r ≡ Some fault → checked_two check r ≡ None
 faulty_unmade check (Err refused) fault is = refl
-faulty_unmade check (Ok e) fault is = by_said (is_as_said check e) is
-  where
-    by_said : (b : Bool) → (if b then None else Some (Differs e)) ≡ Some fault → (if b then Some e else None) ≡ None
-    by_said true none = absurd cc
-    by_said false some = refl
+faulty_unmade check (Ok e) fault is = differs_unmade (is_as_said check e) e fault is
 
 line_unmade : (s : PairSetting) (m : Pair) (line : Option Ask) (fault : LineFault)
     → line_fault_of_pair s m line ≡ Some fault → made_two s m line ≡ None

@@ -53,14 +53,10 @@ unfolding walked
 name_goes b word rest given [] rows pending target on few ready met fine =
     let h = held rows pending in
     let now = rows_of_held rows pending in
-    let turn : turn_fault shape [] (walk_at h idle 1 b) word ≡ [] =
-    rw (fine, met) (passed (is_pending (name_built 1 (codes "first")) pending) (settle_fault rules false h)
-    ready.0) in
-    let goes : walked rules [] (walk_at h idle 1 b) word
-    ≡ walk_at (held now (Some (codes "first", word ∷ []))) idle 2 b =
-    rw (met, and_false (is_pending (name_built 1 (codes "first")) pending), or_false b) refl in
     step_to (walk_at h idle 1 b) (walk_at (held now (Some (codes "first", word ∷ []))) idle 2 b) word rest
-    (target (with_names (word ∷ []) given)) turn goes
+    (target (with_names (word ∷ []) given))
+    (rw (fine, met) (passed (is_pending (name_built 1 (codes "first")) pending) (settle_fault rules false h) ready.0))
+    (rw (met, and_false (is_pending (name_built 1 (codes "first")) pending), or_false b) refl)
     (on (with_names (word ∷ []) given) now (Some (codes "first", word ∷ [])) (omega arith) (
       first_free (with_names [] given) now word ready.1 refl,
       first_fits (with_names [] given) now word
@@ -69,14 +65,10 @@ name_goes b word rest given [] rows pending target on few ready met fine =
 name_goes b word rest given (a ∷ []) rows pending target on few ready met fine =
     let h = held rows pending in
     let now = rows_of_held rows pending in
-    let turn : turn_fault shape [] (walk_at h idle 2 b) word ≡ [] =
-    rw (fine, met) (passed (is_pending (name_built 2 (codes "second")) pending) (settle_fault rules false h)
-    ready.0) in
-    let goes : walked rules [] (walk_at h idle 2 b) word ≡ walk_at (held now (Some (codes "second", word ∷ [])))
-    idle 3 b =
-    rw (met, and_false (is_pending (name_built 2 (codes "second")) pending), or_false b) refl in
     step_to (walk_at h idle 2 b) (walk_at (held now (Some (codes "second", word ∷ []))) idle 3 b) word rest
-    (target (with_names (a ∷ word ∷ []) given)) turn goes
+    (target (with_names (a ∷ word ∷ []) given))
+    (rw (fine, met) (passed (is_pending (name_built 2 (codes "second")) pending) (settle_fault rules false h) ready.0))
+    (rw (met, and_false (is_pending (name_built 2 (codes "second")) pending), or_false b) refl)
     (on (with_names (a ∷ word ∷ []) given) now (Some (codes "second", word ∷ [])) (omega arith) (
       second_free (with_names (a ∷ []) given) now word ready.1 a refl,
       second_fits (with_names (a ∷ []) given)
@@ -85,14 +77,10 @@ name_goes b word rest given (a ∷ []) rows pending target on few ready met fine
 name_goes b word rest given (a ∷ c ∷ []) rows pending target on few ready met fine =
     let h = held rows pending in
     let now = rows_of_held rows pending in
-    let turn : turn_fault shape [] (walk_at h idle 3 b) word ≡ [] =
-    rw (fine, met) (passed (is_pending (name_built 3 (codes "third")) pending) (settle_fault rules false h)
-    ready.0) in
-    let goes : walked rules [] (walk_at h idle 3 b) word ≡ walk_at (held now (Some (codes "third", word ∷ [])))
-    idle 4 b =
-    rw (met, and_false (is_pending (name_built 3 (codes "third")) pending), or_false b) refl in
     step_to (walk_at h idle 3 b) (walk_at (held now (Some (codes "third", word ∷ []))) idle 4 b) word rest
-    (target (with_names (a ∷ c ∷ word ∷ []) given)) turn goes
+    (target (with_names (a ∷ c ∷ word ∷ []) given))
+    (rw (fine, met) (passed (is_pending (name_built 3 (codes "third")) pending) (settle_fault rules false h) ready.0))
+    (rw (met, and_false (is_pending (name_built 3 (codes "third")) pending), or_false b) refl)
     (on (with_names (a ∷ c ∷ word ∷ []) given) now (Some (codes "third", word ∷ [])) (omega arith) (
       third_free (with_names (a ∷ c ∷ []) given) now word ready.1 a c refl,
       third_fits (with_names (a ∷ c ∷ []) given)

@@ -1,5 +1,6 @@
 -- Worked examples of words, by computation.
-use Rattle.std.proofs.Common.{◌≡◌, ℕ, ◌-◌, ◌^◌, List, [], ◌∷◌, Option, Some, None, refl, codes}
+use Rattle.std.proofs.Common.{◌≡◌, ℕ, ◌-◌, ◌^◌, ◌==◌, Bool, true, not, List, [], ◌∷◌, Option, Some, None, is_some, refl, codes}
+use Rattle.std.specs.List.{list_all, slice_split}
 use Rattle.mach_types.specs.declared.limits.Limits.{Limits}
 use Rattle.draw_policies.specs.declared.policies.Policies.{Policies}
 use Rattle.draw_policies.specs.declared.policies.Policies.TheVariants.{All, Only}
@@ -51,6 +52,10 @@ draw program limits seed policies calm =
 
 abbrev three_harts : Option Command
 three_harts = Some (play (codes "F") (codes "S") (limits 3 4096 200000))
+
+-- whether none of these lines asks for anything, whose words stand one blank apart
+abbrev are_refused : List (List ℕ) → Bool
+are_refused lines = list_all (λ line. not (is_some (command_of (slice_split (λ byte. byte == 32) line)))) lines
 
 -- the limits where no option is given
 solo_defaults : command_of (codes "solo" ∷ codes "F" ∷ []) ≡ Some (solo (codes "F") (limits 1 4096 200000))
@@ -161,90 +166,48 @@ unfolding command_of arguments_of
 another_command = refl
 
 -- the number of names is exact
-solo_no_name : command_of (codes "solo" ∷ []) ≡ None
+wrong_name_counts : are_refused (
+    codes "solo" ∷
+    codes "solo F G" ∷
+    codes "play F" ∷
+    codes "play F S T" ∷
+    []) ≡ true
 unfolding command_of arguments_of
-solo_no_name = refl
-
-solo_two_names : command_of (codes "solo" ∷ codes "F" ∷ codes "G" ∷ []) ≡ None
-unfolding command_of arguments_of
-solo_two_names = refl
-
-play_one_name : command_of (codes "play" ∷ codes "F" ∷ []) ≡ None
-unfolding command_of arguments_of
-play_one_name = refl
-
-play_three_names : command_of (codes "play" ∷ codes "F" ∷ codes "S" ∷ codes "T" ∷ []) ≡ None
-unfolding command_of arguments_of
-play_three_names = refl
+wrong_name_counts = refl
 
 -- an option that the command has not, one that no command has, and one that is given twice
-solo_harts : command_of (codes "solo" ∷ codes "--harts" ∷ codes "2" ∷ codes "F" ∷ []) ≡ None
+wrong_options : are_refused (
+    codes "solo --harts 2 F" ∷
+    codes "solo --step 1 F" ∷
+    codes "solo -x" ∷
+    codes "solo --steps=1 --steps=1 F" ∷
+    codes "solo --steps 1 F --steps=1" ∷
+    []) ≡ true
 unfolding command_of arguments_of
-solo_harts = refl
-
-unknown_option : command_of (codes "solo" ∷ codes "--step" ∷ codes "1" ∷ codes "F" ∷ []) ≡ None
-unfolding command_of arguments_of
-unknown_option = refl
-
-short_option : command_of (codes "solo" ∷ codes "-x" ∷ []) ≡ None
-unfolding command_of arguments_of
-short_option = refl
-
-given_twice : command_of (codes "solo" ∷ codes "--steps=1" ∷ codes "--steps=1" ∷ codes "F" ∷ []) ≡ None
-unfolding command_of arguments_of
-given_twice = refl
-
-given_twice_in_both_forms : command_of
-    (codes "solo" ∷ codes "--steps" ∷ codes "1" ∷ codes "F" ∷ codes "--steps=1" ∷ []) ≡ None
-unfolding command_of arguments_of
-given_twice_in_both_forms = refl
+wrong_options = refl
 
 -- an option without a value, or with one that is no number
-no_value : command_of (codes "solo" ∷ codes "F" ∷ codes "--steps" ∷ []) ≡ None
+no_numbers : are_refused (
+    codes "solo F --steps" ∷
+    codes "solo --steps= F" ∷
+    codes "solo --steps -1 F" ∷
+    codes "solo F --steps -- 1" ∷
+    codes "solo --steps=+1 F" ∷
+    codes "solo --steps=1=1 F" ∷
+    []) ≡ true
 unfolding command_of arguments_of
-no_value = refl
-
-empty_value : command_of (codes "solo" ∷ codes "--steps=" ∷ codes "F" ∷ []) ≡ None
-unfolding command_of arguments_of
-empty_value = refl
-
-negative_value : command_of (codes "solo" ∷ codes "--steps" ∷ codes "-1" ∷ codes "F" ∷ []) ≡ None
-unfolding command_of arguments_of
-negative_value = refl
-
-ending_as_value : command_of (codes "solo" ∷ codes "F" ∷ codes "--steps" ∷ codes "--" ∷ codes "1" ∷ []) ≡ None
-unfolding command_of arguments_of
-ending_as_value = refl
-
-plus_value : command_of (codes "solo" ∷ codes "--steps=+1" ∷ codes "F" ∷ []) ≡ None
-unfolding command_of arguments_of
-plus_value = refl
-
-two_equals : command_of (codes "solo" ∷ codes "--steps=1=1" ∷ codes "F" ∷ []) ≡ None
-unfolding command_of arguments_of
-two_equals = refl
+no_numbers = refl
 
 -- a number out of its range
-too_few_steps : command_of (codes "solo" ∷ codes "--steps" ∷ codes "0" ∷ codes "F" ∷ []) ≡ None
+out_of_range : are_refused (
+    codes "solo --steps 0 F" ∷
+    codes "solo --steps 1000001 F" ∷
+    codes "play F S --harts 0" ∷
+    codes "play F S --harts 9" ∷
+    codes "play F S --frames 127" ∷
+    []) ≡ true
 unfolding command_of arguments_of
-too_few_steps = refl
-
-too_many_steps : command_of (codes "solo" ∷ codes "--steps" ∷ codes "1000001" ∷ codes "F" ∷ []) ≡ None
-unfolding command_of arguments_of
-too_many_steps = refl
-
-no_harts : command_of (codes "play" ∷ codes "F" ∷ codes "S" ∷ codes "--harts" ∷ codes "0" ∷ []) ≡ None
-unfolding command_of arguments_of
-no_harts = refl
-
-too_many_harts : command_of (codes "play" ∷ codes "F" ∷ codes "S" ∷ codes "--harts" ∷ codes "9" ∷ []) ≡ None
-unfolding command_of arguments_of
-too_many_harts = refl
-
-too_few_frames : command_of (codes "play" ∷ codes "F" ∷ codes "S" ∷ codes "--frames" ∷ codes "127" ∷ [])
-    ≡ None
-unfolding command_of arguments_of
-too_few_frames = refl
+out_of_range = refl
 
 -- `run F` has the number of harts and the seed that are given, or else the defaults
 run_defaults : command_of (codes "run" ∷ codes "F" ∷ []) ≡ Some (run (codes "F") (limits 2 4096 200000) 1)
@@ -268,31 +231,16 @@ largest_seed : command_of
 unfolding command_of arguments_of
 largest_seed = refl
 
-seed_too_large : command_of
-    (codes "run" ∷ codes "--seed" ∷ codes "18446744073709551616" ∷ codes "F" ∷ []) ≡ None
+wrong_runs : are_refused (
+    codes "run --seed 18446744073709551616 F" ∷
+    codes "run --seed=1 --seed=1 F" ∷
+    codes "run --harts 9 F" ∷
+    codes "run --harts 2 --harts 2 F" ∷
+    codes "run" ∷
+    codes "run F S" ∷
+    []) ≡ true
 unfolding command_of arguments_of
-seed_too_large = refl
-
-seed_twice : command_of (codes "run" ∷ codes "--seed=1" ∷ codes "--seed=1" ∷ codes "F" ∷ []) ≡ None
-unfolding command_of arguments_of
-seed_twice = refl
-
-run_too_many_harts : command_of (codes "run" ∷ codes "--harts" ∷ codes "9" ∷ codes "F" ∷ []) ≡ None
-unfolding command_of arguments_of
-run_too_many_harts = refl
-
-run_harts_twice : command_of
-    (codes "run" ∷ codes "--harts" ∷ codes "2" ∷ codes "--harts" ∷ codes "2" ∷ codes "F" ∷ []) ≡ None
-unfolding command_of arguments_of
-run_harts_twice = refl
-
-run_no_name : command_of (codes "run" ∷ []) ≡ None
-unfolding command_of arguments_of
-run_no_name = refl
-
-run_two_names : command_of (codes "run" ∷ codes "F" ∷ codes "S" ∷ []) ≡ None
-unfolding command_of arguments_of
-run_two_names = refl
+wrong_runs = refl
 
 -- so has `draw F`
 draw_defaults : command_of (codes "draw" ∷ codes "F" ∷ [])
@@ -337,30 +285,22 @@ draw_after_by_rule :
 unfolding command_of arguments_of
 draw_after_by_rule = refl
 
-draw_after_dash : command_of (codes "draw" ∷ codes "F" ∷ codes "--after=-" ∷ []) ≡ None
+no_script_before : are_refused (
+    codes "draw F --after=-" ∷
+    codes "explore F --after=S" ∷
+    []) ≡ true
 unfolding command_of arguments_of
-draw_after_dash = refl
-
-explore_after : command_of (codes "explore" ∷ codes "F" ∷ codes "--after=S" ∷ []) ≡ None
-unfolding command_of arguments_of
-explore_after = refl
+no_script_before = refl
 
 -- the policy of the fair end has no word here, and words are in lower case
-draw_fair : command_of (codes "draw" ∷ codes "F" ∷ codes "--policy=fair" ∷ []) ≡ None
+no_policies : are_refused (
+    codes "draw F --policy=fair" ∷
+    codes "draw F --policy=Pos" ∷
+    codes "draw F --calm=1000001" ∷
+    codes "run F --policy=all" ∷
+    []) ≡ true
 unfolding command_of arguments_of
-draw_fair = refl
-
-draw_upper_case : command_of (codes "draw" ∷ codes "F" ∷ codes "--policy=Pos" ∷ []) ≡ None
-unfolding command_of arguments_of
-draw_upper_case = refl
-
-draw_late : command_of (codes "draw" ∷ codes "F" ∷ codes "--calm=1000001" ∷ []) ≡ None
-unfolding command_of arguments_of
-draw_late = refl
-
-run_by_policy : command_of (codes "run" ∷ codes "F" ∷ codes "--policy=all" ∷ []) ≡ None
-unfolding command_of arguments_of
-run_by_policy = refl
+no_policies = refl
 
 abbrev settings : ℕ → Option ℕ → Apart → Option ℕ → Settings
 settings runs until apart jobs = record {
@@ -384,27 +324,23 @@ explore_options : command_of
 unfolding command_of arguments_of
 explore_options = refl
 
-explore_none : command_of (codes "explore" ∷ codes "F" ∷ codes "--runs=0" ∷ []) ≡ None
+wrong_draws : are_refused (
+    codes "explore F --runs=0" ∷
+    codes "explore F --by=console" ∷
+    codes "draw --seed=1 --seed=1 F" ∷
+    codes "draw F S" ∷
+    []) ≡ true
 unfolding command_of arguments_of
-explore_none = refl
+wrong_draws = refl
 
-explore_by_console : command_of (codes "explore" ∷ codes "F" ∷ codes "--by=console" ∷ []) ≡ None
-unfolding command_of arguments_of
-explore_by_console = refl
+-- `blocks F S`, `inspect F S` and `gather F S` have the limits that are given, or else the defaults
+abbrev HasDefaults : List ℕ → (List ℕ → List ℕ → Limits → Command) → Type 0
+HasDefaults word make =
+    command_of (word ∷ codes "F" ∷ codes "S" ∷ []) ≡ Some (make (codes "F") (codes "S") (limits 2 4096 200000))
 
-draw_seed_twice : command_of (codes "draw" ∷ codes "--seed=1" ∷ codes "--seed=1" ∷ codes "F" ∷ []) ≡ None
+shown_defaults : HasDefaults (codes "blocks") blocks × HasDefaults (codes "inspect") inspect × HasDefaults (codes "gather") gather
 unfolding command_of arguments_of
-draw_seed_twice = refl
-
-draw_two_names : command_of (codes "draw" ∷ codes "F" ∷ codes "S" ∷ []) ≡ None
-unfolding command_of arguments_of
-draw_two_names = refl
-
--- `blocks F S` has the limits that are given, or else the defaults
-blocks_defaults : command_of (codes "blocks" ∷ codes "F" ∷ codes "S" ∷ [])
-    ≡ Some (blocks (codes "F") (codes "S") (limits 2 4096 200000))
-unfolding command_of arguments_of
-blocks_defaults = refl
+shown_defaults = (refl, refl, refl)
 
 blocks_options : command_of
     (codes "blocks" ∷ codes "--harts" ∷ codes "3" ∷ codes "F" ∷ codes "--frames=128" ∷ codes "S"
@@ -412,38 +348,10 @@ blocks_options : command_of
 unfolding command_of arguments_of
 blocks_options = refl
 
-blocks_one_name : command_of (codes "blocks" ∷ codes "F" ∷ []) ≡ None
-unfolding command_of arguments_of
-blocks_one_name = refl
-
-blocks_three_names : command_of (codes "blocks" ∷ codes "F" ∷ codes "S" ∷ codes "T" ∷ []) ≡ None
-unfolding command_of arguments_of
-blocks_three_names = refl
-
-blocks_too_many_harts : command_of (codes "blocks" ∷ codes "F" ∷ codes "S" ∷ codes "--harts=9" ∷ []) ≡ None
-unfolding command_of arguments_of
-blocks_too_many_harts = refl
-
--- so has `inspect F S`
-inspect_defaults : command_of (codes "inspect" ∷ codes "F" ∷ codes "S" ∷ [])
-    ≡ Some (inspect (codes "F") (codes "S") (limits 2 4096 200000))
-unfolding command_of arguments_of
-inspect_defaults = refl
-
 inspect_options : command_of (codes "inspect" ∷ codes "F" ∷ codes "--harts=8" ∷ codes "S" ∷ [])
     ≡ Some (inspect (codes "F") (codes "S") (limits 8 4096 200000))
 unfolding command_of arguments_of
 inspect_options = refl
-
-inspect_one_name : command_of (codes "inspect" ∷ codes "F" ∷ []) ≡ None
-unfolding command_of arguments_of
-inspect_one_name = refl
-
--- and `gather F S`
-gather_defaults : command_of (codes "gather" ∷ codes "F" ∷ codes "S" ∷ [])
-    ≡ Some (gather (codes "F") (codes "S") (limits 2 4096 200000))
-unfolding command_of arguments_of
-gather_defaults = refl
 
 gather_options : command_of
     (codes "gather" ∷ codes "--frames" ∷ codes "128" ∷ codes "F" ∷ codes "S" ∷ codes "--steps=5"
@@ -451,9 +359,20 @@ gather_options : command_of
 unfolding command_of arguments_of
 gather_options = refl
 
-gather_one_name : command_of (codes "gather" ∷ codes "F" ∷ []) ≡ None
+-- and two names
+abbrev TakesNoOneName : List ℕ → Type 0
+TakesNoOneName word = command_of (word ∷ codes "F" ∷ []) ≡ None
+
+shown_one_name : TakesNoOneName (codes "blocks") × TakesNoOneName (codes "inspect") × TakesNoOneName (codes "gather")
 unfolding command_of arguments_of
-gather_one_name = refl
+shown_one_name = (refl, refl, refl)
+
+wrong_blocks : are_refused (
+    codes "blocks F S T" ∷
+    codes "blocks F S --harts=9" ∷
+    []) ≡ true
+unfolding command_of arguments_of
+wrong_blocks = refl
 
 -- `inspect F S` shows no memory, or the spans of a list
 abbrev bytes : ℕ → ℕ → MemorySpan
@@ -470,13 +389,12 @@ unfolding command_of arguments_of
 inspect_two_spans = refl
 
 -- no other command shows memory, and a bad list is none
-play_memory : command_of (codes "play" ∷ codes "F" ∷ codes "S" ∷ codes "--memory=0:1" ∷ []) ≡ None
+wrong_memory : are_refused (
+    codes "play F S --memory=0:1" ∷
+    codes "inspect F S --memory=11440:16,11450" ∷
+    []) ≡ true
 unfolding command_of arguments_of
-play_memory = refl
-
-inspect_memory_nowhere : command_of (codes "inspect" ∷ codes "F" ∷ codes "S" ∷ codes "--memory=11440:16,11450" ∷ []) ≡ None
-unfolding command_of arguments_of
-inspect_memory_nowhere = refl
+wrong_memory = refl
 
 -- spans: the last address may be in one, and nothing behind it
 span_at_the_end : span_of (codes "fffffffffffffff8:8") ≡ Some (bytes (2 ^ 64 - 8) 8)
@@ -525,17 +443,13 @@ trace_options : command_of
 unfolding command_of arguments_of
 trace_options = refl
 
-trace_from_nothing : command_of (codes "trace" ∷ codes "F" ∷ codes "S" ∷ codes "--from=0" ∷ []) ≡ None
+wrong_traces : are_refused (
+    codes "trace F S --from=0" ∷
+    codes "trace F S --to=1000001" ∷
+    codes "trace F" ∷
+    []) ≡ true
 unfolding command_of arguments_of
-trace_from_nothing = refl
-
-trace_too_far : command_of (codes "trace" ∷ codes "F" ∷ codes "S" ∷ codes "--to=1000001" ∷ []) ≡ None
-unfolding command_of arguments_of
-trace_too_far = refl
-
-trace_one_name : command_of (codes "trace" ∷ codes "F" ∷ []) ≡ None
-unfolding command_of arguments_of
-trace_one_name = refl
+wrong_traces = refl
 
 -- another command on a script takes no span
 play_from : command_of (codes "play" ∷ codes "F" ∷ codes "S" ∷ codes "--from=1" ∷ []) ≡ None
@@ -543,25 +457,15 @@ unfolding command_of arguments_of
 play_from = refl
 
 -- `solo`, `play`, `blocks`, `inspect` and `gather` take no seed
-solo_seed : command_of (codes "solo" ∷ codes "--seed" ∷ codes "1" ∷ codes "F" ∷ []) ≡ None
+no_seed : are_refused (
+    codes "solo --seed 1 F" ∷
+    codes "play --seed 1 F S" ∷
+    codes "blocks F S --seed=1" ∷
+    codes "inspect F S --seed=1" ∷
+    codes "gather F S --seed=1" ∷
+    []) ≡ true
 unfolding command_of arguments_of
-solo_seed = refl
-
-play_seed : command_of (codes "play" ∷ codes "--seed" ∷ codes "1" ∷ codes "F" ∷ codes "S" ∷ []) ≡ None
-unfolding command_of arguments_of
-play_seed = refl
-
-blocks_seed : command_of (codes "blocks" ∷ codes "F" ∷ codes "S" ∷ codes "--seed=1" ∷ []) ≡ None
-unfolding command_of arguments_of
-blocks_seed = refl
-
-inspect_seed : command_of (codes "inspect" ∷ codes "F" ∷ codes "S" ∷ codes "--seed=1" ∷ []) ≡ None
-unfolding command_of arguments_of
-inspect_seed = refl
-
-gather_seed : command_of (codes "gather" ∷ codes "F" ∷ codes "S" ∷ codes "--seed=1" ∷ []) ≡ None
-unfolding command_of arguments_of
-gather_seed = refl
+no_seed = refl
 
 -- `pair F G S` runs two programs on the events of a script, with the harts, the frames and the steps that are given, or else the defaults
 abbrev pair : List ℕ → List ℕ → List ℕ → Limits → Command
@@ -579,17 +483,13 @@ pair_options : command_of
 unfolding command_of arguments_of
 pair_options = refl
 
-pair_two_names : command_of (codes "pair" ∷ codes "F" ∷ codes "S" ∷ []) ≡ None
+wrong_pairs : are_refused (
+    codes "pair F S" ∷
+    codes "pair F G S T" ∷
+    codes "pair F G S --seed=1" ∷
+    []) ≡ true
 unfolding command_of arguments_of
-pair_two_names = refl
-
-pair_four_names : command_of (codes "pair" ∷ codes "F" ∷ codes "G" ∷ codes "S" ∷ codes "T" ∷ []) ≡ None
-unfolding command_of arguments_of
-pair_four_names = refl
-
-pair_seed : command_of (codes "pair" ∷ codes "F" ∷ codes "G" ∷ codes "S" ∷ codes "--seed=1" ∷ []) ≡ None
-unfolding command_of arguments_of
-pair_seed = refl
+wrong_pairs = refl
 
 -- `make NAME N` makes a guest, whatever the number; whether the guest takes it isn't a matter of the words
 make_counter : command_of (codes "make" ∷ codes "counter" ∷ codes "1000" ∷ [])
@@ -608,29 +508,16 @@ unfolding command_of arguments_of
 make_behind_dashes = refl
 
 -- a name that is no guest's, a size that is no number, too few and too many names, and an option
-make_another : command_of (codes "make" ∷ codes "Counter" ∷ codes "1" ∷ []) ≡ None
+wrong_makes : are_refused (
+    codes "make Counter 1" ∷
+    codes "make counter 1k" ∷
+    codes "make counter 18446744073709551616" ∷
+    codes "make counter" ∷
+    codes "make counter 1 2" ∷
+    codes "make counter 1 --steps=5" ∷
+    []) ≡ true
 unfolding command_of arguments_of
-make_another = refl
-
-make_no_number : command_of (codes "make" ∷ codes "counter" ∷ codes "1k" ∷ []) ≡ None
-unfolding command_of arguments_of
-make_no_number = refl
-
-make_too_large : command_of (codes "make" ∷ codes "counter" ∷ codes "18446744073709551616" ∷ []) ≡ None
-unfolding command_of arguments_of
-make_too_large = refl
-
-make_no_size : command_of (codes "make" ∷ codes "counter" ∷ []) ≡ None
-unfolding command_of arguments_of
-make_no_size = refl
-
-make_three_names : command_of (codes "make" ∷ codes "counter" ∷ codes "1" ∷ codes "2" ∷ []) ≡ None
-unfolding command_of arguments_of
-make_three_names = refl
-
-make_steps : command_of (codes "make" ∷ codes "counter" ∷ codes "1" ∷ codes "--steps=5" ∷ []) ≡ None
-unfolding command_of arguments_of
-make_steps = refl
+wrong_makes = refl
 
 -- `trial NAME N` tries a guest, with the harts, the steps and the seed that are given, or else the defaults
 trial_defaults : command_of (codes "trial" ∷ codes "counter" ∷ codes "1" ∷ [])

@@ -1,18 +1,20 @@
 //! The commands of a command line.
 
 ghost use Rattle.std.specs.Prelude.{◌≡◌, ◌≤◌, IfOk, IfSome, option_copied, option_map};
+ghost use Rattle.std.specs.List.{list_all};
 ghost use Rattle.mach_types.specs.Limits.{InRange};
 ghost use Rattle.command_words.specs.Commands.{AreInRange, HasHartsOf, HasItsHarts, HasLimits, trial_limits};
 ghost use Rattle.command_words.specs.Kept.{named, names_kept, pair_said, range, run_said, said, shown_said, source_said, spans_kept, stated, takes_kept};
 ghost use Rattle.command_words.specs.Grammar.{all_suit, apart_or_text, asked_by, asked_for, command_for, drawn_source, files_for, guest_for, guest_named};
 ghost use Rattle.command_words.specs.Grammar.{harts_for, one_name, policies_or_all, run_for, settings_of, shown_for, suits, trial_of};
 ghost use Rattle.command_words.specs.Grammar.{number_given, pair_for, program_for, two_names};
+ghost use Rattle.command_words.specs.Options.{After, Memory};
 ghost use Rattle.command_words.specs.Words.{command_of, texts};
 
 use crate::arguments::{Arguments, FileNames, arguments_of};
 use crate::options::{
-    Apart, CALM, FRAMES, HARTS, JOBS, LINES, Numbers, OUTCOMES, OptionName, RUNS, SEEDS, STEPS,
-    number_of,
+    ALL_OPTIONS, Apart, CALM, FRAMES, HARTS, JOBS, LINES, Numbers, OUTCOMES, OptionName, RUNS,
+    SEEDS, STEPS, number_of,
 };
 use crate::spans::MemorySpans;
 use crate::table::{CommandKind, ShownKind, SourceKind, command_kind};
@@ -264,24 +266,19 @@ impl<'a> Arguments<'a> {
         }
     }
 
+    /// Whether the value of each of these options suits a command where it is given.
+    fn each_suits(&self, takes: Takes, options: &[OptionName]) -> bool
+        ensures { result ≡ list_all (λ option. suits (takes_kept takes) (named option)
+            ((stated self.now).values (named option))) options.now }
+    {
+        options.iter().all(|option| self.suits(takes, *option))
+    }
+
     /// Whether each value that is given suits a command.
     fn all_suit(&self, takes: Takes) -> bool
         ensures { result ≡ all_suit (takes_kept takes) (stated self.now).values }
     {
-        self.suits(takes, OptionName::Harts)
-            && self.suits(takes, OptionName::Frames)
-            && self.suits(takes, OptionName::Steps)
-            && self.suits(takes, OptionName::Seed)
-            && self.suits(takes, OptionName::Policy)
-            && self.suits(takes, OptionName::Calm)
-            && self.suits(takes, OptionName::After)
-            && self.suits(takes, OptionName::RunCount)
-            && self.suits(takes, OptionName::Until)
-            && self.suits(takes, OptionName::By)
-            && self.suits(takes, OptionName::Jobs)
-            && self.suits(takes, OptionName::From)
-            && self.suits(takes, OptionName::To)
-            && self.suits(takes, OptionName::Memory)
+        self.each_suits(takes, &ALL_OPTIONS)
     }
 
     /// The limits that the options come to.
@@ -338,11 +335,8 @@ impl<'a> Arguments<'a> {
 fn policies_or_all(name: Option<&str>) -> Policies
     ensures { result ≡ policies_or_all (option_copied name.entry) }
 {
-    let Some(name) = name else {
-        return Policies::All;
-    };
-    match Policies::of_word(name) {
-        Some(policies) => policies,
+    match name {
+        Some(name) => Policies::of_word(name).unwrap_or(Policies::All),
         None => Policies::All,
     }
 }
@@ -370,11 +364,8 @@ fn small_in(numbers: Numbers, text: Option<&str>) -> Option<u8>
 fn apart_or_text(word: Option<&str>) -> Apart
     ensures { result ≡ apart_or_text (option_copied word.entry) }
 {
-    let Some(word) = word else {
-        return Apart::ByText;
-    };
-    match Apart::of_word(word) {
-        Some(apart) => apart,
+    match word {
+        Some(word) => Apart::of_word(word).unwrap_or(Apart::ByText),
         None => Apart::ByText,
     }
 }
@@ -387,32 +378,30 @@ fn asked_for<'a>(kind: CommandKind, arguments: Arguments<'a>) -> Option<Command<
 {
     if arguments.all_suit(kind.takes()) {
         let settings = arguments.settings();
-        let Arguments { after, memory, .. } = arguments;
-        command_for(kind, settings, after, memory, arguments.names)
+        command_for(kind, settings, arguments)
     } else {
         None
     }
 }
 
-/// The command of this kind with these settings, behind this script where one is named, with these spans of memory where they are given,
-/// and with these names; None where the names don't suit.
+/// The command of this kind with these settings, which its options come to, and with the script behind which it goes on, the spans of
+/// memory and the names that it is given; None where the names don't suit.
 fn command_for<'a>(
     kind: CommandKind,
     settings: Settings,
-    after: Option<&'a str>,
-    memory: Option<&'a str>,
-    names: FileNames<'a>,
+    arguments: Arguments<'a>,
 ) -> Option<Command<'a>>
     requires { AreInRange settings }
     ensures command { option_map said result
-        ≡ command_for kind settings (option_copied after.entry) (option_copied memory.entry)
-        (names_kept names.entry) }
+        ≡ command_for kind settings ((stated arguments.entry).values After)
+        ((stated arguments.entry).values Memory) (stated arguments.entry).names }
     ensures limits { IfSome result (λ command. HasLimits (said command)) }
     ensures harts { IfSome result (λ command. HasItsHarts (said command)) }
 {
+    let Arguments { names, .. } = arguments;
     match kind {
         CommandKind::Runs { source, shown } => {
-            let run = run_for(source, shown, settings, after, memory, names)?;
+            let run = run_for(source, shown, settings, arguments)?;
             Some(Command::Runs(run))
         }
         CommandKind::Makes => Some(Command::Makes(guest_for(names)?)),
@@ -518,23 +507,27 @@ impl ShownKind {
     }
 }
 
-/// The run of a program that names give, with these settings, behind this script where one is named, and with these spans of memory
-/// where they are given; None where the names are too few or too many.
+/// The run of a program that names give, with these settings, behind the script and with the spans of memory that are given; None
+/// where the names are too few or too many.
 fn run_for<'a>(
     kind: SourceKind,
     shown: ShownKind,
     settings: Settings,
-    after: Option<&'a str>,
-    memory: Option<&'a str>,
-    names: FileNames<'a>,
+    arguments: Arguments<'a>,
 ) -> Option<Run<'a>>
     requires { InRange settings.limits }
     ensures run { option_map run_said result
-        ≡ option_map (run_for kind shown settings (option_copied memory.entry))
-        (files_for kind (names_kept names.entry) settings (option_copied after.entry)) }
+        ≡ option_map (run_for kind shown settings ((stated arguments.entry).values Memory))
+        (files_for kind (stated arguments.entry).names settings ((stated arguments.entry).values After)) }
     ensures limits { IfSome result (λ run. InRange run.limits) }
     ensures harts { IfSome result (λ run. HasHartsOf (source_said run.source) run.limits) }
 {
+    let Arguments {
+        names,
+        after,
+        memory,
+        ..
+    } = arguments;
     let (program, source) = files_for(kind, names, settings, after)?;
     let Limits {
         harts,

@@ -43,6 +43,24 @@ pub(crate) enum OptionName {
     Memory,
 }
 
+/// All options.
+pub(crate) const ALL_OPTIONS: [OptionName; 14] = [
+    OptionName::Harts,
+    OptionName::Frames,
+    OptionName::Steps,
+    OptionName::Seed,
+    OptionName::Policy,
+    OptionName::Calm,
+    OptionName::After,
+    OptionName::RunCount,
+    OptionName::Until,
+    OptionName::By,
+    OptionName::Jobs,
+    OptionName::From,
+    OptionName::To,
+    OptionName::Memory,
+];
+
 /// By what outcomes are told apart.
 #[derive(Clone, Copy, Drop)]
 pub enum Apart {

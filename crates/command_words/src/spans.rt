@@ -1,10 +1,10 @@
 //! Spans of memory that a word asks for.
 
-ghost use Rattle.std.specs.Prelude.{◌≡◌, ◌+◌, ◌≤◌, ◌^◌, map, option_copied, All, IfOk};
-ghost use Rattle.std.specs.List.{before_first, list_all};
+ghost use Rattle.std.specs.Prelude.{◌≡◌, ◌+◌, ◌≤◌, ◌^◌, map, All, IfOk};
+ghost use Rattle.std.specs.List.{list_all};
 ghost use Rattle.step_log.specs.Script.{is_hex_digit};
 ghost use Rattle.command_words.specs.Kept.{spans_kept};
-ghost use Rattle.command_words.specs.Spans.{address_of, are_spans, behind_colon, is_colon, parts_of, span_from, span_of, spans_in, spans_of};
+ghost use Rattle.command_words.specs.Spans.{address_of, are_spans, parts_of, span_from, span_of, spans_in, spans_of};
 
 use crate::options::Numbers;
 use std::alloc::{AllocError, Global};
@@ -51,17 +51,6 @@ fn address_of(text: &str) -> Option<u64>
     }
 }
 
-/// What stands before the first `:` of a text, and what stands behind it, if the text has one.
-fn parted(text: &str) -> (&str, Option<&str>)
-    ensures at { result.0.now ≡ before_first is_colon text.now }
-    ensures behind { option_copied result.1 ≡ behind_colon text.now }
-{
-    match text.split_once(':') {
-        Some((at, behind)) => (at, Some(behind)),
-        None => (text, None),
-    }
-}
-
 impl MemorySpan {
     /// So many bytes from an address on; None where they would go past the end of addresses.
     fn from_address(at: u64, count: u64) -> Option<MemorySpan>
@@ -83,8 +72,7 @@ impl MemorySpan {
     fn of_text(text: &str) -> Option<MemorySpan>
         ensures { result ≡ span_of text.now }
     {
-        let (at, behind) = parted(text);
-        let behind = behind?;
+        let (at, behind) = text.split_once(':')?;
         let at = address_of(at)?;
         let count = LENGTHS.number_in(behind)?;
         MemorySpan::from_address(at, count)

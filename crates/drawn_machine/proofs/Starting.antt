@@ -193,10 +193,10 @@ one_found p [] has = absurd (false≢true has)
 one_found p (u ∷ xs) has = go (p u) refl has (λ some. one_found p xs some)
   where
     go : (b : Bool) → p u ≡ b → (b || list_any p xs) ≡ true → (list_any p xs ≡ true → IsFound p xs) → IsFound p (u ∷ xs)
-    go true is some later = (u, (is, ap (λ c. c || list_any (λ v. eqb v u) xs) (eq-eqb u u refl)))
+    go true is some later = (u, is, ap (λ c. c || list_any (λ v. eqb v u) xs) (eq-eqb u u refl))
     go false is some later =
         let found : IsFound p xs = later some in
-        (found.0, (found.1.0, or_right (eqb u found.0) (list_any (λ v. eqb v found.0) xs) found.1.1))
+        (found.0, found.1, or_right (eqb u found.0) (list_any (λ v. eqb v found.0) xs) found.2)
 
 none_found : (p : ℕ → Bool) (xs : List ℕ) (t : ℕ) → list_any p xs ≡ false → list_any (λ u. eqb u t) xs ≡ true → p t ≡ false
 none_found p [] t none has = absurd (false≢true has)
@@ -243,13 +243,15 @@ listed_begin harts ts s opened h holds = go (list_any (may s opened h) s.order) 
     go false none = none_starts ts s opened h (none_passes (starts ts s opened h) (ts.given + 1) (λ t. starts_not harts ts s opened h t holds none))
     go true some =
         let found = one_found (may s opened h) s.order some in
-        let ready : is_ready found.0 ts ≡ true = sym (ready_listed harts found.0 ts s holds) ∙ found.1.1 in
+        let ready : is_ready found.0 ts ≡ true = sym (ready_listed harts found.0 ts s holds) ∙ found.2 in
         let given = given_above ts.given found.0 ts.live holds.threads.given (ready_live (find (is_thread found.0) ts.live) ready) in
-        one_starts ts s opened h found.0 (omega arith) (and_from (is_ready found.0 ts) (may s opened h found.0) ready found.1.0)
+        one_starts ts s opened h found.0 (omega arith) (and_from (is_ready found.0 ts) (may s opened h found.0) ready found.1)
 
 -- of a hart that is open no more is asked than that the thread may run there, of another that it may run on none that is open
 pub open_bar : (opened h set : ℕ) → h < opened → (has_hart set h && eqb (set % 2 ^ 0) 0) ≡ may_begin opened h set
-open_bar opened h set is = rw (lt-ltb h opened is) (ap (λ n. has_hart set h && eqb n 0) (omega arith))
+open_bar opened h set is =
+    let none : set % 2 ^ 0 ≡ 0 = omega arith in
+    rw (lt-ltb h opened is) (ap (λ (n : ℕ). has_hart set h && eqb n 0) none)
 
 pub shut_bar : (opened h set : ℕ) → opened ≤ h → (has_hart set h && eqb (set % 2 ^ opened) 0) ≡ may_begin opened h set
 shut_bar opened h set is = rw (le-ltb h opened is) refl

@@ -1,8 +1,8 @@
 -- Laws of lists that `std` does not have.
-use Rattle.std.proofs.Common.{◌≡◌, ℕ, zero, suc, ◌+◌, ◌-◌, ◌<◌, ◌≤◌, inl, inr, Bool, true, false, List, [], ◌∷◌, ◌++◌, length, slice_index, get_or, Some, None, Contains, sum_by, refl, ap, ◌∙◌, arith, length-append}
+use Rattle.std.proofs.Common.{◌≡◌, ℕ, zero, suc, ◌+◌, ◌-◌, ◌<◌, ◌≤◌, inl, inr, Bool, true, false, List, [], ◌∷◌, ◌++◌, length, slice_index, get_or, Some, None, Contains, sum_by, refl, ap, ◌∙◌, arith, add-one, length-append}
 use Rattle.std.specs.List.{find, range_with_len}
 use Rattle.std.specs.List.Sorted.{IsStrictlyIncreasing}
-use Rattle.std.proofs.lemmas.Bool.{cases_lt}
+use Rattle.std.proofs.lemmas.Bool.{cases_eq, cases_lt}
 use Rattle.std.proofs.lemmas.List.{get_or_append_left, get_or-append_right}
 use Rattle.std.proofs.lemmas.List.FromFn.{length-range_with_len, get_or-range_with_len}
 use Rattle.std.proofs.lemmas.List.Sums.{sum_by-cons}
@@ -104,3 +104,13 @@ contains-range a n x (k, lt, is) =
     let few : k < n = omega (arith, length-range_with_len a n) in
     let here = get_or-range_with_len a n k x few in
     (omega arith, omega arith)
+
+-- among rising numbers, a later one is greater
+pub rises : (xs : List ℕ) (i j : ℕ) → IsStrictlyIncreasing xs → i < j → j < length xs → get_or xs i 0 < get_or xs j 0
+rises xs i zero up lt within = absurd (omega arith)
+rises xs i (suc j) up lt within =
+    let next : get_or xs j 0 < get_or xs (suc j) 0 = rw add-one at (up j (omega arith)) in
+    elim (cases_eq i j) [
+      | inl same ↦ rw same next
+      | inr ne ↦ let below = rises xs i j up (omega arith) (omega arith) in omega (arith, below, next)
+    ]

@@ -14,11 +14,11 @@ use Rattle.elf_load.specs.Faults.{AreApart, row, first_of, first_fault, file_row
 use Rattle.elf_load.proofs.Positions.{position-never}
 
 -- no fault among several rows
-abbrev AreNone : List (Option ElfFault) → Type 0
+abbrev pub AreNone : List (Option ElfFault) → Type 0
 AreNone [] = Unit {0}
 AreNone (found ∷ rest) = (found ≡ None) × AreNone rest
 
-are_none : (rows : List (Option ElfFault)) → first_of rows ≡ None → AreNone rows
+pub are_none : (rows : List (Option ElfFault)) → first_of rows ≡ None → AreNone rows
 are_none [] e = tt
 are_none (None ∷ rest) e = (refl, are_none rest e)
 are_none (Some fault ∷ rest) e = absurd (cc)

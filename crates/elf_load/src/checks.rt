@@ -5,45 +5,16 @@ ghost use Rattle.std.specs.List.{enumerate_from, list_any};
 ghost use Rattle.elf_load.specs.Fields.{is_dynamic, page_count};
 ghost use Rattle.elf_load.specs.Faults.{Finds, file_rows, frame_rows, has_bad_flags, has_bad_table, has_bad_version, has_code, is_bad_entry, is_misplaced, is_unaligned, is_writable_code, overlaps, segment_rows, shares_page};
 
+use crate::elf_format::{
+    CLASS_64, E_FLAGS, E_MACHINE, E_PHENTSIZE, E_PHNUM, E_PHOFF, E_TYPE, E_VERSION, EF_RISCV_TSO,
+    EI_CLASS, EI_DATA, EI_MAG, EI_VERSION, ELF_MAGIC, EM_RISCV, ENTRY_SIZE, ET_EXEC,
+    FILE_HEADER_SIZE, LITTLE_ENDIAN,
+};
 use crate::fault::ElfFault;
 use crate::fields::{byte, half, sum, word, xword};
-use crate::program_headers::{E_PHNUM, E_PHOFF, ENTRY_SIZE, ProgramHeader};
+use crate::program_headers::ProgramHeader;
 
-/// The size of the file header.
-const FILE_HEADER_SIZE: usize = 64;
-
-// Where the file header has its fields.
-const EI_MAG: usize = 0;
-
-const EI_CLASS: usize = 4;
-
-const EI_DATA: usize = 5;
-
-const EI_VERSION: usize = 6;
-
-const E_TYPE: usize = 16;
-
-const E_MACHINE: usize = 18;
-
-const E_VERSION: usize = 20;
-
-const E_FLAGS: usize = 48;
-
-const E_PHENTSIZE: usize = 54;
-
-/// The bytes 7F 45 4C 46 as a number, the lowest byte first.
-const ELF_MAGIC: u32 = 0x464C_457F;
-/// `ELFCLASS64`
-const CLASS_64: u8 = 2;
-/// `ELFDATA2LSB`
-const LITTLE_ENDIAN: u8 = 1;
-
-const ET_EXEC: u16 = 2;
-
-const EM_RISCV: u16 = 243;
-/// The bit of `e_flags` for programs that need the memory model Ztso.
-const EF_RISCV_TSO: u32 = 16;
-
+/// How many entries the program header table may have (own).
 const MOST_ENTRIES: u16 = 64;
 
 /// The frames of the stack and of the return page.

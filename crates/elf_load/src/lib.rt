@@ -2,6 +2,7 @@
 #![tactic(auto)]
 
 mod checks;
+mod elf_format;
 mod fault;
 mod fields;
 mod image;

@@ -6,17 +6,14 @@ ghost use Rattle.elf_load.specs.Faults.{AreApart, first_fault};
 ghost use Rattle.elf_load.specs.Images.{IsBootable, IsImage, IsLoaded, end_of, table_address};
 
 use crate::checks::{check_file_header, check_frames, check_segments};
+use crate::elf_format::{E_ENTRY, E_PHNUM, E_PHOFF, ENTRY_SIZE};
 use crate::fault::ElfFault;
 use crate::fields::{half, xword};
 use crate::image::{Image, ImagePage};
 use crate::paging::build_pages;
-use crate::program_headers::{
-    E_PHNUM, E_PHOFF, ENTRY_SIZE, PAGE, ProgramHeader, read_program_headers,
-};
+use crate::program_headers::{PAGE, ProgramHeader, read_program_headers};
 use mach_types::Limits;
 use std::alloc::Global;
-
-const E_ENTRY: usize = 24;
 
 /// The image of a file, under a number of frames.
 ///

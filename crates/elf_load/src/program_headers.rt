@@ -5,33 +5,14 @@ ghost use Rattle.elf_load.specs.Fields.{e_phnum, e_phoff, first_page, has_pages,
 ghost use Rattle.elf_load.specs.Faults.{has_code, is_misplaced, is_unaligned, is_writable_code, share_page};
 ghost use Rattle.elf_load.specs.Images.{holds, permission};
 
+use crate::elf_format::{
+    E_PHNUM, E_PHOFF, ENTRY_SIZE, PF_R, PF_W, PF_X, PT_DYNAMIC, PT_INTERP, PT_LOAD,
+};
 use crate::fields::{half, sum, word, xword};
 use std::alloc::{AllocError, Global};
 
 /// The size of a page.
 pub(crate) const PAGE: u64 = 4096;
-
-/// The size of an entry of the table.
-pub(crate) const ENTRY_SIZE: usize = 56;
-
-// Where the file header has `e_phoff` and `e_phnum`.
-pub(crate) const E_PHOFF: usize = 32;
-
-pub(crate) const E_PHNUM: usize = 56;
-
-// Types of segments, of `p_type`.
-const PT_LOAD: u32 = 1;
-
-const PT_DYNAMIC: u32 = 2;
-
-const PT_INTERP: u32 = 3;
-
-// Flags of segments, of `p_flags`.
-const PF_X: u32 = 1;
-
-const PF_W: u32 = 2;
-
-const PF_R: u32 = 4;
 
 /// The addresses of a file's segments lie from the second page up to here.
 const ADDRESS_END: u64 = 0x20_0000_0000;

@@ -18,15 +18,15 @@ use elf_load::ProgramHeader;
 use mach_types::address_space::PAGE_SIZE;
 use std::alloc::{AllocError, Global};
 
-// What the fields of a file header are.
+/// How a file begins: 64-bit objects, little-endian, version 1.
+const IDENTIFICATION: [u8; 16] = [0x7f, b'E', b'L', b'F', 2, 1, 1, 0, 0, 0, 0, 0, 0, 0, 0, 0];
+
+// What the next fields of a file header are.
 const ET_EXEC: u64 = 2;
 
 const EM_RISCV: u64 = 243;
 
 const EV_CURRENT: u64 = 1;
-
-/// 64-bit objects, little-endian, version 1.
-const IDENTIFICATION: [u8; 16] = [0x7f, b'E', b'L', b'F', 2, 1, 1, 0, 0, 0, 0, 0, 0, 0, 0, 0];
 
 /// The file of a program. It has no fault but the want of frames, and is loaded to just the parts.
 pub fn write_elf(alloc: Global, parts: &Parts) -> Result<Vec<u8>, MakeFault>

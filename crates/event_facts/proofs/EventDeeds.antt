@@ -24,17 +24,8 @@ no_store true x y p q = sym p
 no_store false x y p q = sym q
 
 executed_as : (view : ℕ → Option ℕ) (regs : Regs) (pc : ℕ) (r : Option ℕ) (e : Effect) → store_executed e ≡ (outcome view regs pc r e).executed
-executed_as view regs pc r (effect.Next rd value to) = refl
-executed_as view regs pc r (effect.Load at size is_signed rd) = refl
-executed_as view regs pc r (effect.Store at size value) = refl
-executed_as view regs pc r (effect.Amo op at size value rd) = refl
-executed_as view regs pc r (effect.Lr at size rd) = refl
 executed_as view regs pc r (effect.Sc at size value rd) = no_store (is_reserved r at) _ _ refl refl
-executed_as view regs pc r (effect.Fence full) = refl
-executed_as view regs pc r effect.FenceI = refl
-executed_as view regs pc r effect.Call = refl
-executed_as view regs pc r effect.Break = refl
-executed_as view regs pc r effect.Misaligned = refl
+executed_as view regs pc r e = refl
 
 made_if : (b : Bool) (x y : Outcome) (ws : List Store) → x.entered ≡ ws → y.entered ≡ [] → cond b ws [] ≡ (cond b x y).entered
 made_if true x y ws p q = sym p
@@ -42,17 +33,9 @@ made_if false x y ws p q = sym q
 
 entered_as : (view : ℕ → Option ℕ) (regs : Regs) (pc seen : ℕ) (r : Option ℕ) (e : Effect) → IfSome (combined_by e) (λ b. seen ≡ word_seen view b.at b.count)
     → store_made seen r e ≡ (outcome view regs pc r e).entered
-entered_as view regs pc seen r (effect.Next rd value to) reads = refl
-entered_as view regs pc seen r (effect.Load at size is_signed rd) reads = refl
-entered_as view regs pc seen r (effect.Store at size value) reads = refl
 entered_as view regs pc seen r (effect.Amo op at size value rd) reads = ap (λ n. store at size (amo_result op size n value) ∷ []) reads
-entered_as view regs pc seen r (effect.Lr at size rd) reads = refl
 entered_as view regs pc seen r (effect.Sc at size value rd) reads = made_if (is_reserved r at) _ _ (store at size value ∷ []) refl refl
-entered_as view regs pc seen r (effect.Fence full) reads = refl
-entered_as view regs pc seen r effect.FenceI reads = refl
-entered_as view regs pc seen r effect.Call reads = refl
-entered_as view regs pc seen r effect.Break reads = refl
-entered_as view regs pc seen r effect.Misaligned reads = refl
+entered_as view regs pc seen r e reads = refl
 
 pub instruction_deed : (c : Choice) (here : Here) (e : Effect) (seen : ℕ) (r : Option ℕ) (x : Deed) → plain_event_of c here ≡ Some (Instruction e) → r ≡ here.reserved
     → IfSome (combined_by e) (λ b. seen ≡ word_seen (view_of_all here) b.at b.count) → executed_in x ≡ store_executed e → drained_in x ≡ 0

@@ -104,17 +104,8 @@ pub record IsCalling (c : Choice) (here : Here) : Type 0 where
   pub fault : fault_here here ≡ None
 
 the_call : (e : Effect) → is_call e ≡ true → e ≡ effect.Call
-the_call (effect.Next rd value to) is = absurd (false≢true is)
-the_call (effect.Load at size is_signed rd) is = absurd (false≢true is)
-the_call (effect.Store at size value) is = absurd (false≢true is)
-the_call (effect.Amo op at size value rd) is = absurd (false≢true is)
-the_call (effect.Lr at size rd) is = absurd (false≢true is)
-the_call (effect.Sc at size value rd) is = absurd (false≢true is)
-the_call (effect.Fence full) is = absurd (false≢true is)
-the_call effect.FenceI is = absurd (false≢true is)
 the_call effect.Call is = refl
-the_call effect.Break is = absurd (false≢true is)
-the_call effect.Misaligned is = absurd (false≢true is)
+the_call e is = absurd (false≢true is)
 
 calls_next : (fault : Option ℕ) (o : Option Effect) (k call : SystemCall) → cond (is_calling fault o) (Some k) None ≡ Some call → (o ≡ Some effect.Call) × (fault ≡ None)
 calls_next fault None k call is = absurd cc

@@ -1,7 +1,7 @@
 -- Lists of facts, the pieces of one number after those of the other.
-use Rattle.std.proofs.Common.{◌≡◌, ℕ, zero, suc, ◌+◌, Bool, true, false, ◌&&◌, List, [], ◌∷◌, ◌++◌, map, refl, sym, ap, ◌∙◌, arith, add-zero, add-one, append_assoc}
+use Rattle.std.proofs.Common.{◌≡◌, ℕ, zero, suc, ◌+◌, ◌≤◌, Bool, true, false, ◌&&◌, List, [], ◌∷◌, ◌++◌, drop, length, map, refl, sym, ap, ◌∙◌, arith, add-zero, add-one, append_assoc}
 use Rattle.std.specs.List.{flat_map, list_all, range_with_len}
-use Rattle.std.proofs.lemmas.List.{flat_map_more, map_push}
+use Rattle.std.proofs.lemmas.List.{drop_all, flat_map_more, map_push}
 
 -- one number more
 range_more : (a n : ℕ) → range_with_len a (suc n) ≡ range_with_len a n ++ (a + n) ∷ []
@@ -29,10 +29,18 @@ pub all_numbers : {A : Type 0} (f : ℕ → List A) (start had : List A) (n most
     → had ≡ start ++ flat_map f (range_with_len 0 most)
 all_numbers f start had n most all before = before ∙ ap (λ k. start ++ flat_map f (range_with_len 0 k)) all
 
+-- what a loop over a list has at its end, where what comes of the items that are left is what comes of all
+pub at_end : {A B : Type 0} (f : List A → B) (xs : List A) (i : ℕ) (all : B) → length xs ≤ i → f (drop i xs) ≡ all → f [] ≡ all
+at_end f xs i all past rest = sym (ap f (drop_all i xs past)) ∙ rest
+
 -- pieces of which none has anything
 pub nothing_in_all : {X A : Type 0} (f : X → List A) (xs : List X) → ((x : X) → f x ≡ []) → flat_map f xs ≡ []
 nothing_in_all f [] none = refl
 nothing_in_all f (x ∷ xs) none = ap (λ l. l ++ flat_map f xs) (none x) ∙ nothing_in_all f xs none
+
+-- a list that got a piece, which is this
+pub piece : {A : Type 0} (start one a b : List A) → one ≡ start ++ a → a ≡ b → one ≡ start ++ b
+piece start one a b p same = p ∙ ap (λ l. start ++ l) same
 
 -- a list that got five pieces, one behind the other
 pub five_pieces : {A : Type 0} (start one two three four five a b c d e : List A) → one ≡ start ++ a → two ≡ one ++ b → three ≡ two ++ c → four ≡ three ++ d

@@ -53,7 +53,6 @@ pub others_stay : (view : ℕ → Option ℕ) (r : Regs) (pc : ℕ) (reserved : 
     → register (outcome view r pc reserved e).regs k ≡ register r k
 others_stay view r pc reserved (effect.Next rd value to) k other = written_other r rd value k other
 others_stay view r pc reserved (effect.Load at size is_signed rd) k other = written_other r rd _ k other
-others_stay view r pc reserved (effect.Store at size value) k other = refl
 others_stay view r pc reserved (effect.Amo op at size value rd) k other = written_other r rd _ k other
 others_stay view r pc reserved (effect.Lr at size rd) k other = written_other r rd _ k other
 others_stay view r pc reserved (effect.Sc at size value rd) k other = either (is_reserved reserved at) _ _ (written_other r rd 0 k other) (written_other r rd 1 k other)
@@ -61,11 +60,7 @@ others_stay view r pc reserved (effect.Sc at size value rd) k other = either (is
     either : (b : Bool) (x y : Outcome) → register x.regs k ≡ register r k → register y.regs k ≡ register r k → register (cond b x y).regs k ≡ register r k
     either true x y p q = p
     either false x y p q = q
-others_stay view r pc reserved (effect.Fence full) k other = refl
-others_stay view r pc reserved effect.FenceI k other = refl
-others_stay view r pc reserved effect.Call k other = refl
-others_stay view r pc reserved effect.Break k other = refl
-others_stay view r pc reserved effect.Misaligned k other = refl
+others_stay view r pc reserved e k other = refl
 
 -- there are 32 registers
 pub many_on : (m : Seen) (h : ℕ) → IsBlockRun m.setting m.log → length (registers_on m h).x ≡ 32

@@ -38,6 +38,14 @@ by_thread t k pc = entry_of 0 k t pc
 abbrev became : ℕ → ThreadChange → Fact
 became t change = ThreadChanged (thread t) change
 
+-- it begins to run, and executes four instructions
+abbrev begins : List Entry
+begins = by kind.Run 0x100B0 ∷ by kind.Exec 0x100B0 ∷ by kind.Exec 0x100B4 ∷ by kind.Exec 0x100B8 ∷ by kind.Exec 0x100BC ∷ []
+
+-- a call with these in a0 to a2, and 0 in the others
+abbrev call : ℕ → ℕ → ℕ → ℕ → SystemCall
+call number a0 a1 a2 = record { number = number; arguments = a0 ∷ a1 ∷ a2 ∷ 0 ∷ 0 ∷ 0 ∷ [] }
+
 -- what is told of each line
 abbrev told : Setting → History → List Entry → List (List Fact)
 told s before [] = []
@@ -52,11 +60,8 @@ calls =
 
 abbrev log : List Entry
 log =
-    by kind.Run 0x100B0 ∷ by kind.Exec 0x100B0 ∷ by kind.Exec 0x100B4 ∷ by kind.Exec 0x100B8 ∷ by kind.Exec 0x100BC ∷ by kind.Exec 0x100C0
-    ∷ by kind.Exec 0x100C4 ∷ by kind.Exec 0x100C8 ∷ by kind.Exec 0x100CC ∷ by kind.Exec 0x100D0 ∷ []
-
-abbrev call_with : ℕ → ℕ → SystemCall
-call_with number first = record { number = number; arguments = first ∷ 0x20000 ∷ 2 ∷ 0 ∷ 0 ∷ 0 ∷ [] }
+    begins
+    ++ by kind.Exec 0x100C0 ∷ by kind.Exec 0x100C4 ∷ by kind.Exec 0x100C8 ∷ by kind.Exec 0x100CC ∷ by kind.Exec 0x100D0 ∷ []
 
 -- ENOSYS is 38
 calls_told : told (program calls) [] log ≡
@@ -65,11 +70,11 @@ calls_told : told (program calls) [] log ≡
     ∷ (Register 10 1 ∷ [])
     ∷ (Register 11 0x20000 ∷ [])
     ∷ (Register 12 2 ∷ [])
-    ∷ (Called (call_with 64 1) ∷ Answered 2 ∷ Register 10 2 ∷ [])
+    ∷ (Called (call 64 1 0x20000 2) ∷ Answered 2 ∷ Register 10 2 ∷ [])
     ∷ (Register 17 500 ∷ [])
-    ∷ (Called (call_with 500 2) ∷ Refused 38 ∷ Register 10 (2 ^ 64 - 38) ∷ [])
+    ∷ (Called (call 500 2 0x20000 2) ∷ Refused 38 ∷ Register 10 (2 ^ 64 - 38) ∷ [])
     ∷ (Register 17 93 ∷ [])
-    ∷ (Called (call_with 93 (2 ^ 64 - 38)) ∷ NoAnswer ∷ [])
+    ∷ (Called (call 93 (2 ^ 64 - 38) 0x20000 2) ∷ NoAnswer ∷ [])
     ∷ []
 unfolding trace_of signal_facts thread_facts other_registers facts_of read_facts done end_of meaning row_of rows are_readable number_at
 calls_told = refl
@@ -88,22 +93,19 @@ child =
 
 abbrev child_log : List Entry
 child_log =
-    by kind.Run 0x100B0 ∷ by kind.Exec 0x100B0 ∷ by kind.Exec 0x100B4 ∷ by kind.Exec 0x100B8 ∷ by kind.Exec 0x100BC ∷ by kind.Preempt 0x100C0
-    ∷ by_thread 2 kind.Run 0x100C0 ∷ by_thread 2 kind.Exec 0x100C0 ∷ by_thread 2 kind.Exec 0x100C4 ∷ []
-
-abbrev call_of : ℕ → ℕ → SystemCall
-call_of number first = record { number = number; arguments = first ∷ 0 ∷ 0 ∷ 0 ∷ 0 ∷ 0 ∷ [] }
+    begins
+    ++ by kind.Preempt 0x100C0 ∷ by_thread 2 kind.Run 0x100C0 ∷ by_thread 2 kind.Exec 0x100C0 ∷ by_thread 2 kind.Exec 0x100C4 ∷ []
 
 threads_told : told (program child) [] child_log ≡
     (Interrupted Nothing ∷ became 1 Runs ∷ [])
     ∷ (Register 17 220 ∷ [])
     ∷ (Register 10 0x11000 ∷ [])
     ∷ (Register 10 0x10F00 ∷ [])
-    ∷ (Called (call_of 220 0x10F00) ∷ Answered 2 ∷ became 2 Created ∷ ThreadRegister (thread 2) 10 0 ∷ Register 10 2 ∷ [])
+    ∷ (Called (call 220 0x10F00 0 0) ∷ Answered 2 ∷ became 2 Created ∷ ThreadRegister (thread 2) 10 0 ∷ Register 10 2 ∷ [])
     ∷ (became 1 MadeReady ∷ [])
     ∷ (Interrupted Nothing ∷ became 2 Runs ∷ [])
     ∷ (Register 17 93 ∷ [])
-    ∷ (Called (call_of 93 0) ∷ NoAnswer ∷ became 2 Ended ∷ [])
+    ∷ (Called (call 93 0 0 0) ∷ NoAnswer ∷ became 2 Ended ∷ [])
     ∷ []
 unfolding trace_of signal_facts thread_facts other_registers facts_of read_facts done end_of meaning row_of rows are_readable number_at
 threads_told = refl
@@ -114,15 +116,14 @@ sends =
     0x93 ∷ 0x08 ∷ 0x20 ∷ 0x08 ∷ 0x13 ∷ 0x05 ∷ 0x10 ∷ 0x00 ∷ 0x93 ∷ 0x05 ∷ 0xA0 ∷ 0x00 ∷ 0x73 ∷ 0x00 ∷ 0x00 ∷ 0x00 ∷ []
 
 abbrev signal_log : List Entry
-signal_log =
-    by kind.Run 0x100B0 ∷ by kind.Exec 0x100B0 ∷ by kind.Exec 0x100B4 ∷ by kind.Exec 0x100B8 ∷ by kind.Exec 0x100BC ∷ by kind.Signal 0x100C0 ∷ []
+signal_log = begins ++ by kind.Signal 0x100C0 ∷ []
 
 signals_told : told (program sends) [] signal_log ≡
     (Interrupted Nothing ∷ became 1 Runs ∷ [])
     ∷ (Register 17 130 ∷ [])
     ∷ (Register 10 1 ∷ [])
     ∷ (Register 11 10 ∷ [])
-    ∷ (Called (record { number = 130; arguments = 1 ∷ 10 ∷ 0 ∷ 0 ∷ 0 ∷ 0 ∷ [] }) ∷ Answered 0 ∷ SignalPosted 10 (thread 1) ∷ Register 10 0 ∷ [])
+    ∷ (Called (call 130 1 10 0) ∷ Answered 0 ∷ SignalPosted 10 (thread 1) ∷ Register 10 0 ∷ [])
     ∷ (Interrupted Nothing ∷ DeliveryKills 10 ∷ [])
     ∷ []
 unfolding all_signals trace_of signal_facts thread_facts other_registers facts_of read_facts done end_of meaning row_of rows are_readable number_at
@@ -134,9 +135,7 @@ registers =
     0x93 ∷ 0x08 ∷ 0x50 ∷ 0x12 ∷ 0x37 ∷ 0x05 ∷ 0x02 ∷ 0x00 ∷ 0x93 ∷ 0x05 ∷ 0x00 ∷ 0x02 ∷ 0x73 ∷ 0x00 ∷ 0x00 ∷ 0x00 ∷ []
 
 abbrev area_log : List Entry
-area_log =
-    by kind.Run 0x100B0 ∷ by kind.Exec 0x100B0 ∷ by kind.Exec 0x100B4 ∷ by kind.Exec 0x100B8 ∷ by kind.Exec 0x100BC ∷ by kind.Preempt 0x100C0
-    ∷ record { hart = record { 0 = 1 }; kind = kind.Run; tid = thread 1; pc = 0x100C0 } ∷ []
+area_log = begins ++ by kind.Preempt 0x100C0 ∷ entry_of 1 kind.Run 1 0x100C0 ∷ []
 
 -- the kernel's words of the area of a thread on a hart, which hold the id 0
 abbrev word : ℕ → ℕ → ℕ → Fact
@@ -150,7 +149,7 @@ areas_told : told (program registers) [] area_log ≡
     ∷ (Register 17 293 ∷ [])
     ∷ (Register 10 0x20000 ∷ [])
     ∷ (Register 11 32 ∷ [])
-    ∷ (Called (record { number = 293; arguments = 0x20000 ∷ 32 ∷ 0 ∷ 0 ∷ 0 ∷ 0 ∷ [] }) ∷ Answered 0
+    ∷ (Called (call 293 0x20000 32 0) ∷ Answered 0
     ∷ AreaWord CpuIdStart 0 ∷ AreaWord CpuId 0 ∷ AreaWord NodeId 0 ∷ AreaWord MmCid 0 ∷ words 5 0 ++ Register 10 0 ∷ [])
     ∷ (became 1 MadeReady ∷ [])
     ∷ (Interrupted Nothing ∷ became 1 Runs ∷ AreaWord CpuIdStart 1 ∷ AreaWord CpuId 1 ∷ words 7 1)

@@ -97,10 +97,7 @@ pub(crate) fn area_kept(machine: &Machine, tid: Tid) -> Option<AreaBefore>
 fn is_number(value: u64, which: Option<u64>) -> bool
     ensures { result ≡ spec.is_number value which }
 {
-    match which {
-        Some(other) => other == value,
-        None => false,
-    }
+    which == Some(value)
 }
 
 /// Appends the number of a field, where that is another one than before, or couldn't be read before.

@@ -1,6 +1,6 @@
 //! System calls: which call an event is, and how it was answered.
 
-ghost use Rattle.std.specs.Prelude.{◌≡◌, ℕ, ◌<◌, ◌++◌, ◌&&◌, OnOk, Option, if◌then◌else◌, is_none, is_some};
+ghost use Rattle.std.specs.Prelude.{◌≡◌, ℕ, ◌<◌, ◌++◌, ◌&&◌, OnOk, Option, if◌then◌else◌, is_none, is_some, option_to_list};
 ghost use Rattle.std.specs.Option.{option_map};
 ghost use Rattle.mach_types.specs.Events.{choice_of};
 ghost use Rattle.mach_types.specs.Kernel.Threads.{state_of};
@@ -15,18 +15,13 @@ ghost use Rattle.event_facts.specs.Calls.{answer_at, answer_facts, answer_unless
 ghost use Rattle.event_facts.specs.Telling.{here_on, past_of};
 
 use crate::facts::Fact;
+use crate::registers::{A0, A7};
 use hart_state::HartState;
 use kernel_threads::Threads;
 use mach_types::{End, Entry, Hart, Kind, Regs, ThreadState, Tid};
 use machine_core::Machine;
 use rv_inst::Effect;
 use std::alloc::AllocError;
-
-/// The register of a call's number, a7.
-const A7: u8 = 17;
-
-/// The register of a call's first argument and of its answer, a0. The other arguments are in the next ones.
-const A0: u8 = 10;
 
 /// The number of rt_sigreturn(2).
 const RT_SIGRETURN: u64 = 139;
@@ -188,19 +183,12 @@ pub(crate) fn push_called(facts: &mut Vec<Fact>, call: Option<SystemCall>) -> Re
     Ok(())
 }
 
-/// Appends how the call was answered that an entry is, which was made; nothing where it is none.
-pub(crate) fn push_answer(
-    facts: &mut Vec<Fact>,
-    machine: &Machine,
-    entry: Entry,
-    call: Option<SystemCall>,
-) -> Result<(), AllocError>
+/// How the call was answered that an entry is, which was made; None where it is none.
+pub(crate) fn answered(machine: &Machine, entry: Entry, call: Option<SystemCall>) -> Option<Fact>
     requires { entry.hart.0 < machine.now.setting.limits.harts }
-    ensures { OnOk result (facts.new.items ≡ facts.old.items
-        ++ answer_facts machine.now.setting (past_of machine.now) entry call) }
+    ensures { option_to_list result
+        ≡ answer_facts machine.now.setting (past_of machine.now) entry call }
 {
-    if let Some(call) = call {
-        facts.push(answer(machine, entry, &call))?;
-    }
-    Ok(())
+    let call = call?;
+    Some(answer(machine, entry, &call))
 }

@@ -1,6 +1,6 @@
 //! Facts: what came of an event.
 
-ghost use Rattle.std.specs.Prelude.{◌≡◌, ◌&&◌};
+ghost use Rattle.std.specs.Prelude.{◌≡◌, ◌++◌, ◌&&◌, OnOk, option_to_list};
 ghost use Rattle.event_facts.specs.Lines as spec;
 ghost use Rattle.event_facts.specs.Sources.{same_source};
 
@@ -10,6 +10,7 @@ use crate::faults::FaultWhy;
 use crate::interruptions::Interruption;
 use crate::threads::ThreadChange;
 use mach_types::{Hart, Store, Tid};
+use std::alloc::AllocError;
 
 /// Where a byte comes from that is read.
 #[derive(Clone, Copy, Drop)]
@@ -182,4 +183,14 @@ impl Source {
     {
         test && self.is_same(other)
     }
+}
+
+/// Appends a fact, if there is one.
+pub(crate) fn push_if(facts: &mut Vec<Fact>, fact: Option<Fact>) -> Result<(), AllocError>
+    ensures { OnOk result (facts.new.items ≡ facts.old.items ++ option_to_list fact) }
+{
+    if let Some(fact) = fact {
+        facts.push(fact)?;
+    }
+    Ok(())
 }

@@ -4,8 +4,7 @@ ghost use Rattle.std.specs.Prelude.{◌≡◌, ◌<◌, ◌++◌, OnOk};
 ghost use Rattle.std.specs.Option.{option_map, option_to_list};
 ghost use Rattle.block_model.specs.Here.{runs};
 ghost use Rattle.event_facts.specs.Faults as spec;
-ghost use Rattle.event_facts.specs.Faults.{fault_of};
-ghost use Rattle.event_facts.specs.Telling.{here_on};
+ghost use Rattle.event_facts.specs.{Faults.fault_of, Telling.here_on};
 
 use crate::facts::Fact;
 use mach_types::Hart;

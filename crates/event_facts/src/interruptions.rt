@@ -1,7 +1,7 @@
 //! Interruptions of threads (rseq(2)): what they came to, and which word was wrong where one killed the
 //! process.
 
-ghost use Rattle.std.specs.Prelude.{◌≡◌, ◌<◌, ◌++◌, OnOk};
+ghost use Rattle.std.specs.Prelude.{◌≡◌, ◌<◌, option_to_list};
 ghost use Rattle.mach_types.specs.Bytes.{IsAccessSize};
 ghost use Rattle.block_model.specs.Here.{view};
 ghost use Rattle.event_facts.specs.Interruptions as spec;
@@ -14,7 +14,6 @@ use mach_types::address_space::USER_END;
 use mach_types::sequences::{FLAGS, RSEQ_CS};
 use mach_types::{Area, BadWhy, Entry, Hart, Outcome};
 use machine_core::Machine;
-use std::alloc::AllocError;
 use sys_calls::area_of;
 
 /// A word in memory for which an area is bad.
@@ -39,77 +38,28 @@ pub enum Interruption {
     Killed { why: BadWhy, wrong: WrongWord },
 }
 
-/// The pointer of an area.
-fn pointer_field(area: Area) -> Range
-    ensures field { result ≡ spec.pointer_field area }
+/// Where `flags` stands in a `struct rseq_cs`, 4 bytes. Before it, at the descriptor's address, stands
+/// `version`.
+const SEQ_FLAGS: u64 = 4;
+
+/// Where `start_ip` stands there, 8 bytes.
+const START_IP: u64 = 8;
+
+/// Where `post_commit_offset` stands there, 8 bytes: how long the sequence is.
+const POST_COMMIT_OFFSET: u64 = 16;
+
+/// Where `abort_ip` stands there, 8 bytes: the abort handler.
+const ABORT_IP: u64 = 24;
+
+/// The field of so many bytes that stands behind an address.
+fn field(at: u64, offset: u64, size: u8) -> Range
+    requires { IsAccessSize size }
+    ensures field { result ≡ spec.field at offset size }
     ensures size { IsAccessSize result.size }
 {
     Range {
-        at: area.at.wrapping_add(RSEQ_CS),
-        size: 8,
-    }
-}
-
-/// The flags of an area.
-fn area_flags_field(area: Area) -> Range
-    ensures field { result ≡ spec.area_flags_field area }
-    ensures size { IsAccessSize result.size }
-{
-    Range {
-        at: area.at.wrapping_add(FLAGS),
-        size: 4,
-    }
-}
-
-/// The version of the descriptor at an address.
-fn version_field(at: u64) -> Range
-    ensures field { result ≡ spec.version_field at }
-    ensures size { IsAccessSize result.size }
-{
-    Range { at, size: 4 }
-}
-
-/// Its flags.
-fn flags_field(at: u64) -> Range
-    ensures field { result ≡ spec.flags_field at }
-    ensures size { IsAccessSize result.size }
-{
-    Range {
-        at: at.wrapping_add(4),
-        size: 4,
-    }
-}
-
-/// Where its sequence starts.
-fn start_field(at: u64) -> Range
-    ensures field { result ≡ spec.start_field at }
-    ensures size { IsAccessSize result.size }
-{
-    Range {
-        at: at.wrapping_add(8),
-        size: 8,
-    }
-}
-
-/// How long its sequence is.
-fn length_field(at: u64) -> Range
-    ensures field { result ≡ spec.length_field at }
-    ensures size { IsAccessSize result.size }
-{
-    Range {
-        at: at.wrapping_add(16),
-        size: 8,
-    }
-}
-
-/// The abort handler of its sequence.
-fn abort_field(at: u64) -> Range
-    ensures field { result ≡ spec.abort_field at }
-    ensures size { IsAccessSize result.size }
-{
-    Range {
-        at: at.wrapping_add(24),
-        size: 8,
+        at: at.wrapping_add(offset),
+        size,
     }
 }
 
@@ -128,15 +78,15 @@ fn far_field(machine: &Machine, hart: Hart, at: u64) -> Range
     ensures field { result ≡ spec.far_field (view (here_on machine.now hart.0)) at }
     ensures size { IsAccessSize result.size }
 {
-    let start = start_field(at);
+    let start = field(at, START_IP, 8);
     if number_in(machine, hart, start) >= USER_END {
         return start;
     }
-    let abort = abort_field(at);
+    let abort = field(at, ABORT_IP, 8);
     if number_in(machine, hart, abort) >= USER_END {
         return abort;
     }
-    length_field(at)
+    field(at, POST_COMMIT_OFFSET, 8)
 }
 
 /// Of a sequence without the signature, the word that isn't it.
@@ -145,15 +95,14 @@ fn signature_field(machine: &Machine, hart: Hart, at: u64) -> Range
     ensures field { result ≡ spec.signature_field (view (here_on machine.now hart.0)) at }
     ensures size { IsAccessSize result.size }
 {
-    let field = abort_field(at);
-    let abort = number_in(machine, hart, field);
-    if abort >= 4 {
-        Range {
-            at: abort - 4,
-            size: 4,
-        }
-    } else {
-        field
+    let handler = field(at, ABORT_IP, 8);
+    let abort = number_in(machine, hart, handler);
+    if abort < 4 {
+        return handler;
+    }
+    Range {
+        at: abort - 4,
+        size: 4,
     }
 }
 
@@ -163,9 +112,9 @@ fn set_field(machine: &Machine, hart: Hart, area: Area, at: u64) -> Range
     ensures field { result ≡ spec.set_field (view (here_on machine.now hart.0)) area at }
     ensures size { IsAccessSize result.size }
 {
-    let flags = area_flags_field(area);
+    let flags = field(area.at, FLAGS, 4);
     if number_in(machine, hart, flags) == 0 {
-        flags_field(at)
+        field(at, SEQ_FLAGS, 4)
     } else {
         flags
     }
@@ -177,13 +126,13 @@ fn wrong_field(machine: &Machine, hart: Hart, area: Area, why: BadWhy) -> Range
     ensures field { result ≡ spec.wrong_field (view (here_on machine.now hart.0)) area why }
     ensures size { IsAccessSize result.size }
 {
-    let pointer = pointer_field(area);
+    let pointer = field(area.at, RSEQ_CS, 8);
     let at = number_in(machine, hart, pointer);
     match why {
         BadWhy::AreaBytes | BadWhy::Pointer => pointer,
-        BadWhy::Descriptor | BadWhy::Version => version_field(at),
+        BadWhy::Descriptor | BadWhy::Version => Range { at, size: 4 },
         BadWhy::Range => far_field(machine, hart, at),
-        BadWhy::AbortInside => abort_field(at),
+        BadWhy::AbortInside => field(at, ABORT_IP, 8),
         BadWhy::Signature => signature_field(machine, hart, at),
         BadWhy::SeqFlags => set_field(machine, hart, area, at),
     }
@@ -235,23 +184,13 @@ fn interruption_of(
     }
 }
 
-/// Appends what the interruption of the thread of an entry came to, which was made; nothing where there was
-/// none.
-pub(crate) fn push_interrupted(
-    facts: &mut Vec<Fact>,
-    machine: &Machine,
-    entry: Entry,
-    came: Option<Outcome>,
-) -> Result<(), AllocError>
+/// What the interruption of the thread of an entry came to, which was made; None where there was none.
+pub(crate) fn interrupted(machine: &Machine, entry: Entry, came: Option<Outcome>) -> Option<Fact>
     requires { entry.hart.0 < machine.now.setting.limits.harts }
-    ensures { OnOk result (facts.new.items ≡ facts.old.items
-        ++ interrupted_facts (here_on machine.now entry.hart.0) entry came) }
+    ensures { option_to_list result ≡ interrupted_facts (here_on machine.now entry.hart.0) entry came }
 {
-    let Some(outcome) = came else {
-        return Ok(());
-    };
+    let outcome = came?;
     let area = area_of(machine.kernel(), entry.tid);
     let interruption = interruption_of(machine, entry.hart, area, entry.pc, outcome);
-    facts.push(Fact::Interrupted(interruption))?;
-    Ok(())
+    Some(Fact::Interrupted(interruption))
 }

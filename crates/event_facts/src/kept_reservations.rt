@@ -1,11 +1,11 @@
 //! The reservations that the kernel's writes end, by those that were kept before the event.
 
-ghost use Rattle.std.specs.Prelude.{◌≡◌, ◌++◌, None, Some, IfOk, OnOk};
+ghost use Rattle.std.specs.Prelude.{◌≡◌, ◌++◌, None, Some, IfOk, OnOk, option_to_list};
 ghost use Rattle.std.specs.List.{flat_map, range_with_len};
 ghost use Rattle.event_facts.specs.KernelEvents as spec;
 ghost use Rattle.event_facts.specs.{KernelEvents.lost_from, Reservations.lost_facts, Telling.past_of};
 
-use crate::facts::Fact;
+use crate::facts::{Fact, push_if};
 use crate::reservations::takes;
 use mach_types::{Hart, Write};
 use machine_core::Machine;
@@ -54,49 +54,33 @@ fn taken_by(write: Write, start: u64) -> Option<u64>
     }
 }
 
-/// Appends that a hart, which has the 8 bytes from `start` on reserved, loses them to the first of these writes
-/// that has one of them, if one does.
-fn push_first_lost(
-    facts: &mut Vec<Fact>,
-    hart: Hart,
-    start: u64,
-    writes: &[Write],
-) -> Result<(), AllocError>
-    ensures { OnOk result (facts.new.items
-        ≡ facts.old.items ++ lost_facts hart.0 (Some start) writes.now) }
+/// That a hart, which has the 8 bytes from `start` on reserved, loses them to the first of these writes that has
+/// one of them; None where none does.
+fn first_lost(hart: Hart, start: u64, writes: &[Write]) -> Option<Fact>
+    ensures { option_to_list result ≡ lost_facts hart.0 (Some start) writes.now }
 {
     for write in writes {
         if let Some(by) = taken_by(*write, start) {
-            facts.push(Fact::Lost {
+            return Some(Fact::Lost {
                 hart,
                 at: start,
                 by,
-            })?;
-            return Ok(());
+            });
         }
     }
-    Ok(())
+    None
 }
 
-/// Appends what these writes in an event of a hart make of the reservation of one hart, its own or another one,
-/// where these were the reservations before.
-fn push_lost_from(
-    facts: &mut Vec<Fact>,
-    own: Hart,
-    kept: &[Option<u64>],
-    writes: &[Write],
-    hart: Hart,
-) -> Result<(), AllocError>
-    ensures { OnOk result (facts.new.items
-        ≡ facts.old.items ++ lost_from own.0 kept.now writes.now hart.0) }
+/// What these writes in an event of a hart make of the reservation of one hart, its own or another one, where
+/// these were the reservations before.
+fn lost_of(own: Hart, kept: &[Option<u64>], writes: &[Write], hart: Hart) -> Option<Fact>
+    ensures { option_to_list result ≡ lost_from own.0 kept.now writes.now hart.0 }
 {
     if own.0 == hart.0 {
-        return Ok(());
+        return None;
     }
-    let Some(start) = reservation_in(kept, hart) else {
-        return Ok(());
-    };
-    push_first_lost(facts, hart, start, writes)
+    let start = reservation_in(kept, hart)?;
+    first_lost(hart, start, writes)
 }
 
 /// Appends what these writes in an event of a hart make of the reservations of the others, of so many in all, where
@@ -112,7 +96,7 @@ pub(crate) fn push_all_lost_from(
         ++ flat_map (lost_from own.0 kept.now writes.now) (range_with_len 0 harts)) }
 {
     for number in 0..harts {
-        push_lost_from(facts, own, kept, writes, Hart(number))?;
+        push_if(facts, lost_of(own, kept, writes, Hart(number)))?;
     }
     Ok(())
 }

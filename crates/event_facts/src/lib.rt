@@ -10,6 +10,7 @@
 #![tactic(auto)]
 
 mod areas;
+mod by_number;
 mod calls;
 mod cuts;
 mod deeds;

@@ -1,6 +1,6 @@
 //! Registers of threads other than that of an event: of those that it woke, and of those that it created.
 
-ghost use Rattle.std.specs.Prelude.{◌≡◌, ℕ, ◌-◌, ◌++◌, None, IfOk, OnOk, slice_get, unwrap_or};
+ghost use Rattle.std.specs.Prelude.{◌≡◌, ℕ, ◌-◌, ◌++◌, IfOk, OnOk};
 ghost use Rattle.std.specs.List.{flat_map, range_with_len};
 ghost use Rattle.mach_types.specs.{Kernel.Threads.state_of, declared.threads.Saved.Saved as File};
 ghost use Rattle.block_model.specs.Here.{Here, runs};
@@ -9,13 +9,12 @@ ghost use Rattle.sys_calls.specs.Made.{AreSaved};
 ghost use Rattle.event_facts.specs.OtherRegisters as spec;
 ghost use Rattle.event_facts.specs.OtherRegisters.{AreRegisters, child_fact, other_registers, where_off, where_ready, where_waiting, woken_from};
 
+use crate::by_number::at_place;
 use crate::facts::Fact;
+use crate::registers::REGISTERS;
 use kernel_threads::{Threads, thread_is_saved_while_it_does_not_run};
 use mach_types::{Regs, Saved, ThreadState, Tid};
 use std::alloc::{AllocError, Global};
-
-/// How many registers there are.
-const REGISTERS: u8 = 32;
 
 /// The registers before an event.
 #[derive(Drop)]
@@ -148,13 +147,6 @@ fn push_woken(
     Ok(())
 }
 
-/// The registers that stand at a place among these; None past the end.
-fn registers_in(waiting: &[Option<Regs>], place: u32) -> Option<Regs>
-    ensures { result ≡ unwrap_or (slice_get waiting.now place) None }
-{
-    waiting.get(place as usize).copied().unwrap_or(None)
-}
-
 /// Appends the registers of the threads that were woken, of those with the first numbers, so many, where these
 /// waited.
 fn push_all_woken(
@@ -169,7 +161,7 @@ fn push_all_woken(
 {
     for earlier in 0..given {
         let tid = Tid(earlier + 1);
-        let before = registers_in(waiting, earlier);
+        let before = at_place(waiting, earlier);
         push_woken(facts, tid, before, ready_registers(threads, tid))?;
     }
     Ok(())

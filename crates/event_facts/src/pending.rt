@@ -1,17 +1,18 @@
 //! Signals: which one was delivered, which came to be pending, and which is pending no longer.
 
-ghost use Rattle.std.specs.Prelude.{◌≡◌, ◌≤◌, ◌<◌, ◌++◌, None, IfOk, OnOk, option_to_list, slice_get, unwrap_or};
-ghost use Rattle.std.specs.List.{flat_map, range_with_len};
+ghost use Rattle.std.specs.Prelude.{◌≡◌, ◌≤◌, ◌<◌, ◌++◌, IfOk, OnOk, option_to_list};
 ghost use Rattle.mach_types.specs.Events.{choice_of};
 ghost use Rattle.mach_types.specs.Kernel.Signals as kernel;
 ghost use Rattle.mach_types.specs.Kernel.Signals.{has_signal};
 ghost use Rattle.process.specs.Harts.{file_of};
 ghost use Rattle.event_facts.specs.Pending as spec;
-ghost use Rattle.event_facts.specs.Pending.{delivered_by, delivered_facts, held_facts, held_pending, pending_facts, signal_facts, signal_from};
+ghost use Rattle.event_facts.specs.Pending.{delivered_by, delivered_facts, held_facts, held_pending, pending_facts, signal_facts};
 ghost use Rattle.event_facts.specs.Telling.{past_of};
 
+use crate::by_number::at_place;
 use crate::calls::is_process_end;
-use crate::facts::Fact;
+use crate::facts::{Fact, push_if};
+use crate::registers::SP;
 use hart_state::HartState;
 use mach_types::{Entry, Kind, Tid};
 use machine_core::Machine;
@@ -20,9 +21,6 @@ use std::alloc::{AllocError, Global};
 
 /// How many signals there are: 1 to this one (signal(7)).
 const SIGNALS: u8 = 31;
-
-/// The stack pointer (RISC-V psABI).
-const SP: u8 = 2;
 
 /// The signal that an entry delivers, the next event of its hart, where these are the signals.
 pub(crate) fn next_delivered(signals: &Signals, entry: Entry) -> Option<u8>
@@ -60,24 +58,16 @@ fn delivered_fact(killed: bool, state: &HartState, signal: u8) -> Fact
     }
 }
 
-/// Appends what came of the delivery of a signal, where an entry delivered one that was made.
-pub(crate) fn push_delivered(
-    facts: &mut Vec<Fact>,
-    machine: &Machine,
-    entry: Entry,
-    delivered: Option<u8>,
-) -> Result<(), AllocError>
+/// What came of the delivery of a signal, where an entry delivered one that was made.
+pub(crate) fn delivery(machine: &Machine, entry: Entry, delivered: Option<u8>) -> Option<Fact>
     requires { entry.hart.0 < machine.now.setting.limits.harts }
-    ensures { OnOk result (facts.new.items ≡ facts.old.items
-        ++ delivered_facts machine.now.setting (past_of machine.now) entry delivered) }
+    ensures { option_to_list result
+        ≡ delivered_facts machine.now.setting (past_of machine.now) entry delivered }
 {
-    let Some(signal) = delivered else {
-        return Ok(());
-    };
+    let signal = delivered?;
     let killed = is_process_end(machine.end());
     let state = machine.hart(entry.hart);
-    facts.push(delivered_fact(killed, state, signal))?;
-    Ok(())
+    Some(delivered_fact(killed, state, signal))
 }
 
 /// What is pending for a thread; None where no signals are kept of it.
@@ -119,10 +109,7 @@ fn is_in(set: u64, signal: u8) -> bool
 fn is_this(signal: u8, which: Option<u8>) -> bool
     ensures { result ≡ spec.is_this signal which }
 {
-    match which {
-        Some(other) => other == signal,
-        None => false,
-    }
+    which == Some(signal)
 }
 
 /// What became of a signal, 1 to 31, of a thread for which these were pending and those are, and to which this
@@ -149,16 +136,6 @@ fn pending_change(
     } else {
         None
     }
-}
-
-/// Appends a fact, if there is one.
-fn push_if(facts: &mut Vec<Fact>, fact: Option<Fact>) -> Result<(), AllocError>
-    ensures { OnOk result (facts.new.items ≡ facts.old.items ++ option_to_list fact) }
-{
-    if let Some(fact) = fact {
-        facts.push(fact)?;
-    }
-    Ok(())
 }
 
 /// Appends what became of each signal of a thread for which these were pending and those are.
@@ -203,35 +180,6 @@ fn delivered_to(delivered: Option<u8>, tid: Tid, one: Tid) -> Option<u8>
     if one.0 == tid.0 { delivered } else { None }
 }
 
-/// What stands at a place among these; None past the end.
-fn pending_in(pending: &[Option<u64>], place: u32) -> Option<u64>
-    ensures { result ≡ unwrap_or (slice_get pending.now place) None }
-{
-    pending.get(place as usize).copied().unwrap_or(None)
-}
-
-/// Appends what became of the signals of the threads with the first numbers, so many, where these were pending
-/// and this one was delivered to a thread, if any was.
-fn push_each_held(
-    facts: &mut Vec<Fact>,
-    pending: &[Option<u64>],
-    given: u32,
-    delivered: Option<u8>,
-    tid: Tid,
-    signals: &Signals,
-) -> Result<(), AllocError>
-    ensures { OnOk result (facts.new.items ≡ facts.old.items
-        ++ flat_map (signal_from pending.now delivered tid.0 signals.now) (range_with_len 0 given)) }
-{
-    for earlier in 0..given {
-        let one = Tid(earlier + 1);
-        let to = delivered_to(delivered, tid, one);
-        let before = pending_in(pending, earlier);
-        push_held(facts, to, one, before, held_pending(signals, one))?;
-    }
-    Ok(())
-}
-
 /// Appends what became of signals, where these were pending before for so many threads, and this one was
 /// delivered to a thread, if any was.
 pub(crate) fn push_signals(
@@ -245,6 +193,11 @@ pub(crate) fn push_signals(
     ensures { OnOk result ((before : kernel.Signalling) → pending.now ≡ spec.all_pending before given
         → facts.new.items ≡ facts.old.items ++ signal_facts given delivered tid.0 before signals.now) }
 {
-    push_each_held(facts, pending, given, delivered, tid, signals)?;
+    for earlier in 0..given {
+        let one = Tid(earlier + 1);
+        let to = delivered_to(delivered, tid, one);
+        let before = at_place(pending, earlier);
+        push_held(facts, to, one, before, held_pending(signals, one))?;
+    }
     Ok(())
 }

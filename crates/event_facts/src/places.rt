@@ -8,13 +8,13 @@ ghost use Rattle.event_facts.specs.Telling.{IsDecided, here_on, past_of};
 ghost use Rattle.event_facts.specs.Trace.{IsBefore, facts_after, facts_before};
 
 use crate::areas::{AreaBefore, area_kept, push_area};
-use crate::calls::{SystemCall, next_call, push_answer, push_called};
-use crate::facts::Fact;
+use crate::calls::{SystemCall, answered, next_call, push_called};
+use crate::facts::{Fact, push_if};
 use crate::faults::push_fault;
-use crate::interruptions::push_interrupted;
+use crate::interruptions::interrupted;
 use crate::other_registers::{RegistersBefore, push_other_registers};
-use crate::pending::{all_pending, next_delivered, push_delivered, push_signals};
-use crate::requests::{push_begun, push_requests};
+use crate::pending::{all_pending, delivery, next_delivered, push_signals};
+use crate::requests::{begun, push_requests};
 use crate::threads::{ThreadsBefore, push_threads};
 use mach_types::{Entry, Kind, Outcome};
 use machine_core::Machine;
@@ -108,10 +108,10 @@ pub fn push_after(
         → facts.new.items ≡ facts.old.items
         ++ facts_after machine.now.setting (past_of machine.now) entry here) }
 {
-    push_answer(facts, machine, entry, before.call)?;
-    push_begun(facts, before.call, machine.hart(entry.hart).waits)?;
-    push_interrupted(facts, machine, entry, before.came)?;
-    push_delivered(facts, machine, entry, before.delivered)?;
+    push_if(facts, answered(machine, entry, before.call))?;
+    push_if(facts, begun(before.call, machine.hart(entry.hart).waits))?;
+    push_if(facts, interrupted(machine, entry, before.came))?;
+    push_if(facts, delivery(machine, entry, before.delivered))?;
     let kernel = machine.kernel();
     push_signals(
         facts,

@@ -10,7 +10,16 @@ use rv_inst::Effect;
 use std::alloc::AllocError;
 
 /// How many registers there are.
-const REGISTERS: u8 = 32;
+pub(crate) const REGISTERS: u8 = 32;
+
+/// The stack pointer (RISC-V psABI).
+pub(crate) const SP: u8 = 2;
+
+/// The register of a call's first argument and of its answer, a0. The other arguments are in the next ones.
+pub(crate) const A0: u8 = 10;
+
+/// The register of a call's number, a7.
+pub(crate) const A7: u8 = 17;
 
 /// The register that an instruction with this effect sets; x0, which stays 0, where it sets none.
 pub(crate) fn register_set(effect: &Effect) -> u8

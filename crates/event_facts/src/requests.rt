@@ -1,6 +1,6 @@
 //! Barriers: the requests that a hart takes, and the barriers that begin and return.
 
-ghost use Rattle.std.specs.Prelude.{◌≡◌, ◌<◌, ◌++◌, ◌∷◌, [], OnOk};
+ghost use Rattle.std.specs.Prelude.{◌≡◌, ◌<◌, ◌++◌, ◌∷◌, [], OnOk, option_to_list};
 ghost use Rattle.mach_types.specs.Events.{choice_of};
 ghost use Rattle.event_facts.specs.Requests.{begun_facts, request_facts};
 ghost use Rattle.event_facts.specs.Telling.{here_on};
@@ -49,16 +49,12 @@ pub(crate) fn push_requests(
     }
 }
 
-/// Appends the barrier that a call began, where its thread waits in one after it.
-pub(crate) fn push_begun(
-    facts: &mut Vec<Fact>,
-    call: Option<SystemCall>,
-    waits: Option<u8>,
-) -> Result<(), AllocError>
-    ensures { OnOk result (facts.new.items ≡ facts.old.items ++ begun_facts call waits) }
+/// The barrier that a call began, where its thread waits in one after it.
+pub(crate) fn begun(call: Option<SystemCall>, waits: Option<u8>) -> Option<Fact>
+    ensures { option_to_list result ≡ begun_facts call waits }
 {
-    if let (Some(_), Some(harts)) = (call, waits) {
-        facts.push(Fact::BarrierBegins { harts })?;
+    match (call, waits) {
+        (Some(_), Some(harts)) => Some(Fact::BarrierBegins { harts }),
+        (None, _) | (Some(_), None) => None,
     }
-    Ok(())
 }

@@ -1,12 +1,13 @@
 //! Threads: which of them an event created, ended, or brought into another state.
 
-ghost use Rattle.std.specs.Prelude.{◌≡◌, ◌-◌, ◌++◌, None, IfOk, OnOk, slice_get, unwrap_or};
+ghost use Rattle.std.specs.Prelude.{◌≡◌, ◌-◌, ◌++◌, IfOk, OnOk, option_to_list};
 ghost use Rattle.std.specs.List.{flat_map, range_with_len};
 ghost use Rattle.mach_types.specs.Kernel.Threads as kernel;
 ghost use Rattle.event_facts.specs.Threads as spec;
 ghost use Rattle.event_facts.specs.Threads.{AreBefore, change_facts, created_fact, created_facts, thread_facts, told_from};
 
-use crate::facts::Fact;
+use crate::by_number::at_place;
+use crate::facts::{Fact, push_if};
 use kernel_threads::Threads;
 use mach_types::{ThreadState, Tid};
 use std::alloc::{AllocError, Global};
@@ -113,26 +114,13 @@ fn change_of(before: Option<ThreadState>, after: Option<ThreadState>) -> Option<
     }
 }
 
-/// Appends what became of a thread that was in this state, and is in that one; nothing where it was gone.
-fn push_change(
-    facts: &mut Vec<Fact>,
-    tid: Tid,
-    before: Option<ThreadState>,
-    after: Option<ThreadState>,
-) -> Result<(), AllocError>
-    ensures { OnOk result (facts.new.items ≡ facts.old.items ++ change_facts tid.0 before after) }
+/// The fact of a thread that was in this state, and is in that one; None where nothing became of it, or it was
+/// gone.
+fn changed(tid: Tid, before: Option<ThreadState>, after: Option<ThreadState>) -> Option<Fact>
+    ensures { option_to_list result ≡ change_facts tid.0 before after }
 {
-    if let Some(change) = change_of(before, after) {
-        facts.push(Fact::ThreadChanged { tid, change })?;
-    }
-    Ok(())
-}
-
-/// The state that stands at a place among these; None past the end.
-fn state_in(states: &[Option<ThreadState>], place: u32) -> Option<ThreadState>
-    ensures { result ≡ unwrap_or (slice_get states.now place) None }
-{
-    states.get(place as usize).copied().unwrap_or(None)
+    let change = change_of(before, after)?;
+    Some(Fact::ThreadChanged { tid, change })
 }
 
 /// Appends what became of the threads with the first numbers, so many, where these were the states.
@@ -147,27 +135,23 @@ fn push_changes(
 {
     for earlier in 0..given {
         let tid = Tid(earlier + 1);
-        push_change(facts, tid, state_in(states, earlier), threads.state(tid))?;
+        let before = at_place(states, earlier);
+        push_if(facts, changed(tid, before, threads.state(tid)))?;
     }
     Ok(())
 }
 
-/// Appends that a thread was created, whose number was given since; nothing where it is gone.
-fn push_created(
-    facts: &mut Vec<Fact>,
-    tid: Tid,
-    after: Option<ThreadState>,
-) -> Result<(), AllocError>
-    ensures { OnOk result (facts.new.items ≡ facts.old.items ++ created_facts tid.0 after) }
+/// That a thread was created, whose number was given since; None where it is gone.
+fn created(tid: Tid, after: Option<ThreadState>) -> Option<Fact>
+    ensures { option_to_list result ≡ created_facts tid.0 after }
 {
-    let Some(_) = after else {
-        return Ok(());
-    };
-    facts.push(Fact::ThreadChanged {
-        tid,
-        change: ThreadChange::Created,
-    })?;
-    Ok(())
+    match after {
+        Some(_) => Some(Fact::ThreadChanged {
+            tid,
+            change: ThreadChange::Created,
+        }),
+        None => None,
+    }
 }
 
 /// Appends which threads were created since so many numbers were given.
@@ -176,10 +160,10 @@ fn push_all_created(facts: &mut Vec<Fact>, given: u32, threads: &Threads) -> Res
         ++ flat_map (created_fact given threads.now.threads)
         (range_with_len 0 (threads.now.threads.given - given))) }
 {
-    let created = threads.numbers_given().saturating_sub(given);
-    for further in 0..created {
+    let since = threads.numbers_given().saturating_sub(given);
+    for further in 0..since {
         let tid = Tid(given + further + 1);
-        push_created(facts, tid, threads.state(tid))?;
+        push_if(facts, created(tid, threads.state(tid)))?;
     }
     Ok(())
 }

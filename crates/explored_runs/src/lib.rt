@@ -13,7 +13,6 @@ mod printed;
 mod rounds;
 mod sharing;
 mod tallies;
-mod tallying;
 mod task;
 mod text;
 mod theorems;

@@ -4,10 +4,8 @@
 #[cfg(test)]
 mod devices;
 #[cfg(test)]
+mod elf;
+#[cfg(test)]
 mod lines;
-#[cfg(test)]
-mod loading;
-#[cfg(test)]
-mod making;
 #[cfg(test)]
 mod words;

@@ -26,7 +26,7 @@ use Rattle.urcu_lib.specs.Blocks.{lock_block, sync_block, unlock_block}
 use Rattle.urcu_lib.specs.Registers.{AreReadRegs, AreSyncRegs, IsKept, IsRegister}
 use Rattle.urcu_lib.specs.declared.regs.ReadRegs.{ReadRegs}
 use Rattle.urcu_lib.specs.declared.regs.SyncRegs.{SyncRegs}
-use Rattle.guest_programs.specs.declared.urcu.TheConstants.{GP, SCRATCH, SLOT, SLOTS}
+use Rattle.guest_programs.specs.declared.registers.TheConstants.{GP, SCRATCH, SLOT, SLOTS}
 use Rattle.guest_names.specs.declared.names.Name.{Name}
 use Rattle.guest_names.specs.declared.names.Name.TheVariants.{Counter, List as Lists, Pool, Dekker, Signals, Migrate, Ring, Urcu}
 use Rattle.guest_programs.specs.Blocks.{HoldsBlock, block_alone, bound_by, descriptor_of, start_word}
@@ -34,7 +34,7 @@ use Rattle.guest_programs.specs.Programs.{data_words}
 use Rattle.guest_programs.specs.Guests.{HoldsBlocks}
 use Rattle.guest_programs.specs.Steps.{guest_lines, slots_of}
 use Rattle.guest_programs.specs.declared.layout.TheConstants.{CODE, FIRST_TABLE, SECOND_TABLE}
-use Rattle.guest_programs.specs.declared.shared.TheConstants.{LABELS}
+use Rattle.guest_programs.specs.declared.labels.TheConstants.{LABELS}
 use Rattle.guest_programs.proofs.Emitted.{slots_are}
 use Rattle.guest_programs.proofs.Held.{IsWordAt, labels_bound, within, word_at_line}
 

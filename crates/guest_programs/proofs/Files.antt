@@ -25,7 +25,7 @@ use Rattle.guest_programs.specs.Guests.{HoldsBlocks, IsGuestFile}
 use Rattle.guest_programs.specs.Programs.{data_bytes, data_words}
 use Rattle.guest_programs.specs.Steps.{guest_lines}
 use Rattle.guest_programs.specs.declared.layout.TheConstants.{CODE}
-use Rattle.guest_programs.specs.declared.shared.TheConstants.{LABELS}
+use Rattle.guest_programs.specs.declared.labels.TheConstants.{LABELS}
 use Rattle.guest_programs.proofs.Blocks.{Read, code_stands, few_words, holds, model, words_are}
 use Rattle.guest_programs.proofs.Words.{AreData, word_is}
 use Rattle.guest_programs.specs.Blocks.{start_word}

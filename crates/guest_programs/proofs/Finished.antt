@@ -14,7 +14,7 @@ use Rattle.guest_names.specs.declared.names.Name.{Name}
 use Rattle.guest_names.specs.declared.names.Name.TheVariants.{Counter, List as Lists, Pool, Dekker, Signals, Migrate, Ring, Urcu}
 use Rattle.guest_programs.specs.Steps.{guest_lines}
 use Rattle.guest_programs.specs.declared.layout.TheConstants.{CODE}
-use Rattle.guest_programs.specs.declared.shared.TheConstants.{LABELS}
+use Rattle.guest_programs.specs.declared.labels.TheConstants.{LABELS}
 use Rattle.guest_programs.proofs.Blocks.{guest_labels}
 use Rattle.guest_programs.proofs.Held.{labels_bound}
 

@@ -9,7 +9,7 @@ use Rattle.guest_names.specs.declared.names.Name.{Name}
 use Rattle.guest_names.specs.declared.names.Name.TheVariants.{Counter, List as Lists, Urcu}
 use Rattle.guest_programs.specs.Steps.{guest_lines}
 use Rattle.guest_programs.specs.declared.layout.TheConstants.{CODE}
-use Rattle.guest_programs.specs.declared.shared.TheConstants.{LABELS}
+use Rattle.guest_programs.specs.declared.labels.TheConstants.{LABELS}
 use Rattle.guest_programs.proofs.AssembledCode.{AreRows, assembled_so, emitted_so, put, put_items}
 use Rattle.guest_programs.proofs.Blocks.{guest_labels}
 use Rattle.guest_programs.proofs.Held.{labels_bound}

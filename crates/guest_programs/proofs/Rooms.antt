@@ -15,7 +15,8 @@ use Rattle.guest_names.specs.declared.names.Name.TheVariants.{Counter, List as L
 use Rattle.guest_programs.specs.Blocks.{bound_by}
 use Rattle.guest_programs.specs.Steps.{are_free, has_step_room, have_room, index_behind, lines_of, lines_of_step, own_steps}
 use Rattle.guest_programs.specs.declared.layout.TheConstants.{CODE}
-use Rattle.guest_programs.specs.declared.shared.TheConstants.{LABELS, BEGINNING, ENDING, PINNING, PRINTING, STARTING}
+use Rattle.guest_programs.specs.declared.labels.TheConstants.{LABELS}
+use Rattle.guest_programs.specs.declared.shared.TheConstants.{BEGINNING, ENDING, PINNING, PRINTING, STARTING}
 use Rattle.guest_programs.specs.declared.steps.Step.{Step}
 use Rattle.guest_programs.specs.declared.steps.Step.TheVariants as step
 use Rattle.guest_programs.proofs.Emitted.{both}

@@ -13,7 +13,7 @@ use Rattle.rv_asm.specs.Assembly.{AreAssembled, Assembly, address_of, empty, ind
 use Rattle.guest_programs.specs.Steps.{guest_lines}
 use Rattle.guest_programs.specs.declared.layout.TheConstants.{CODE, CODE_SIZE, DATA_SIZE}
 use Rattle.guest_programs.specs.declared.parts.TheConstants.{CODE_PERM, DATA_PERM, EF_RISCV_TSO}
-use Rattle.guest_programs.specs.declared.shared.TheConstants.{BASE, LABELS, SECOND_BASE}
+use Rattle.guest_programs.specs.declared.labels.TheConstants.{BASE, LABELS, SECOND_BASE}
 
 -- the address of a label, or 0
 abbrev pub label_address : Assembly → ℕ → ℕ

@@ -22,7 +22,8 @@ use Rattle.guest_programs.specs.declared.list.TheConstants.{LIST}
 use Rattle.guest_programs.specs.declared.migrate.TheConstants.{MIGRATE}
 use Rattle.guest_programs.specs.declared.pool.TheConstants.{POOL}
 use Rattle.guest_programs.specs.declared.ring.TheConstants.{RING}
-use Rattle.guest_programs.specs.declared.shared.TheConstants.{AREA, CELLS_AT, VALUE, BEGINNING, ENDING, PINNING, PRINTING, STARTING}
+use Rattle.guest_programs.specs.declared.registers.TheConstants.{AREA, CELLS_AT, VALUE}
+use Rattle.guest_programs.specs.declared.shared.TheConstants.{BEGINNING, ENDING, PINNING, PRINTING, STARTING}
 use Rattle.guest_programs.specs.declared.signals.TheConstants.{SIGNALS}
 use Rattle.guest_programs.specs.declared.steps.BlockKind.{BlockKind}
 use Rattle.guest_programs.specs.declared.urcu.TheConstants.{URCU}

@@ -1,9 +1,8 @@
 //! Four threads add to the counters of their processors.
 
+use crate::labels::{BASE, MAIN, PRINT_SUM, START_ALL, STOP, THREAD, WAIT_ALL, WORK};
 use crate::layout::FIRST_TABLE;
-use crate::shared::{
-    BASE, MAIN, PRINT_SUM, RA, SIZE, START_ALL, STOP, THREAD, THREAD_COUNT, WAIT_ALL, WORK,
-};
+use crate::registers::{RA, SIZE, THREAD_COUNT};
 use crate::steps::{BlockKind, Step, branch, inst, label};
 use percpu_lib::Line;
 use rv_inst::Inst;

@@ -3,7 +3,7 @@
 ghost use Rattle.std.specs.Prelude.{◌≡◌, ◌+◌, ◌-◌, ◌^◌, ◌<◌, IfOk};
 ghost use Rattle.guest_programs.specs.Programs.{data_bytes, data_words, label_address};
 
-use crate::shared::{BASE, SECOND_BASE};
+use crate::labels::{BASE, SECOND_BASE};
 use rv_asm::Asm;
 use std::alloc::{AllocError, Global};
 

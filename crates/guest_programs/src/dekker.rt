@@ -1,49 +1,22 @@
 //! Rounds of two threads that each store a flag and load the other's.
 
+use crate::calls::{FUTEX, MEMBARRIER, PRIVATE_EXPEDITED, REGISTER_PRIVATE_EXPEDITED};
+use crate::labels::{
+    COUNT_NEXT, HAVE_MET, MAIN, MEET, MEET_AGAIN, OTHER_ROUND, PRINT, ROUND, START_ALL, STOP,
+    THREAD, WAIT_ALL,
+};
 use crate::layout::{DATA, MORE};
-use crate::shared::{
-    A0, A1, A2, A3, A7, FUTEX, MAIN, PRINT, RA, SIZE, START_ALL, STOP, T0, T1, THREAD,
-    THREAD_COUNT, VALUE, WAIT_ALL,
+use crate::registers::{
+    A0, A1, A2, A3, A7, BEGUN, OTHER_BEGUN, OWN_BEGUN, RA, ROUND_AT, SIZE, T0, T1, THREAD_COUNT,
+    VALUE,
 };
 use crate::steps::{Step, branch, ecall, inst, label};
 use percpu_lib::Line;
 use rv_inst::Inst;
 
-// Labels of this guest.
-const ROUND: u32 = 32;
-
-const OTHER_ROUND: u32 = 33;
-
-const MEET: u32 = 34;
-
-const MEET_AGAIN: u32 = 35;
-
-const HAVE_MET: u32 = 36;
-
-const COUNT_NEXT: u32 = 37;
-
-// Registers of this guest.
-
-/// The bytes of a round, 32 each: the flag of the first thread, that of the other, and what each has read.
-const ROUND_AT: u8 = 24;
-
-/// How many rounds a thread has begun.
-const BEGUN: u8 = 25;
-
-/// Where a thread says how many rounds it has begun, and where the other does.
-const OWN_BEGUN: u8 = 26;
-
-const OTHER_BEGUN: u8 = 27;
-
 const FIRST_BEGUN: i64 = 0x100;
 
 const SECOND_BEGUN: i64 = 0x108;
-
-const MEMBARRIER: i64 = 283;
-
-const PRIVATE_EXPEDITED: i64 = 8;
-
-const REGISTER_PRIVATE_EXPEDITED: i64 = 16;
 
 /// The first thread registers for the private expedited barrier (membarrier(2)) and starts another. In each
 /// round the two meet; then each stores 1 as its flag and loads the other's, the first with that barrier in

@@ -8,14 +8,14 @@ ghost use Rattle.guest_programs.specs.Steps.{lines_of, lines_of_block, lines_of_
 
 use crate::counter::COUNTER;
 use crate::dekker::DEKKER;
+use crate::labels::LABELS;
 use crate::layout::CODE;
 use crate::list::LIST;
 use crate::migrate::MIGRATE;
 use crate::pool::POOL;
+use crate::registers::{AREA, CELLS_AT, VALUE};
 use crate::ring::RING;
-use crate::shared::{
-    AREA, BEGINNING, CELLS_AT, ENDING, LABELS, PINNING, PRINTING, STARTING, VALUE,
-};
+use crate::shared::{BEGINNING, ENDING, PINNING, PRINTING, STARTING};
 use crate::signals::SIGNALS;
 use crate::steps::{BlockKind, Step};
 use crate::urcu::URCU;

@@ -5,17 +5,20 @@
 //! The code of a guest is a list of steps. The size stands in memory, so the code is the same for all sizes.
 #![tactic(auto)]
 
+mod calls;
 mod counter;
 mod data;
 mod dekker;
 mod emitting;
 mod fault;
+mod labels;
 mod layout;
 mod list;
 mod making;
 mod migrate;
 mod parts;
 mod pool;
+mod registers;
 mod ring;
 mod shared;
 mod signals;

@@ -1,27 +1,14 @@
 //! Two threads push nodes to the lists of their processors, and one pops them all.
 
-use crate::layout::{FIRST_TABLE, MORE, SECOND_TABLE, THREADS};
-use crate::shared::{
-    A0, BASE, MAIN, MASK, OWN, PIN, PRINT, RA, SECOND_BASE, SIZE, START_ALL, STOP, T0, THREAD,
-    THREAD_COUNT, VALUE, WAIT_ALL, WORK,
+use crate::labels::{
+    ALL_EMPTY, BASE, IS_EMPTY, MAIN, PIN, PIN_NEXT, POP_NEXT, PRINT, PUSH_NEXT, SECOND_BASE,
+    START_ALL, STOP, THREAD, WAIT_ALL, WORK,
 };
+use crate::layout::{FIRST_TABLE, MORE, SECOND_TABLE, THREADS};
+use crate::registers::{A0, MASK, OWN, POPPED, RA, SIZE, T0, THREAD_COUNT, VALUE};
 use crate::steps::{BlockKind, Step, branch, inst, label};
 use percpu_lib::Line;
 use rv_inst::Inst;
-
-// Labels of this guest.
-const PUSH_NEXT: u32 = 33;
-
-const PIN_NEXT: u32 = 34;
-
-const POP_NEXT: u32 = 35;
-
-const IS_EMPTY: u32 = 36;
-
-const ALL_EMPTY: u32 = 37;
-
-/// How many nodes were popped.
-const POPPED: u8 = 25;
 
 /// The first thread starts another, and each pushes as many nodes of 16 bytes as the size says, from its own
 /// place on. Then the first goes to each processor in turn and pops until the list there is empty. It prints

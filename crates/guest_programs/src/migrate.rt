@@ -1,21 +1,13 @@
 //! Threads that add to counters and go from processor to processor.
 
-use crate::layout::FIRST_TABLE;
-use crate::shared::{
-    A0, AREA, BASE, MAIN, MASK, PIN, PRINT_SUM, RA, SIZE, START_ALL, STOP, T0, THREAD,
-    THREAD_COUNT, WAIT_ALL,
+use crate::labels::{
+    BASE, HAS_MOVED, MAIN, MOVE_NEXT, PIN, PRINT_SUM, START_ALL, STOP, THREAD, WAIT_ALL,
 };
+use crate::layout::FIRST_TABLE;
+use crate::registers::{A0, ADDS_LEFT, AREA, MASK, RA, SIZE, T0, THREAD_COUNT};
 use crate::steps::{BlockKind, Step, branch, inst, label};
 use percpu_lib::Line;
 use rv_inst::Inst;
-
-// Labels of this guest.
-const MOVE_NEXT: u32 = 32;
-
-const HAS_MOVED: u32 = 33;
-
-/// How many adds are left to a thread.
-const ADDS_LEFT: u8 = 25;
 
 /// The first thread starts as many others as the size says. Each adds 1 a hundred times, and after each time
 /// goes to the next processor, or to the first behind the last. Then the sum of the counters is printed.

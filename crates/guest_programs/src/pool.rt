@@ -1,23 +1,16 @@
 //! Four threads take blocks from the pools of their processors and give them back.
 
+use crate::labels::{
+    BASE, MAIN, POOL_NEXT, PRINT_SUM, SECOND_BASE, SLOT_NEXT, START_ALL, STOP, THREAD, WAIT_ALL,
+    WAS_EMPTY, WORK,
+};
 use crate::layout::{FIRST_TABLE, MORE, SECOND_TABLE};
-use crate::shared::{
-    BASE, CELLS_AT, LEFT, MAIN, OTHER, PRINT_SUM, RA, SECOND_BASE, SIZE, START_ALL, STOP, STRIDE,
-    T0, T1, THREAD, THREAD_COUNT, VALUE, WAIT_ALL, WORK,
+use crate::registers::{
+    CELLS_AT, FILLED, LEFT, OTHER, RA, SIZE, STRIDE, T0, T1, THREAD_COUNT, VALUE,
 };
 use crate::steps::{BlockKind, Step, branch, inst, label};
 use percpu_lib::Line;
 use rv_inst::Inst;
-
-// Labels of this guest.
-const POOL_NEXT: u32 = 33;
-
-const SLOT_NEXT: u32 = 34;
-
-const WAS_EMPTY: u32 = 35;
-
-/// Where a pool is filled.
-const SLOT: u8 = 7;
 
 /// The first thread fills eight pools with 64 blocks each, numbered from 1 on, and starts three others. Each
 /// takes a block out of the pool of its processor and puts it into that of its processor by then, as often as
@@ -32,11 +25,11 @@ pub(crate) const POOL: [Step; 35] = [
     label!(POOL_NEXT),
     inst!(Addi rd = T1, rs1 = 0, imm = 64),
     inst!(Sd rs1 = OTHER, rs2 = T1, imm = 0),
-    inst!(Addi rd = SLOT, rs1 = OTHER, imm = 0),
+    inst!(Addi rd = FILLED, rs1 = OTHER, imm = 0),
     label!(SLOT_NEXT),
     inst!(Addi rd = T0, rs1 = T0, imm = 1),
-    inst!(Sd rs1 = SLOT, rs2 = T0, imm = 64),
-    inst!(Addi rd = SLOT, rs1 = SLOT, imm = 8),
+    inst!(Sd rs1 = FILLED, rs2 = T0, imm = 64),
+    inst!(Addi rd = FILLED, rs1 = FILLED, imm = 8),
     inst!(Addi rd = T1, rs1 = T1, imm = -1),
     branch!(Bne rs1 = T1, rs2 = 0 => SLOT_NEXT),
     inst!(Add rd = OTHER, rs1 = OTHER, rs2 = STRIDE),

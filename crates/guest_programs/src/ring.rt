@@ -1,35 +1,16 @@
 //! Four threads put words into the rings of their processors, and get words where a ring is full.
 
+use crate::labels::{
+    ALL_EMPTY, BASE, GET, GET_NEXT, GOT_NONE, MAIN, PIN, PIN_NEXT, PRINT_SUM, PUT_NEXT,
+    SECOND_BASE, START_ALL, STOP, THREAD, WAIT_ALL, WAS_PUT, WORK,
+};
 use crate::layout::{FIRST_TABLE, MORE, SECOND_TABLE, THREAD_SIZE, THREADS};
-use crate::shared::{
-    A0, BASE, CELLS_AT, MAIN, MASK, OWN, PIN, PRINT_SUM, RA, SECOND_BASE, SIZE, START_ALL, STOP,
-    STRIDE, T0, THREAD, THREAD_COUNT, VALUE, WAIT_ALL, WORK,
+use crate::registers::{
+    A0, BACK, CELLS_AT, MASK, OWN, RA, SIZE, STRIDE, SUM, T0, THREAD_COUNT, VALUE,
 };
 use crate::steps::{BlockKind, Step, branch, inst, label};
 use percpu_lib::Line;
 use rv_inst::Inst;
-
-// Labels of this guest.
-const PIN_NEXT: u32 = 33;
-
-const GET_NEXT: u32 = 34;
-
-const ALL_EMPTY: u32 = 35;
-
-const PUT_NEXT: u32 = 36;
-
-const WAS_PUT: u32 = 37;
-
-/// Gets four words, and adds them up; the value is 0 where there were fewer.
-const GET: u32 = 38;
-
-const GOT_NONE: u32 = 39;
-
-/// Where to go on behind `GET`.
-const BACK: u8 = 22;
-
-/// The sum of the words that a thread has got.
-const SUM: u8 = 25;
 
 /// The words that are put, from a thread's own bytes on; those that were got; and their sum at its end.
 const PUT_WORDS: i64 = 128;

@@ -1,124 +1,18 @@
 //! What all guests have: the beginning, threads, processors, sums and output.
 
+use crate::calls::{CLONE, EXIT, EXIT_GROUP, FUTEX, RSEQ, SCHED_SETAFFINITY, WRITE};
+use crate::labels::{
+    ENTER, HAS_ENDED, MAIN, PIN, PRINT, PRINT_NEXT, PRINT_SUM, REGISTER, START_ALL, START_NEXT,
+    STOP, SUM_NEXT, THREAD, WAIT_AGAIN, WAIT_ALL, WAIT_NEXT,
+};
 use crate::layout::{CELLS, DATA, NUMBER, SET, TEXT_END, THREAD_SIZE, THREADS};
+use crate::registers::{
+    A0, A1, A2, A3, A4, A7, AREA, CELLS_AT, LEFT, MASK, OTHER, OWN, RA, SIZE, STRIDE, T0, T1,
+    THREAD_COUNT, VALUE,
+};
 use crate::steps::{Step, branch, ecall, inst, label};
 use percpu_lib::Line;
 use rv_inst::Inst;
-
-// Registers.
-pub(crate) const RA: u8 = 1;
-
-/// A thread's own bytes.
-pub(crate) const OWN: u8 = 4;
-
-pub(crate) const T0: u8 = 5;
-
-pub(crate) const T1: u8 = 6;
-
-/// The area of a block.
-pub(crate) const AREA: u8 = 8;
-
-/// The cells of a block.
-pub(crate) const CELLS_AT: u8 = 9;
-
-pub(crate) const A0: u8 = 10;
-
-pub(crate) const A1: u8 = 11;
-
-pub(crate) const A2: u8 = 12;
-
-pub(crate) const A3: u8 = 13;
-
-pub(crate) const A4: u8 = 14;
-
-/// The own bytes of another thread, or the cell of a processor.
-pub(crate) const OTHER: u8 = 15;
-
-/// The number of a call.
-pub(crate) const A7: u8 = 17;
-
-/// The value of a block; 1 as the guest begins.
-pub(crate) const VALUE: u8 = 18;
-
-/// The size for which the guest was made.
-pub(crate) const SIZE: u8 = 19;
-
-/// How many threads there are beside the first.
-pub(crate) const THREAD_COUNT: u8 = 20;
-
-/// How many are left.
-pub(crate) const LEFT: u8 = 21;
-
-/// From the cell of a processor to the next.
-pub(crate) const STRIDE: u8 = 23;
-
-// Labels. Those below 16 are of a guest's blocks.
-pub(crate) const BASE: u32 = 0;
-
-pub(crate) const SECOND_BASE: u32 = 8;
-
-/// What the first thread does.
-pub(crate) const MAIN: u32 = 16;
-
-/// What the other threads do.
-pub(crate) const THREAD: u32 = 17;
-
-const REGISTER: u32 = 18;
-
-/// Starts the other threads.
-pub(crate) const START_ALL: u32 = 19;
-
-const START_NEXT: u32 = 20;
-
-const ENTER: u32 = 21;
-
-/// Waits until the other threads have ended.
-pub(crate) const WAIT_ALL: u32 = 22;
-
-const WAIT_NEXT: u32 = 23;
-
-const WAIT_AGAIN: u32 = 24;
-
-const HAS_ENDED: u32 = 25;
-
-/// Ends the thread.
-pub(crate) const STOP: u32 = 26;
-
-/// Prints the sum of the first words of the cells, and ends.
-pub(crate) const PRINT_SUM: u32 = 27;
-
-const SUM_NEXT: u32 = 28;
-
-/// Prints a number, and ends.
-pub(crate) const PRINT: u32 = 29;
-
-const PRINT_NEXT: u32 = 30;
-
-/// Goes to the processors of a set, which is in the mask; 0 where there is such a processor.
-pub(crate) const PIN: u32 = 31;
-
-/// The work of a thread of a guest.
-pub(crate) const WORK: u32 = 32;
-
-pub(crate) const LABELS: u32 = 40;
-
-/// A set of processors.
-pub(crate) const MASK: u8 = 24;
-
-// The numbers of calls.
-const WRITE: i64 = 64;
-
-const EXIT: i64 = 93;
-
-const EXIT_GROUP: i64 = 94;
-
-const SCHED_SETAFFINITY: i64 = 122;
-
-const CLONE: i64 = 220;
-
-pub(crate) const FUTEX: i64 = 98;
-
-const RSEQ: i64 = 293;
 
 /// The beginning, and the registration of an area (rseq(2)), with librseq's signature.
 pub(crate) const BEGINNING: [Step; 18] = [

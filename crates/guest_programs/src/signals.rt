@@ -1,29 +1,14 @@
 //! A thread adds to its counter while it is sent signals.
 
-use crate::layout::{ACTION, DATA, FIRST_TABLE, NUMBER, THREAD_SIZE};
-use crate::shared::{
-    A0, A1, A2, A3, A7, BASE, LEFT, MAIN, OTHER, OWN, PRINT_SUM, RA, SIZE, START_ALL, STOP, T0, T1,
-    THREAD, THREAD_COUNT, WAIT_ALL,
+use crate::calls::{RT_SIGACTION, SIGUSR1, TGKILL};
+use crate::labels::{
+    ADD_NEXT, BASE, BEHIND_HANDLER, MAIN, PRINT_SUM, SEND_NEXT, START_ALL, STOP, THREAD, WAIT_ALL,
 };
+use crate::layout::{ACTION, DATA, FIRST_TABLE, NUMBER, THREAD_SIZE};
+use crate::registers::{A0, A1, A2, A3, A7, OTHER, OWN, RA, SECOND, SIZE, T0, THREAD_COUNT};
 use crate::steps::{BlockKind, Step, branch, ecall, inst, label};
 use percpu_lib::Line;
 use rv_inst::Inst;
-
-// Labels of this guest.
-const BEHIND_HANDLER: u32 = 32;
-
-const SEND_NEXT: u32 = 33;
-
-const ADD_NEXT: u32 = 34;
-
-const TGKILL: i64 = 131;
-
-const RT_SIGACTION: i64 = 134;
-
-const SIGUSR1: i64 = 10;
-
-/// The number of the other thread.
-const SECOND: u8 = 25;
 
 /// The first thread sets a handler of SIGUSR1 that only returns, and starts another. That one adds 1 as often
 /// as the size says, and the first sends it the signal as often. Then the sum of the counters is printed.

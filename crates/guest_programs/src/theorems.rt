@@ -30,7 +30,7 @@ ghost use Rattle.guest_names.specs.declared.names.Name.{Name};
 ghost use Rattle.guest_programs.specs.Programs.{IsGuestElf, data_bytes, guest_program};
 ghost use Rattle.guest_programs.specs.Steps.{guest_lines};
 ghost use Rattle.guest_programs.specs.declared.layout.TheConstants.{CODE};
-ghost use Rattle.guest_programs.specs.declared.shared.TheConstants.{LABELS};
+ghost use Rattle.guest_programs.specs.declared.labels.TheConstants.{LABELS};
 ghost use Rattle.percpu_lib.specs.Files.{HoldsCode};
 
 /// The code of a guest's file stands in the memory with which its program starts, from the first word on, and may be

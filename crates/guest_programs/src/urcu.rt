@@ -1,48 +1,22 @@
 //! A thread exchanges nodes that three others read, and waits for them by user-space RCU on membarrier.
 
+use crate::calls::{MEMBARRIER, REGISTER_PRIVATE_EXPEDITED};
+use crate::labels::{
+    BASE, IS_ALIVE, MAIN, PRINT_SUM, READ_NEXT, START_ALL, STOP, THREAD, UPDATE_NEXT, WAIT_ALL,
+};
 use crate::layout::{DATA, GRACE, MORE, THREADS};
-use crate::shared::{
-    A0, A1, A2, A7, BASE, CELLS_AT, MAIN, OWN, PRINT_SUM, RA, SIZE, START_ALL, STOP, T0, THREAD,
-    THREAD_COUNT, WAIT_ALL,
+use crate::registers::{
+    A0, A1, A2, A7, CELLS_AT, GP, NODE, NODES, OWN, RA, SCRATCH, SIZE, SLOT, SLOTS, T0,
+    THREAD_COUNT,
 };
 use crate::steps::{Step, branch, ecall, inst, label};
 use percpu_lib::Line;
 use rv_inst::Inst;
 
-// Labels of this guest.
-const UPDATE_NEXT: u32 = 33;
-
-const READ_NEXT: u32 = 34;
-
-const IS_ALIVE: u32 = 35;
-
-// Registers.
-/// The node that the pointer leads to; of a reader, how many zeros it has read.
-pub(crate) const NODE: u8 = 22;
-
-/// The other node; of a reader, what lock loads.
-pub(crate) const SCRATCH: u8 = 24;
-
-/// A reader's slot.
-pub(crate) const SLOT: u8 = 25;
-
-/// The grace counter.
-pub(crate) const GP: u8 = 26;
-
-/// The slot of the first reader: the cell of processor 1.
-pub(crate) const SLOTS: u8 = 27;
-
-/// Two nodes, and behind them the pointer.
-const NODES: u8 = 28;
-
 const POINTER: i64 = 128;
 
 /// Where a reader leaves its number of zeros, from its slot on: in the cell of processor 4, 5 or 6.
 const ZEROS: i64 = 192;
-
-const MEMBARRIER: i64 = 283;
-
-const REGISTER_PRIVATE_EXPEDITED: i64 = 16;
 
 /// The first thread starts three readers. As often as the size says it writes 1 into the other of two nodes, lets the
 /// pointer lead there, waits for the readers by a sync block, and writes 0 into the node that it has left. A

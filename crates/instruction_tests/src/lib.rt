@@ -2,9 +2,7 @@
 #![tactic(auto)]
 
 #[cfg(test)]
-mod assembly;
-#[cfg(test)]
-mod decoding;
+mod coding;
 #[cfg(test)]
 mod execution;
 #[cfg(test)]

@@ -1,6 +1,6 @@
 -- What holds of the rows and the waiters is kept by each change.
 use Rattle.std.proofs.Common.{ℕ, ◌+◌, ◌-◌, ◌<◌, ◌≡◌, ◌^◌, false, not, List, [], ◌∷◌, ◌++◌, map, filter, Some, refl, sym, ap, ◌∙◌, subst}
-use Rattle.kernel_threads.specs.Rows.{state_at, threads_in, is_row, stage_if, table_in}
+use Rattle.kernel_threads.specs.Rows.{state_at, threads_in, is_row, stage_if, table_in, new_row}
 use Rattle.kernel_threads.specs.Waits.{HaveAddresses, IsKept, numbers_of, is_waiter}
 use Rattle.kernel_threads.specs.declared.rows.Row.{Row}
 use Rattle.kernel_threads.specs.declared.rows.Stage.{Stage}
@@ -34,7 +34,7 @@ module _ (rows changed : List Row) (given : ℕ) (ws : List Waiter) (kept : IsKe
         (addresses_kept threads g is.keeps ws kept.addresses);
   }
 
-  pub kept_grown : (start : Saved) → changed ≡ rows ++ record { number = given + 1; stage = stage.Ready start; clear_at = 0 } ∷ [] → given < 2 ^ 31 - 1
+  pub kept_grown : (start : Saved) → changed ≡ rows ++ new_row (given + 1) start ∷ [] → given < 2 ^ 31 - 1
       → is_full threads ≡ false → IsKept changed (given + 1) ws
   kept_grown start e room free = record {
     table = grown_table rows changed given (numbers_of ws) start e kept.table room free;

@@ -1,4 +1,5 @@
 mod Addresses
+mod FoundPlaces
 mod Kept
 pub mod Laws
 mod Moved

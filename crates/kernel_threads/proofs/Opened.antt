@@ -29,9 +29,6 @@ slots_table s given = table_in s.rows.items given (numbers_of s.waiters.items)
 pub same_table : (s lent : Slots) (given : ℕ) (t : Table) → lent ≡ s → slots_table s given ≡ t → slots_table lent given ≡ t
 same_table s lent given t e v = ap (λ (q : Slots). slots_table q given) e ∙ v
 
-pub same_holds : (s lent : Slots) (given : ℕ) → lent ≡ s → IsTable (slots_table s given) → IsTable (slots_table lent given)
-same_holds s lent given e h = subst (λ (q : Slots). IsTable (slots_table q given)) (sym e) h
-
 -- the numbers of the rows rise
 same_numbers : (rows : List Row) → numbers (threads_in rows) ≡ map (λ row. row.number) rows
 same_numbers [] = refl

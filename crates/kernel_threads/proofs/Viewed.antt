@@ -1,8 +1,8 @@
 -- A change of the rows is the change of the threads, and of what is saved, that it stands for.
 use Rattle.std.proofs.Common.{ℕ, ◌+◌, ◌-◌, ◌<◌, ◌≡◌, ◌^◌, Bool, true, false, not, cond, eqb, List, [], ◌∷◌, ◌++◌, map, filter, Some, is_some, refl, sym, ap, ◌∙◌, subst}
 use Rattle.std.proofs.lemmas.List.{map_push}
-use Rattle.kernel_threads.specs.Rows.{state_at, kept_at, thread_in, saved_in, threads_in, all_saved_in, is_row, stage_if, table_in}
-use Rattle.kernel_threads.specs.Table.{Table, IsTable, is_of, saved_if, with_saved, with_start, forget, has_saved, wants_saved}
+use Rattle.kernel_threads.specs.Rows.{state_at, kept_at, thread_in, saved_in, threads_in, all_saved_in, is_row, stage_if, table_in, new_row}
+use Rattle.kernel_threads.specs.Table.{Table, IsTable, is_of, saved_if, with_saved, forget, has_saved, wants_saved}
 use Rattle.kernel_threads.specs.declared.rows.Row.{Row}
 use Rattle.kernel_threads.specs.declared.rows.Stage.{Stage}
 use Rattle.kernel_threads.specs.declared.rows.Stage.TheVariants as stage
@@ -87,19 +87,14 @@ module _ (rows changed : List Row) (given : ℕ) (waiters : List ℕ) where
         (IsThreads-with_rows g is.keeps (of_live (threads_in rows) given waiters) h.threads))
 
   -- a new row
-  pub grown_threads : (start : Saved) (t : Table) → changed ≡ rows ++ record { number = given + 1; stage = stage.Ready start; clear_at = 0 } ∷ [] → table_in rows given waiters ≡ t
+  pub grown_threads : (start : Saved) (t : Table) → changed ≡ rows ++ new_row (given + 1) start ∷ [] → table_in rows given waiters ≡ t
       → of_live (threads_in changed) (given + 1) waiters ≡ with_child t.threads
   grown_threads start t e v =
       ap (λ rs. of_live (threads_in rs) (given + 1) waiters) e
-      ∙ ap (λ live. of_live live (given + 1) waiters) (map_push thread_in rows (record { number = given + 1; stage = stage.Ready start; clear_at = 0 }))
+      ∙ ap (λ live. of_live live (given + 1) waiters) (map_push thread_in rows (new_row (given + 1) start))
       ∙ ap (λ u. with_child u.threads) v
 
-  pub grown_saved : (start : Saved) (t : Table) → changed ≡ rows ++ record { number = given + 1; stage = stage.Ready start; clear_at = 0 } ∷ [] → table_in rows given waiters ≡ t
-      → all_saved_in changed ≡ with_start (t.threads.given + 1) start t.saved
-  grown_saved start t e v =
-      ap all_saved_in e ∙ map_push saved_in rows (record { number = given + 1; stage = stage.Ready start; clear_at = 0 }) ∙ ap (λ u. with_start (u.threads.given + 1) start u.saved) v
-
-  pub grown_table : (start : Saved) → changed ≡ rows ++ record { number = given + 1; stage = stage.Ready start; clear_at = 0 } ∷ [] → IsTable (table_in rows given waiters)
+  pub grown_table : (start : Saved) → changed ≡ rows ++ new_row (given + 1) start ∷ [] → IsTable (table_in rows given waiters)
       → given < 2 ^ 31 - 1 → is_full (of_live (threads_in rows) given waiters) ≡ false → IsTable (table_in changed (given + 1) waiters)
   grown_table start e h room free =
       IsTable-rows changed (given + 1) waiters

@@ -31,6 +31,10 @@ thread_in row = record { tid = row.number; state = state_at row.stage; clear_at 
 abbrev pub saved_in : Row → ℕ × Option Saved
 saved_in row = (row.number, kept_at row.stage)
 
+-- the row of a new thread, which goes on with this
+abbrev pub new_row : ℕ → Saved → Row
+new_row n start = record { number = n; stage = stage.Ready start; clear_at = 0 }
+
 abbrev pub threads_in : List Row → List Thread
 threads_in rows = map thread_in rows
 

@@ -2,7 +2,7 @@
 
 ghost use Rattle.std.specs.Prelude.{◌≡◌, ◌==◌, not, map, filter, find};
 ghost use Rattle.std.specs.List.{position};
-ghost use Rattle.kernel_threads.specs.Rows.{are_rising, state_at, kept_at, all_saved_in, change_if, changed_by, clear_in, clear_row_if, is_row, stage_if, state_in};
+ghost use Rattle.kernel_threads.specs.Rows.{are_rising, state_at, kept_at, all_saved_in, change_if, changed_by, clear_in, clear_row_if, is_row, new_row, stage_if, state_in};
 ghost use Rattle.kernel_threads.specs.Table as spec;
 
 use arrayvec::ArrayVec;
@@ -59,7 +59,7 @@ pub struct Row {
 impl Row {
     /// A thread at its start.
     pub fn new(number: u32, start: Saved) -> Row
-        ensures { result ≡ record { number = number; stage = Stage.Ready start; clear_at = 0 } }
+        ensures { result ≡ new_row number start }
     {
         Row {
             number,

@@ -2,6 +2,7 @@
 
 ghost use Rattle.std.specs.Prelude.{◌≡◌, ◌∷◌, [], ◌+◌, ◌-◌, ◌^◌, ◌<◌, ◌↔◌, not, filter, length, IfOk, IfErr, OnOk, OnErr, IsErr, IfSome, IfNone, IsTrue, Some, None};
 ghost use Rattle.std.specs.Option.{option_map};
+ghost use Rattle.kernel_threads.specs.Rows.{new_row};
 ghost use Rattle.kernel_threads.specs.Table as spec;
 ghost use Rattle.mach_types.specs.Kernel.Threads as process;
 ghost use Rattle.mach_types.specs.declared.errors.TheConstants.{EAGAIN};
@@ -60,7 +61,7 @@ fn answering(saved: Saved, value: u64) -> Saved
 impl Slots {
     /// The row of thread 1 alone, ready with `start`, and no waiter.
     fn start_over(&mut self, start: Saved)
-        ensures rows { self.new.rows.items ≡ record { number = 1; stage = Stage.Ready start; clear_at = 0 } ∷ [] }
+        ensures rows { self.new.rows.items ≡ new_row 1 start ∷ [] }
         ensures waiters { self.new.waiters.items ≡ [] }
     {
         self.rows.clear();

@@ -62,18 +62,9 @@ either_entered true x y ws p q = ap (λ l. bytes_of_all (all_stored l)) p
 either_entered false x y ws p q = ap (λ l. bytes_of_all (all_stored l)) q
 
 outcome_entered : (here : Here) (t : ℕ) (e : Effect) → bytes_of_all (all_stored (outcome_of here t e).entered) ≡ entered_by here.reserved e
-outcome_entered here t (effect.Next rd value to) = refl
-outcome_entered here t (effect.Load at size is_signed rd) = refl
-outcome_entered here t (effect.Store at size value) = refl
-outcome_entered here t (effect.Amo op at size value rd) = refl
-outcome_entered here t (effect.Lr at size rd) = refl
 outcome_entered here t (effect.Sc at size value rd) =
     either_entered (is_reserved here.reserved at) _ _ (record { at = at; size = size; value = value } ∷ []) refl refl
-outcome_entered here t (effect.Fence full) = refl
-outcome_entered here t effect.FenceI = refl
-outcome_entered here t effect.Call = refl
-outcome_entered here t effect.Break = refl
-outcome_entered here t effect.Misaligned = refl
+outcome_entered here t e = refl
 
 effect_entered : (here : Here) (t : ℕ) (f : Option ℕ) (x : Option Effect) (e : Effect) → plain_effect_of f x ≡ Some e
     → bytes_of_all (by_effect here t f x).entered ≡ entered_by here.reserved e

@@ -59,6 +59,12 @@ filled_more f d n xs lt was k = go (eqb n k) (ltb k n) (ltb k (n + 1)) refl refl
         let ne : n ≢ k = eqb-false n k is in let least = ltb-false k n low in let most = ltb-true k (n + 1) high in absurd (omega arith)
     go false false false is low high = get_or-set_other xs n k (f n) d (λ same. eqb-false n k is (sym same)) ∙ was k ∙ ap (λ b. cond b (f k) d) low
 
+-- the same of an array of eight, in which this is put down for the next hart
+pub filled_step : {A : Type 0} (f : ℕ → A) (d x : A) (n : ℕ) (xs : List A) → x ≡ f n → n < 8 → length xs ≡ 8 → ((k : ℕ) → get_or xs k d ≡ cond (ltb k n) (f k) d)
+    → (length (set xs n x) ≡ 8) × ((k : ℕ) → get_or (set xs n x) k d ≡ cond (ltb k (n + 1)) (f k) d)
+filled_step f d x n xs is few eight was =
+    (length-set xs n x ∙ eight, λ k. ap (λ y. get_or (set xs n y) k d) is ∙ filled_more f d n xs (omega arith) was k)
+
 -- PAST THE LAST HART
 
 none_lost : (ws : List Write) → lost_after ws None ≡ None

@@ -37,17 +37,8 @@ none_either true x y p q = p
 none_either false x y p q = q
 
 outcome_reserves : (f : ℕ → Option ℕ) (regs : Regs) (pc : ℕ) (r : Option ℕ) (e : Effect) → (outcome f regs pc r e).reserved ≡ unwrap_or (reserved_by e) r
-outcome_reserves f regs pc r (effect.Next rd value to) = refl
-outcome_reserves f regs pc r (effect.Load at size is_signed rd) = refl
-outcome_reserves f regs pc r (effect.Store at size value) = refl
-outcome_reserves f regs pc r (effect.Amo op at size value rd) = refl
-outcome_reserves f regs pc r (effect.Lr at size rd) = refl
 outcome_reserves f regs pc r (effect.Sc at size value rd) = none_either (is_reserved r at) _ _ refl refl
-outcome_reserves f regs pc r (effect.Fence full) = refl
-outcome_reserves f regs pc r effect.FenceI = refl
-outcome_reserves f regs pc r effect.Call = refl
-outcome_reserves f regs pc r effect.Break = refl
-outcome_reserves f regs pc r effect.Misaligned = refl
+outcome_reserves f regs pc r e = refl
 
 effect_reserves : (here : Here) (t : ℕ) (o : Option Effect) → (plain_effect here t o).reserved ≡ unwrap_or (option_and_then reserved_by o) here.reserved
 effect_reserves here t None = refl

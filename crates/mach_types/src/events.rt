@@ -107,55 +107,62 @@ impl Kind {
     pub fn nature(self) -> Nature
         ensures { result ≡ nature_of self }
     {
-        let (maker, movement, interruption, barriers) = match self {
-            Kind::Exec => (
-                Maker::Thread,
-                Movement::Stays,
-                Interruption::Never,
-                BarrierPart::Apart,
-            ),
-            Kind::Drain => (
-                Maker::Buffer,
-                Movement::Stays,
-                Interruption::Never,
-                BarrierPart::Apart,
-            ),
-            Kind::Take => (
-                Maker::Kernel,
-                Movement::Stays,
-                Interruption::Requested,
-                BarrierPart::Takes,
-            ),
-            Kind::Done => (
-                Maker::Kernel,
-                Movement::Stays,
-                Interruption::Never,
-                BarrierPart::Returns,
-            ),
-            Kind::Preempt => (
-                Maker::Kernel,
-                Movement::Leaves,
-                Interruption::Never,
-                BarrierPart::Apart,
-            ),
-            Kind::Run => (
-                Maker::Kernel,
-                Movement::Begins,
-                Interruption::Scheduled,
-                BarrierPart::Apart,
-            ),
-            Kind::Signal => (
-                Maker::Kernel,
-                Movement::Stays,
-                Interruption::Signalled,
-                BarrierPart::Apart,
-            ),
-        };
         Nature {
-            maker,
-            movement,
-            interruption,
-            barriers,
+            maker: self.maker(),
+            movement: self.movement(),
+            interruption: self.interruption(),
+            barriers: self.part_in_barriers(),
+        }
+    }
+
+    /// Who makes it.
+    #[inline]
+    fn maker(self) -> Maker
+        ensures { result ≡ (nature_of self).maker }
+    {
+        match self {
+            Kind::Exec => Maker::Thread,
+            Kind::Drain => Maker::Buffer,
+            Kind::Take | Kind::Done | Kind::Preempt | Kind::Run | Kind::Signal => Maker::Kernel,
+        }
+    }
+
+    /// Where it leaves its thread.
+    #[inline]
+    fn movement(self) -> Movement
+        ensures { result ≡ (nature_of self).movement }
+    {
+        match self {
+            Kind::Preempt => Movement::Leaves,
+            Kind::Run => Movement::Begins,
+            Kind::Exec | Kind::Drain | Kind::Take | Kind::Done | Kind::Signal => Movement::Stays,
+        }
+    }
+
+    /// What interrupts its thread.
+    #[inline]
+    fn interruption(self) -> Interruption
+        ensures { result ≡ (nature_of self).interruption }
+    {
+        match self {
+            Kind::Take => Interruption::Requested,
+            Kind::Run => Interruption::Scheduled,
+            Kind::Signal => Interruption::Signalled,
+            Kind::Exec | Kind::Drain | Kind::Done | Kind::Preempt => Interruption::Never,
+        }
+    }
+
+    /// What it is to barriers.
+    #[inline]
+    fn part_in_barriers(self) -> BarrierPart
+        ensures { result ≡ (nature_of self).barriers }
+    {
+        match self {
+            Kind::Take => BarrierPart::Takes,
+            Kind::Done => BarrierPart::Returns,
+            Kind::Exec | Kind::Drain | Kind::Preempt | Kind::Run | Kind::Signal => {
+                BarrierPart::Apart
+            }
         }
     }
 
@@ -164,7 +171,7 @@ impl Kind {
     pub fn is_instruction(self) -> bool
         ensures { result ≡ is_instruction self }
     {
-        matches!(self.nature().maker, Maker::Thread)
+        matches!(self.maker(), Maker::Thread)
     }
 
     /// Whether a thread leaves its hart by it.
@@ -172,7 +179,7 @@ impl Kind {
     pub fn is_preempt(self) -> bool
         ensures { result ≡ is_preempt self }
     {
-        matches!(self.nature().movement, Movement::Leaves)
+        matches!(self.movement(), Movement::Leaves)
     }
 
     /// Whether a thread begins to run by it: its choice names that thread.
@@ -180,7 +187,7 @@ impl Kind {
     pub fn is_run(self) -> bool
         ensures { result ≡ is_run self }
     {
-        matches!(self.nature().movement, Movement::Begins)
+        matches!(self.movement(), Movement::Begins)
     }
 
     /// The choice of this kind; where it names a thread, this one.
@@ -239,7 +246,7 @@ impl Choice {
     pub fn maker(self) -> Maker
         ensures { result ≡ maker_of self }
     {
-        self.kind().nature().maker
+        self.kind().maker()
     }
 
     /// The thread that it names: the one that is to begin to run. None where it names none.

@@ -29,8 +29,8 @@ allowed_place m h c e machine is =
       lt = a.lt;
     }
 
-pub may_make : (m : Inside) (h : ℕ) (c : Choice) → IsAllowedPlace m h c → MayMake m.parts h c
-may_make m h c at = record { stand = stand_of (seen m); place = at.place.at; free = at.free }
+pub may_make : (m : Inside) (h : ℕ) (c : Choice) (e : Entry) → IsMachine m → decide (setting_of m) (past_of m) h c ≡ Ok e → MayMake m.parts h c
+may_make m h c e machine is = let at = allowed_place m h c e machine is in record { stand = stand_of (seen m); place = at.place.at; free = at.free }
 
 -- CALLS
 

@@ -1,5 +1,7 @@
 -- A machine after an event, with the credits and the generators that follow it.
-use Rattle.machine_core.proofs.Common.{vec_capacity, ◌≡◌, ℕ, ◌<◌, List, [], ◌∷◌, ◌++◌, length, refl, sym, ap, ◌∙◌, arith, Bool, true, false, cond, Option, Some, None, is_some, slice_get, set, option_map, option_map_or, InRange, Choice, Entry, Hart, HartState, History, Inside, Parts, Setting, Sight, credit_of, draws, hart_at, seen_if, Generator, generator_in, next_generator, all_chosen, credit_at, has_ended, history, over_at, Plain, plain_after, length-history, followed, generators_after, is_followed, IsTied, IsMachine, generator_at, past_of, seen, setting_of, IsBlockRun, ◌≤◌, lt-leb, same_length, mapped_is}
+use Rattle.machine_core.proofs.Common.{vec_capacity, subst, ◌≡◌, ℕ, ◌<◌, List, [], ◌∷◌, ◌++◌, length, refl, sym, ap, ◌∙◌, arith, Bool, true, false, cond, Option, Some, None, is_some, slice_get, set, option_map, option_map_or, InRange, Choice, Entry, Hart, HartState, History, Inside, Parts, Setting, Sight, credit_of, draws, hart_at, seen_if, Generator, generator_in, next_generator, all_chosen, credit_at, has_ended, history, over_at, Plain, plain_after, length-history, followed, generators_after, is_followed, IsTied, IsMachine, generator_at, past_of, seen, setting_of, IsBlockRun, ◌≤◌, lt-leb, same_length, mapped_is}
+use Rattle.std.specs.declared.alloc.Global.{Global}
+use Rattle.std.specs.declared.vec.Vec.{Vec}
 use Rattle.std.proofs.lemmas.List.{length-set}
 use Rattle.machine_core.proofs.ChoiceCredits.{IsFollowing, chosen_after, credit_after, generator_after}
 use Rattle.machine_core.proofs.Readings.{over_read}
@@ -90,9 +92,7 @@ settled_next s seed log m words chosen h c e p p' sight so_far limits going lt s
           ∙ rw sees (credit_after s seed log h.0 c e chosen words is k x shown);
       generators = λ followed k below.
           let was : is_followed (seen_if chosen s seed h.0 (history s log)) words h.0 c ≡ true = ap (λ o. is_followed o words h.0 c) (sym sees) ∙ followed in
-          let few = limits.eight_harts in
-          let held = so_far.held in
-          rw sees (generator_after s seed log h.0 c e chosen words is (omega (arith, lt, few, held)) was k below);
+          rw sees (generator_after s seed log h.0 c e chosen words is (omega (arith, lt, limits.eight_harts, so_far.held)) was k below);
       held = still_eight sight h.0 words so_far.held;
     }
 
@@ -106,19 +106,7 @@ machine_settled m machine = record {
   held = machine.held;
 }
 
--- the event of a machine is followed by its credits and generators
-pub settled : (m : Inside) (h : Hart) (c : Choice) (e : Entry) (p p' : Parts) (sight : Option Sight) → IsMachine m
-    → m.parts.ended ≡ None → length m.log.items < m.limits.steps → h.0 < m.limits.harts → IsStep (seen m) h c e p
-    → ((k : ℕ) → credit_of p.harts.items k ≡ credit_of m.parts.harts.items k)
-    → sight ≡ seen_if m.chosen (setting_of m) m.seed h.0 (past_of m)
-    → ((k : ℕ) → slice_get p'.harts.items k ≡ option_map (followed sight m.chooser h.0 c k) (slice_get p.harts.items k))
-    → p'.pages ≡ p.pages → p'.kernel ≡ p.kernel → p'.ended ≡ p.ended
-    → IsSettled (setting_of m) m.seed (m.log.items ++ e ∷ []) p' (generators_after sight h.0 m.chooser) (is_followed sight m.chooser h.0 c)
-settled m h c e p p' sight machine goes room lt step credits sees harts pages kernel ended =
-    settled_next (setting_of m) m.seed m.log.items m.parts m.chooser m.chosen h c e p p' sight (machine_settled m machine) machine.limits
-    (machine_goes m machine goes room) lt step credits sees harts pages kernel ended
-
--- so it is a machine again, with a log that has room
+-- a machine with this log, which has room
 pub machine_so : (m : Inside) (log : List Entry) → m.log.items ≡ log → IsBlockRun (setting_of m) log → IsSettled (setting_of m) m.seed log m.parts m.chooser m.chosen
     → InRange m.limits → m.limits.steps ≤ vec_capacity m.log → IsMachine m
 machine_so m log is run set limits room = record {
@@ -131,3 +119,18 @@ machine_so m log is run set limits room = record {
   limits = limits;
   room = room;
 }
+
+-- a machine that made an event is one again, once its entry is appended, and its credits and generators follow
+pub machine_next : (m : Inside) (h : Hart) (c : Choice) (e : Entry) (p : Parts) (harts : Vec HartState Global) (log : Vec Entry Global) (words : List Generator) (all : Bool) (sight : Option Sight)
+    → IsMachine m → has_ended (setting_of m) (past_of m) ≡ false → h.0 < m.limits.harts → IsStep (seen m) h c e p
+    → ((k : ℕ) → credit_of p.harts.items k ≡ credit_of m.parts.harts.items k)
+    → sight ≡ seen_if (all_chosen (setting_of m) m.seed (past_of m)) (setting_of m) m.seed h.0 (past_of m)
+    → ((k : ℕ) → slice_get harts.items k ≡ option_map (followed sight m.chooser h.0 c k) (slice_get p.harts.items k))
+    → words ≡ generators_after sight h.0 m.chooser → all ≡ is_followed sight m.chooser h.0 c → log.items ≡ m.log.items ++ e ∷ [] → vec_capacity m.log ≤ vec_capacity log
+    → IsMachine (record m { parts = record p { harts = harts }; log = log; chooser = words; chosen = all })
+machine_next m h c e p harts log words all sight machine goes lt step credits sees follows of_words of_all items room =
+    let p' : Parts = record p { harts = harts } in
+    let saw : sight ≡ seen_if m.chosen (setting_of m) m.seed h.0 (past_of m) = sees ∙ ap (λ b. seen_if b (setting_of m) m.seed h.0 (past_of m)) (sym machine.chosen) in
+    let is = settled_next (setting_of m) m.seed m.log.items m.parts m.chooser m.chosen h c e p p' sight (machine_settled m machine) machine.limits goes lt step credits saw follows refl refl refl in
+    let set = subst (λ (x : List Generator × Bool). IsSettled (setting_of m) m.seed (m.log.items ++ e ∷ []) p' x.0 x.1) (λ i. (sym of_words i, sym of_all i)) is in
+    machine_so _ (m.log.items ++ e ∷ []) items step.run set machine.limits (omega (arith, machine.room, room))

@@ -1,5 +1,5 @@
 -- One step: what is decided at a place, and a machine that made the event.
-use Rattle.machine_core.proofs.Common.{InRange, ◌≡◌, ℕ, ◌<◌, [], ◌∷◌, ◌++◌, length, sym, ap, ◌∙◌, subst, arith, Option, Some, None, Ok, Err, Result, IfOk-at_ok, choice_of, Choice, Entry, Hart, Inside, IsBlockRun, IsMachine, Parts, Seen, seen, Why, decide, entry_in, history, done_of, refusal_of, here_of, plain_after, plain_seen, stand_of, standing, IsAfter, IsTied, answer_to, answered, plain_made, IfOk, unless, apply, at_kind, decided_is, next_event, run_on, IsPlace}
+use Rattle.machine_core.proofs.Common.{InRange, ◌≡◌, ℕ, ◌<◌, [], ◌∷◌, ◌++◌, length, sym, ap, ◌∙◌, subst, arith, Option, Some, None, Ok, Err, Result, choice_of, Choice, Entry, Hart, Inside, IsBlockRun, IsMachine, Parts, Seen, seen, Why, decide, entry_in, history, done_of, refusal_of, here_of, plain_after, plain_seen, stand_of, standing, IsAfter, IsTied, answer_to, answered, plain_made, unless, apply, at_kind, decided_is, next_event, run_on, IsPlace}
 use Rattle.block_model.specs.declared.refusals.Refused.TheVariants.{NotEnabled}
 
 answer_ok : (made e : Entry) (o : Option Why) → answered made o ≡ Ok e → unless made o ≡ Ok e
@@ -20,8 +20,7 @@ pub decided_at : (v : Seen) (m : Parts) (h : ℕ) (c : Choice) → IsLogPlace v 
     → decide v.setting (history v.setting v.log) h c ≡ unless (entry_in c (here_of v h)) (refusal_of c (here_of v h))
 decided_at v m h c place =
     let made = plain_made v place.run in
-    let room = place.at.room in
-    at_kind v h c place.run place.at.goes (omega (arith, made, room)) place.at.lt
+    at_kind v h c place.run place.at.goes (omega (arith, made, place.at.room)) place.at.lt
 
 -- a choice that is refused
 pub refused : (v : Seen) (m : Parts) (h : ℕ) (c : Choice) (r : Result Entry Why) (why : Why) → IsLogPlace v m h → r ≡ answer_to (stand_of v) h c → r ≡ Err why → decide v.setting (history v.setting v.log) h c ≡ Err (NotEnabled why)
@@ -56,10 +55,6 @@ stepped v m m' h c r e place answer is after =
       run = run_on v h.0 c e place.run decided;
       tied = subst (λ p. IsTied v.setting p m') (sym next) after.tied;
     }
-
-pub stepped_so : (v : Seen) (m m' : Parts) (h : Hart) (c : Choice) (r : Result Entry Why) (e : Entry) → IsLogPlace v m h.0 → r ≡ answer_to (stand_of v) h.0 c → r ≡ Ok e
-    → IfOk r (λ _. IsAfter (stand_of v) h.0 (done_of c (here_of v h.0)) m m') → IsStep v h c e m'
-stepped_so v m m' h c r e place answer is after = stepped v m m' h c r e place answer is (IfOk-at_ok (λ _. IsAfter (stand_of v) h.0 (done_of c (here_of v h.0)) m m') is after)
 
 -- the place that a log has come to, whose run goes on
 pub log_place : (v : Seen) (m : Parts) (h : ℕ) → IsBlockRun v.setting v.log → IsTied v.setting (plain_seen v) m → InRange v.setting.limits → m.ended ≡ None

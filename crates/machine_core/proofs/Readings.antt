@@ -1,5 +1,5 @@
 -- What is read of a machine is what is read by looking back over its log.
-use Rattle.machine_core.proofs.Common.{◌≡◌, ℕ, ◌<◌, length, sym, ap, ◌∙◌, arith, get_or, Option, Some, same_Some, slice_get-get_or, word_at, HartState, Inside, IsMachine, credit_of, hart_at, hart_in, seen, setting_of, byte_in, can_write_in, credit_at, Here, is_writable, memory, waiting_here, History, events, here_in_history, ran, history, over_at, Plain, plain_over, plain_seen, same_here, same_state, seen_byte, view, console, file, kernel, bytes_held, writable_held}
+use Rattle.machine_core.proofs.Common.{◌≡◌, ℕ, ◌<◌, length, sym, ap, ◌∙◌, arith, get_or, Option, Some, same_Some, slice_get, slice_get-get_or, word_at, HartState, Inside, IsMachine, credit_of, hart_at, hart_in, seen, setting_of, byte_in, can_write_in, credit_at, Here, is_writable, memory, waiting_here, History, events, here_in_history, ran, history, over_at, Plain, plain_over, plain_seen, same_here, same_state, seen_byte, view, console, file, kernel, bytes_held, writable_held}
 use Rattle.sys_calls.specs.Made.{AreSaved}
 
 -- the history of a machine's log, and what a rule may read there
@@ -9,14 +9,19 @@ history_of m = history (setting_of m) m.log.items
 abbrev pub here_read : Inside → ℕ → Here
 here_read m h = here_in_history (setting_of m) (history_of m) h
 
--- a hart of the machine
-pub hart_read : (m : Inside) (h : ℕ) (x : HartState) → IsMachine m → h < m.limits.harts → x ≡ get_or m.parts.harts.items h x → x ≡ hart_in (here_read m h) (ran h (history_of m)) (events h (history_of m)) (credit_at (setting_of m) m.seed h (history_of m))
+-- a hart of the machine, in the list, and read from it
+abbrev pub hart_seen : Inside → ℕ → HartState
+hart_seen m h = hart_in (here_read m h) (ran h (history_of m)) (events h (history_of m)) (credit_at (setting_of m) m.seed h (history_of m))
+
+pub hart_listed : (m : Inside) (h : ℕ) → IsMachine m → h < m.limits.harts → slice_get m.parts.harts.items h ≡ Some (hart_seen m h)
+hart_listed m h machine lt =
+    machine.tied.harts h lt ∙ ap (λ (p : Plain). Some (hart_at (setting_of m) p h (credit_of m.parts.harts.items h))) (same_state (seen m) machine.run)
+    ∙ ap (λ n. Some (hart_in (here_read m h) (ran h (history_of m)) (events h (history_of m)) n)) (machine.credits h lt)
+
+pub hart_read : (m : Inside) (h : ℕ) (x : HartState) → IsMachine m → h < m.limits.harts → x ≡ get_or m.parts.harts.items h x → x ≡ hart_seen m h
 hart_read m h x machine lt value =
-    let all = machine.tied.all_harts in
-    let in_list : h < length m.parts.harts.items = omega (arith, all, lt) in
-    same_Some x (hart_at (setting_of m) (plain_seen (seen m)) h (credit_of m.parts.harts.items h)) (sym (slice_get-get_or m.parts.harts.items h x in_list ∙ ap Some (sym value)) ∙ machine.tied.harts h lt)
-    ∙ ap (λ (p : Plain). hart_at (setting_of m) p h (credit_of m.parts.harts.items h)) (same_state (seen m) machine.run)
-    ∙ ap (hart_in (here_read m h) (ran h (history_of m)) (events h (history_of m))) (machine.credits h lt)
+    let in_list : h < length m.parts.harts.items = omega (arith, machine.tied.all_harts, lt) in
+    same_Some x (hart_seen m h) (sym (slice_get-get_or m.parts.harts.items h x in_list ∙ ap Some (sym value)) ∙ hart_listed m h machine lt)
 
 -- the bytes that were written to the console
 pub console_read : (m : Inside) → IsMachine m → m.parts.kernel.console ≡ console (setting_of m) (history_of m)

@@ -1,5 +1,5 @@
 -- What a scheduler sees of a hart, told by the hart's state.
-use Rattle.machine_core.proofs.Common.{◌≡◌, ℕ, ◌&&◌, List, sym, ap, ◌∙◌, refl, not, Bool, true, false, is_none, is_some, Option, Some, None, option_and_then, option_map, option_map_or, HartState, Here, ImagePage, Saved, runs, sets_register, Tid, is_storable, reached, fault_by, fetched, next_effect, effect_here, effect_on, fault_here, fault_on, is_deliverable_on, is_local_on, thread, file_of, file_on, hart_in, instruction_of, next_fault, next_instruction, arith}
+use Rattle.machine_core.proofs.Common.{◌≡◌, ℕ, ◌&&◌, List, sym, ap, ◌∙◌, refl, not, Bool, true, false, cond, is_none, is_some, Option, Some, None, option_and_then, option_map, option_map_or, HartState, Here, ImagePage, Saved, runs, sets_register, Tid, is_storable, reached, fault_by, fetched, next_effect, effect_here, effect_on, fault_here, fault_on, is_deliverable_on, is_local_on, thread, file_of, file_on, hart_in, instruction_of, next_fault, next_instruction, arith}
 use Rattle.mach_types.specs.Kernel.Signals.{next_for}
 use Rattle.rv_inst.proofs.Laws.{local-rows}
 use Rattle.rv_inst.specs.Local.{is_register_only}
@@ -7,43 +7,27 @@ use Rattle.rv_inst.specs.Meaning.{meaning}
 use Rattle.rv_inst.specs.declared.instruction.Inst.{Inst}
 use Rattle.process.specs.Delivering.{next_on}
 
--- the effect that is read from the file of a hart with a thread
-effect_by : (here : Here) (o : Option ℕ) → is_some (option_map thread o) ≡ true → next_effect here.setting.program.pages (file_on here o) ≡ effect_on here o
-effect_by here None busy = cc
-effect_by here (Some t) busy = refl
+-- the effect that is read from the file of a hart with a thread, and its fault; an idle hart has none
+thread_effect : (here : Here) (o : Option ℕ) (idle : Bool) → idle ≡ not (is_some (option_map thread o)) → cond idle None (next_effect here.setting.program.pages (file_on here o)) ≡ effect_on here o
+thread_effect here None idle is = rw is refl
+thread_effect here (Some t) idle is = rw is refl
 
-pub effect_read : (here : Here) (x : HartState) (n k credit : ℕ) → x ≡ hart_in here n k credit → is_some x.running ≡ true → next_effect here.setting.program.pages (file_of x) ≡ effect_here here
-effect_read here x n k credit is busy =
-    ap (λ (y : HartState). next_effect here.setting.program.pages (file_of y)) is
-    ∙ effect_by here (runs here) (sym (ap (λ (y : HartState). is_some y.running) is) ∙ busy)
+pub effect_read : (here : Here) (x : HartState) (n k credit : ℕ) (idle : Bool) → x ≡ hart_in here n k credit → idle ≡ not (is_some x.running)
+    → cond idle None (next_effect here.setting.program.pages (file_of x)) ≡ effect_here here
+effect_read here x n k credit idle own is =
+    ap (λ (y : HartState). cond idle None (next_effect here.setting.program.pages (file_of y))) own
+    ∙ thread_effect here (runs here) idle (is ∙ ap (λ (y : HartState). not (is_some y.running)) own)
 
--- an idle hart has none
-no_effect_by : (here : Here) (o : Option ℕ) (idle : Bool) → idle ≡ not (is_some (option_map thread o)) → idle ≡ true → None ≡ effect_on here o
-no_effect_by here None idle is on = refl
-no_effect_by here (Some t) idle is on = cc
+thread_fault : (here : Here) (o : Option ℕ) (idle : Bool) → idle ≡ not (is_some (option_map thread o))
+    → cond idle None (next_fault here.setting.program.pages (reached here) (is_storable here) (file_on here o)) ≡ fault_on here o
+thread_fault here None idle is = rw is refl
+thread_fault here (Some t) idle is = rw is refl
 
-pub no_effect_read : (here : Here) (x : HartState) (n k credit : ℕ) → x ≡ hart_in here n k credit → (idle : Bool) → idle ≡ not (is_some x.running) → idle ≡ true → None ≡ effect_here here
-no_effect_read here x n k credit own idle is on = no_effect_by here (runs here) idle (is ∙ ap (λ (y : HartState). not (is_some y.running)) own) on
-
--- the fault of the next instruction, read from the file of a hart with a thread; an idle hart makes none
-fault_if : (here : Here) (o : Option ℕ) → is_some (option_map thread o) ≡ true → next_fault here.setting.program.pages (reached here) (is_storable here) (file_on here o) ≡ fault_on here o
-fault_if here None busy = cc
-fault_if here (Some t) busy = refl
-
-pub fault_read : (here : Here) (x : HartState) (n k credit : ℕ) (byte : ℕ → Option ℕ) (can_write : ℕ → Bool) → x ≡ hart_in here n k credit → byte ≡ reached here → can_write ≡ is_storable here
-    → is_some x.running ≡ true → next_fault here.setting.program.pages byte can_write (file_of x) ≡ fault_here here
-fault_read here x n k credit byte can_write is bytes writable busy =
-    ap (λ (y : HartState). next_fault here.setting.program.pages byte can_write (file_of y)) is
-    ∙ ap (λ b. next_fault here.setting.program.pages b can_write (file_on here (runs here))) bytes
-    ∙ ap (λ w. next_fault here.setting.program.pages (reached here) w (file_on here (runs here))) writable
-    ∙ fault_if here (runs here) (sym (ap (λ (y : HartState). is_some y.running) is) ∙ busy)
-
-no_fault_by : (here : Here) (o : Option ℕ) (idle : Bool) → idle ≡ not (is_some (option_map thread o)) → idle ≡ true → None ≡ fault_on here o
-no_fault_by here None idle is on = refl
-no_fault_by here (Some t) idle is on = cc
-
-pub no_fault_read : (here : Here) (x : HartState) (n k credit : ℕ) → x ≡ hart_in here n k credit → (idle : Bool) → idle ≡ not (is_some x.running) → idle ≡ true → None ≡ fault_here here
-no_fault_read here x n k credit own idle is on = no_fault_by here (runs here) idle (is ∙ ap (λ (y : HartState). not (is_some y.running)) own) on
+pub fault_read : (here : Here) (x : HartState) (n k credit : ℕ) (byte : ℕ → Option ℕ) (can_write : ℕ → Bool) (idle : Bool) → x ≡ hart_in here n k credit
+    → byte ≡ reached here → can_write ≡ is_storable here → idle ≡ not (is_some x.running) → cond idle None (next_fault here.setting.program.pages byte can_write (file_of x)) ≡ fault_here here
+fault_read here x n k credit byte can_write idle own bytes writable is =
+    (λ i. cond idle None (next_fault here.setting.program.pages (bytes i) (writable i) (file_of (own i))))
+    ∙ thread_fault here (runs here) idle (is ∙ ap (λ (y : HartState). not (is_some y.running)) own)
 
 -- a hart is idle where no thread runs on it
 idle_by : (o : Option ℕ) → not (is_some (option_map thread o)) ≡ is_none o
@@ -76,11 +60,6 @@ tested busy idle answer test is off same = grind arith
 
 pub untested : (busy idle answer test : Bool) → idle ≡ not busy → idle ≡ true → answer ≡ not idle → answer ≡ (busy && test)
 untested busy idle answer test is on same = grind arith
-
--- a hart that isn't idle has a thread
-pub is_busy : (o : Option Tid) (idle : Bool) → idle ≡ not (is_some o) → idle ≡ false → is_some o ≡ true
-is_busy None idle is off = cc
-is_busy (Some t) idle is off = refl
 
 pub none_is : {X : Type 0} (o : Option X) (b : Bool) → is_some o ≡ not b → b ≡ is_none o
 none_is None true e = refl

@@ -38,8 +38,7 @@ pub on_way : (m : Inside) (h : Hart) (x : HartState) (t : Tid) → IsMachine m �
     → IsOnWay (setting_of m) m.seed m.log.items m.parts m.chooser h t x
 on_way m h x t machine chosen goes lt value busy free =
     let s = setting_of m in
-    let all = machine.tied.all_harts in
-    let in_list : h.0 < length m.parts.harts.items = omega (arith, all, lt) in
+    let in_list : h.0 < length m.parts.harts.items = omega (arith, machine.tied.all_harts, lt) in
     let chosen_so : m.chosen ≡ true = machine.chosen ∙ sym (all_of s m.seed m.log.items chosen) in
     record {
       run = machine.run;
@@ -91,8 +90,7 @@ counts_fit m h x n machine lt value room =
     let made : x.events ≡ (plain_seen (seen m)).events h.0 = ap (λ (y : HartState). y.events) own in
     let few_ran = ran_few (seen m) h.0 machine.run in
     let few_made = events_few (seen m) h.0 machine.run in
-    let steps = machine.limits.most_steps in
-    (omega (arith, ran, few_ran, room, steps), omega (arith, made, few_made, room, steps))
+    (omega (arith, ran, few_ran, room, machine.limits.most_steps), omega (arith, made, few_made, room, machine.limits.most_steps))
 
 -- a machine's parts with this state of a hart
 abbrev pub with_hart : Inside → ℕ → HartState → Parts

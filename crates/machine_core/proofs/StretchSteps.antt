@@ -1,15 +1,11 @@
 -- Instructions that touch registers alone, one after another, as `run` chooses them on credit: what becomes of the parts of a
 -- machine and of its log.
-use Rattle.machine_core.proofs.Common.{◌≡◌, ◌≢◌, ℕ, ◌+◌, ◌-◌, ◌<◌, ◌≤◌, ◌&&◌, List, [], ◌∷◌, ◌++◌, length, map, refl, sym, ap, ◌∙◌, subst, arith, Bool, true, false, cond, eqb, ltb, leb, get_or, set, slice_get, Option, None, Some, Ok, is_none, is_some, append-nil, suc, eq-eqb, ◌⊎◌, inl, inr, option_and_then, option_map, option_map_or, option_or, with_item, cases_eq, ne_eqb, same_Some, slice_get-get_or, InRange, Choice, Entry, Hart, HartState, History, ImagePage, IsBlockRun, Parts, Saved, Seen, Setting, Sight, executed, here_in_history, ran, sets_register, Tid, instruction_gate, Effect, draws, pick, Generator, generator_in, word, Pick, after_pick-settled, byte_in, all_chosen, choice_at, credit_at, has_ended, next_entry, pick_at, entry_in, history, over_at, done_of, refusal_of, is_held, effect_at, fault_at, others_gate, refusal_exec_by, unless_in_barrier, Here, is_storable, is_writable, memory, reached, runs, waiting_here, fault_by, fetched, next_effect, here_of, plain_after, plain_over, plain_seen, is_local_on, sight_in, stand_of, Stretch, advanced, goes_on, longest, stepped, Steps, length-history, same_here, same_state, credit_of, file_of, file_on, hart_at, IsAfter, answer_to, answered, followed, generators_after, is_followed, is_picked, IsPlanned, and_right, append_assoc, and_parts, and_from, all_stored, written, Outcome, has_credit, on_credit, by_outcome, file_after, none_of_both, credited, changed_as, entry_exec, get_set_other, get_set_same, in_list, none_beside, performing, plain_next, plain_own, runs_there, saved_plain, thread_is, add-zero}
+use Rattle.machine_core.proofs.Common.{◌≡◌, ◌≢◌, ℕ, ◌+◌, ◌-◌, ◌<◌, ◌≤◌, ◌&&◌, List, [], ◌∷◌, ◌++◌, length, map, refl, sym, ap, ◌∙◌, subst, arith, Bool, true, false, eqb, ltb, get_or, set, slice_get, Option, None, Some, Ok, is_none, is_some, append-nil, suc, eq-eqb, ◌⊎◌, inl, inr, option_and_then, option_map, option_map_or, with_item, cases_eq, ne_eqb, same_Some, slice_get-get_or, InRange, Choice, Entry, Hart, HartState, History, ImagePage, IsBlockRun, Parts, Saved, Seen, Setting, Sight, executed, here_in_history, ran, sets_register, Tid, Effect, draws, pick, Generator, generator_in, word, Pick, after_pick-settled, all_chosen, choice_at, credit_at, has_ended, next_entry, pick_at, entry_in, history, over_at, done_of, refusal_of, Here, is_writable, memory, runs, next_effect, here_of, plain_after, plain_over, is_local_on, sight_in, stand_of, Stretch, advanced, goes_on, longest, stepped, Steps, length-history, same_here, same_state, credit_of, file_of, file_on, hart_at, IsAfter, answer_to, answered, followed, generators_after, is_followed, is_picked, append_assoc, and_parts, and_from, has_credit, on_credit, file_after, credited, entry_exec, get_set_other, get_set_same, in_list, thread_is, add-zero, free_event}
 use Rattle.std.proofs.lemmas.List.{length-append}
 use Rattle.mach_types.specs.Registers.{with_register}
 use Rattle.mach_types.specs.declared.events.Choice.TheVariants as asked
 use Rattle.mach_types.specs.declared.events.Kind.TheVariants as kind
-use Rattle.mach_types.specs.declared.events.Why.TheVariants.{Waiting, FullBuffer}
-use Rattle.mach_types.specs.declared.user_memory.Store.{Store}
 use Rattle.rv_inst.specs.declared.effects.Effect.TheVariants as effect
-use Rattle.sys_calls.specs.Made.{HoldsPages}
-use Rattle.hart_state.specs.State.{hart_after, outcome_on}
 use Rattle.process.specs.EventOutcomes.{entry_from}
 use Rattle.machine_core.proofs.ChoiceCredits.{choice_where, pick_read}
 use Rattle.machine_core.proofs.MachineCredits.{IsSettled, mapped_itself, not_ended, settled_next, tied_with}
@@ -84,24 +80,6 @@ module _ (s : Setting) (seed : ℕ) (log : List Entry) (m : Parts) (words : List
       let goes : over_at s (history s log) ≡ None = sym (way.settled.tied.ended ∙ ap plain_over (same_state (at_log s seed log) way.run)) ∙ way.goes in
       not_ended s (history s log) goes (omega (arith, long, room))
 
--- the next instruction there, which makes no fault and may be executed
-fault_by_effect : (here : Here) (t : ℕ) (rd value to : ℕ) → effect_at here t ≡ Some (effect.Next rd value to) → fault_at here t ≡ None
-fault_by_effect here t rd value to is =
-    ap (λ o. fault_by (reached here) (is_storable here) (here.file t).pc (fetched here.setting.program.pages (here.file t).pc) o) is
-
-free_by_effect : (here : Here) (t : ℕ) (rd value to : ℕ) → runs here ≡ Some t → here.awaits ≡ None → effect_at here t ≡ Some (effect.Next rd value to) → refusal_of asked.Exec here ≡ None
-free_by_effect here t rd value to at none is =
-    ap (refusal_exec_by here) at
-    ∙ ap (λ a. unless_in_barrier a (option_or (instruction_gate (length (waiting_here here)) (effect_at here t) (is_some (fault_at here t))) (others_gate (is_held here t) (effect_at here t)))) none
-    ∙ none_of_both (instruction_gate (length (waiting_here here)) (effect_at here t) (is_some (fault_at here t))) (others_gate (is_held here t) (effect_at here t))
-    (ap (λ o. instruction_gate (length (waiting_here here)) o (is_some (fault_at here t))) is
-    ∙ (ap (λ o. instruction_gate (length (waiting_here here)) (Some (effect.Next rd value to)) (is_some o)) (fault_by_effect here t rd value to is)
-    ∙ passes (ltb 0 (length (waiting_here here))) (leb 8 (length (waiting_here here)))))
-    (ap (others_gate (is_held here t)) is)
-  where
-    passes : (some full : Bool) → cond (some && false) (Some Waiting) (cond (full && false) (Some FullBuffer) None) ≡ None
-    passes some full = rw (and_right some false refl, and_right full false refl) refl
-
 -- the hart's state after such an instruction, but for its credit
 abbrev moved : HartState → ℕ → ℕ → ℕ → HartState
 moved x rd value to = record x { file = with_register x.file rd value; pc = to; ran = x.ran + 1; events = x.events + 1 }
@@ -124,49 +102,18 @@ move : (s : Setting) (seed : ℕ) (log : List Entry) (m : Parts) (words : List G
     → IsOnWay s seed log m words h t x → length log < s.limits.steps → next_effect s.program.pages (file_of x) ≡ Some (effect.Next rd value to)
     → IsMoved (at_log s seed log) m h t x rd value to
 move s seed log m words h t x rd value to way room is =
-    let v = at_log s seed log in
-    let here = here_of v h.0 in
-    let e : Effect = effect.Next rd value to in
-    let place = place_on s seed log m words h t x way room in
-    let at = runs_is s seed log m words h t x way in
-    let its : effect_at here t.0 ≡ Some e = sym (ap (next_effect s.program.pages) (file_is s seed log m words h t x way)) ∙ is in
-    let free = free_by_effect here t.0 rd value to at (waits_is s seed log m words h t x way) its in
-    let plan : IsPlanned (stand_of v) h.0 (plain_next e) = record {
-      thread = t.0;
-      at = at;
-      effect = sym its;
-      fault = sym (fault_by_effect here t.0 rd value to its);
-      sizes = tt;
-      free = free;
-      own = inl refl;
-    } in
-    let got : x ≡ get_or m.harts.items h.0 x = same_Some x (get_or m.harts.items h.0 x) (sym way.there ∙ slice_get-get_or m.harts.items h.0 x (in_list (stand_of v) m h.0 place.at)) in
-    let done = performing (stand_of v) m h.0 x e place.at plan refl got in
-    let none : done.outcome.entered ≡ [] = ap (λ (o : Outcome). o.entered) (sym done.same) in
-    let y = moved x rd value to in
+    let v = stand_of (at_log s seed log) in
+    let place = (place_on s seed log m words h t x way room).at in
+    let got : x ≡ get_or m.harts.items h.0 x = same_Some x (get_or m.harts.items h.0 x) (sym way.there ∙ slice_get-get_or m.harts.items h.0 x (in_list v m h.0 place)) in
+    let event = free_event v m h x s.program.pages rd value to place (record { none = refl; pages = refl }) got (sym is) (ap is_some way.busy) (ap is_some way.no_barrier) in
     record {
-      free = free;
-      entry = sym (entry_exec (credit_of m.harts.items h.0) s (plain_after s log) h x (own_is s seed log m words h t x way)) ∙ entry_busy h x.running t x.pc way.busy;
-      after = changed_as (stand_of v) h.0 asked.Exec (by_outcome here t.0 done.outcome) m (with_state m h.0 y) y place.at free done.done (record {
-        own = plain_own (credit_of m.harts.items h.0) s (plain_after s log) h.0 t.0 done.outcome x y done.own at
-            (same_buffer x rd value to ∙ ap (λ (o : Outcome). record (hart_after x o) { ran = x.ran + 1; events = x.events + 1 }) done.same);
-        harts = none_beside h.0 (by_outcome here t.0 done.outcome) (set m.harts.items h.0 y) (record { none_begun = refl; none_taken = refl }) (ap all_stored none);
-        pages = subst (λ (ws : List Store). HoldsPages (plain_seen v).kernel.pages s.program.break_at (λ a. written (all_stored ws) a ((plain_seen v).byte a)) m.pages) (sym none) way.settled.tied.pages;
-        readable = way.settled.tied.readable;
-        tables = way.settled.tied.tables;
-        ids = λ k u ne at. refl;
-        saved = saved_plain (plain_seen v).file t.0 (record { file = done.outcome.regs; pc = done.outcome.pc }) h m.kernel.threads way.settled.tied.table (runs_there (stand_of v) m h t.0 place.at at) way.settled.tied.saved;
-        table = way.settled.tied.table;
-        ended = done.ended;
-      });
+      free = event.0;
+      entry = sym (entry_exec (credit_of m.harts.items h.0) s (plain_after s log) h x (own_is s seed log m words h t x way)) ∙ entry_busy x.running way.busy;
+      after = event.1;
     }
   where
-    entry_busy : (h : Hart) (o : Option Tid) (t : Tid) (pc : ℕ) → o ≡ Some t → entry_from h kind.Exec o pc ≡ executed h t pc
-    entry_busy h o t pc busy = rw busy refl
-
-    same_buffer : (x : HartState) (rd value to : ℕ) → moved x rd value to
-        ≡ record (hart_after x (outcome_on x (byte_in m.pages) (effect.Next rd value to))) { ran = x.ran + 1; events = x.events + 1 }
-    same_buffer x rd value to = rw (append-nil x.buffer) refl
+    entry_busy : (o : Option Tid) → o ≡ Some t → entry_from h kind.Exec o x.pc ≡ executed h t x.pc
+    entry_busy o busy = rw busy refl
 
 -- what is seen of the hart, and picked for it: the instruction, on credit
 pick_on_credit : (seen : Sight) (w : ℕ) → seen.idle ≡ false → seen.in_barrier ≡ false → has_credit seen ≡ true → pick seen w ≡ Some (on_credit seen)

@@ -65,7 +65,7 @@ pub(crate) fn append(log: &mut Vec<Entry>, entry: Entry)
     ensures items { log.new.items ≡ log.old.items ++ entry ∷ [] }
     ensures capacity { vec_capacity log.old ≤ vec_capacity log.new }
 {
-    let _ = log.push(entry);
+    log.push_reserved(entry);
 }
 
 impl Machine {

@@ -514,5 +514,9 @@ module _ {M Setting : Type 0} (setting : M → Setting) (log : M → List Entry)
   unfolding option_of
   was_held m v o found is e = ap (option_of o) (ap (λ (p : Mine). p.1) (sym is) ∙ e)
 
+  -- the machine that was taken out is the one that stood there
+  pub took : (m : Mine) (v : V) (x y : M) (found : Option M) → m ≡ (v, (0, Some x) ∷ []) → m.1 ≡ (0, found) ∷ rest m.1 → found ≡ Some y → x ≡ y
+  took m v x y found is e some = ap (λ (o : Option M). unwrap_or o x) (was_held m v (Some x) found is e ∙ some)
+
   pub rest_none : (m : Mine) (v : V) (o : Option M) → m ≡ (v, (0, o) ∷ []) → ◌≡◌ {A = Mine} (m.0, (0, None) ∷ rest m.1) (v, (0, None) ∷ [])
   rest_none m v o is = ap (λ (p : Mine). (p.0, (0, None) ∷ rest p.1)) is

@@ -11,6 +11,7 @@ use Rattle.outside.specs.Told.{Gained, GainedPrefix}
 use Rattle.command_words.specs.declared.commands.Guest.{Guest as AskedGuest}
 use Rattle.outcomes.specs.declared.reasons.Explained.{Explained}
 use Rattle.outcomes.specs.declared.reasons.FileRole.{FileRole}
+use Rattle.outcomes.specs.declared.reasons.LineFault.{LineFault}
 use Rattle.outcomes.specs.declared.reasons.Reason.{Reason}
 use Rattle.outcomes.specs.declared.reasons.Reason.TheVariants.{Words, Unread, NoMemory, TooBig, Elf, Script, Guest, Unwritten}
 use Rattle.outcomes.specs.ElfPlaces.{place_of}
@@ -97,27 +98,24 @@ IsTakeReason files name file limits old new said (Script number fault) = ⊥
 IsTakeReason files name file limits old new said (Guest number) = ⊥
 IsTakeReason files name file limits old new said (Unwritten trouble) = ⊥
 
--- why a script isn't played to its end: memory is short, or one of its lines is the first bad one
+-- why a script isn't played to its end: memory is short, or a line is bad
+abbrev pub IsScriptReason : (ℕ → LineFault → Type 0) → Reason → Type 0
+IsScriptReason IsBad (Words fault) = ⊥
+IsScriptReason IsBad (Unread file trouble) = ⊥
+IsScriptReason IsBad NoMemory = Unit {0}
+IsScriptReason IsBad (TooBig file) = ⊥
+IsScriptReason IsBad (Elf file fault about) = ⊥
+IsScriptReason IsBad (Script number fault) = IsBad number fault
+IsScriptReason IsBad (Guest number) = ⊥
+IsScriptReason IsBad (Unwritten trouble) = ⊥
+
+-- of a script of one process: one of its lines is the first bad one
 abbrev pub IsPlayReason : Setting → List ℕ → Reason → Type 0
-IsPlayReason s text (Words fault) = ⊥
-IsPlayReason s text (Unread file trouble) = ⊥
-IsPlayReason s text NoMemory = Unit {0}
-IsPlayReason s text (TooBig file) = ⊥
-IsPlayReason s text (Elf file fault about) = ⊥
-IsPlayReason s text (Script number fault) = IsBadLine s text number fault
-IsPlayReason s text (Guest number) = ⊥
-IsPlayReason s text (Unwritten trouble) = ⊥
+IsPlayReason s text reason = IsScriptReason (IsBadLine s text) reason
 
 -- the same of a script of a pair
 abbrev pub IsPairPlayReason : PairSetting → List ℕ → Reason → Type 0
-IsPairPlayReason s text (Words fault) = ⊥
-IsPairPlayReason s text (Unread file trouble) = ⊥
-IsPairPlayReason s text NoMemory = Unit {0}
-IsPairPlayReason s text (TooBig file) = ⊥
-IsPairPlayReason s text (Elf file fault about) = ⊥
-IsPairPlayReason s text (Script number fault) = IsBadLineOfPair s text number fault
-IsPairPlayReason s text (Guest number) = ⊥
-IsPairPlayReason s text (Unwritten trouble) = ⊥
+IsPairPlayReason s text reason = IsScriptReason (IsBadLineOfPair s text) reason
 
 -- why the file of a guest isn't made: memory is short, or the guest doesn't take its size
 abbrev pub IsGuestReason : AskedGuest → Reason → Type 0

@@ -16,6 +16,7 @@ use Rattle.drawn_runs.specs.WholeRuns.{IsDrawnRun}
 use Rattle.block_view.specs.Acts.{acts_of}
 use Rattle.log_gather.specs.Gathered.{gathered}
 use Rattle.command_words.specs.declared.commands.Draws.{Draws}
+use Rattle.command_words.specs.declared.commands.Trial.{Trial}
 use Rattle.command_words.specs.Commands.{Command, Run, Runs, Makes, Tries, Explores, Pairs, Source, Rule, Script, Workers, Drawn, DrawnAfter}
 use Rattle.command_words.specs.Shown.{Shown}
 use Rattle.command_words.specs.Shown as shows
@@ -96,14 +97,19 @@ pub record IsRunOutput (files : Files) (run : Run) (written : List ℕ) : Type 0
   pub made : IsLogOf files run.source (setting_for run image) log
   pub text : written ≡ shown_text run.shown (setting_for run image) log
 
+-- the output of a command, by what that of a run is, and that of a trial
+abbrev pub IsOutputBy :
+    (Run → List ℕ → Type 0) → (Trial → List ℕ → Type 0) → Files → Option Command → List ℕ → Type 0
+IsOutputBy IsOfRun IsOfTrial files None written = ⊥
+IsOutputBy IsOfRun IsOfTrial files (Some (Runs run)) written = IsOfRun run written
+IsOutputBy IsOfRun IsOfTrial files (Some (Makes guest)) written = IsGuestOutput guest written
+IsOutputBy IsOfRun IsOfTrial files (Some (Tries trial)) written = IsOfTrial trial written
+IsOutputBy IsOfRun IsOfTrial files (Some (Explores program settings)) written = IsExploreOutput files program settings written
+IsOutputBy IsOfRun IsOfTrial files (Some (Pairs pair)) written = IsPairOutput files pair written
+
 -- the output of a command
 abbrev pub IsOutputOf : Files → Option Command → List ℕ → Type 0
-IsOutputOf files None written = ⊥
-IsOutputOf files (Some (Runs run)) written = IsRunOutput files run written
-IsOutputOf files (Some (Makes guest)) written = IsGuestOutput guest written
-IsOutputOf files (Some (Tries trial)) written = IsTrialOutput trial written
-IsOutputOf files (Some (Explores program settings)) written = IsExploreOutput files program settings written
-IsOutputOf files (Some (Pairs pair)) written = IsPairOutput files pair written
+IsOutputOf files command written = IsOutputBy (IsRunOutput files) IsTrialOutput files command written
 
 -- the output of the words
 abbrev pub IsOutput : Files → List (List ℕ) → List ℕ → Type 0
@@ -155,12 +161,7 @@ pub record IsPlainRunOutput (files : Files) (asked : Run) (written : List ℕ) :
 -- the plain machine's output of a command; for the file of a guest no machine runs, and of an exploration and of a pair this says
 -- no more than their own definitions
 abbrev pub IsPlainOutputOf : Files → Option Command → List ℕ → Type 0
-IsPlainOutputOf files None written = ⊥
-IsPlainOutputOf files (Some (Runs run)) written = IsPlainRunOutput files run written
-IsPlainOutputOf files (Some (Makes guest)) written = IsGuestOutput guest written
-IsPlainOutputOf files (Some (Tries trial)) written = IsPlainTrialOutput trial written
-IsPlainOutputOf files (Some (Explores program settings)) written = IsExploreOutput files program settings written
-IsPlainOutputOf files (Some (Pairs pair)) written = IsPairOutput files pair written
+IsPlainOutputOf files command written = IsOutputBy (IsPlainRunOutput files) IsPlainTrialOutput files command written
 
 -- the plain machine's output of the words
 abbrev pub IsPlainOutput : Files → List (List ℕ) → List ℕ → Type 0

@@ -9,7 +9,6 @@ ghost use Rattle.outcomes.specs.Text.{fault_line, elf_words, detail_words};
 
 use arrayvec::ArrayString;
 use elf_load::ElfFault;
-use std::alloc::AllocError;
 
 /// Why a call gives no output.
 #[derive(Clone, Copy, Drop)]
@@ -55,23 +54,12 @@ impl Fault {
         match self {
             Fault::Usage => line_of("usage"),
             Fault::Elf(fault) => elf_line(fault),
-            Fault::Script(number) => script_line(*number),
+            Fault::Script(number) => numbered_line("script ", *number),
             Fault::Read => line_of("read"),
             Fault::Memory => line_of("memory"),
             Fault::Big => line_of("big"),
-            Fault::Guest(number) => guest_line(*number),
+            Fault::Guest(number) => numbered_line("guest ", *number),
         }
-    }
-}
-
-impl From<AllocError> for Fault {
-    ghost use Rattle.std.specs.Prelude.{◌≡◌};
-    ghost use Rattle.outcomes.specs.declared.faults.Fault.TheVariants.{Memory};
-
-    ghost from_gives = { λ _ fault. fault ≡ Memory };
-
-    fn from(_error: AllocError) -> Fault {
-        Fault::Memory
     }
 }
 
@@ -98,22 +86,13 @@ fn elf_line(fault: &ElfFault) -> ArrayString<64>
     line_of(words.as_str())
 }
 
-/// The line of a script that is refused at the line of this number.
-fn script_line(number: u64) -> ArrayString<64>
-    ensures { result.bytes ≡ codes "fault " ++ (codes "script " ++ decimal number) ++ newline ∷ [] }
+/// The line of a fault with this word, a space behind it, and this number.
+fn numbered_line(word: &str, number: u64) -> ArrayString<64>
+    requires { length word.now ≤ 7 }
+    ensures { result.bytes ≡ codes "fault " ++ (word.now ++ decimal number) ++ newline ∷ [] }
 {
     let mut words = ArrayString::<48>::new();
-    words.push_str("script ");
-    push_number(&mut words, number);
-    line_of(words.as_str())
-}
-
-/// The line of a number that is outside the range of a guest.
-fn guest_line(number: u64) -> ArrayString<64>
-    ensures { result.bytes ≡ codes "fault " ++ (codes "guest " ++ decimal number) ++ newline ∷ [] }
-{
-    let mut words = ArrayString::<48>::new();
-    words.push_str("guest ");
+    words.push_str(word);
     push_number(&mut words, number);
     line_of(words.as_str())
 }

@@ -32,6 +32,7 @@ use Rattle.outcomes.specs.Statuses.{fault_status}
 use Rattle.outcomes.specs.Told.{TellsBadScript, TellsBig, TellsBigFile, TellsBoth, TellsFaulty}
 use Rattle.outcomes.specs.Told.{TellsFaultyProgram, TellsGood, TellsGoodFiles}
 use Rattle.command_words.specs.Commands as words
+use Rattle.command_words.specs.declared.commands.Guest.{Guest as AskedGuest}
 
 -- a script whose lines are all allowed has no bad line
 allowed_not_bad : (s : Setting) (text : List ℕ) (log : List Entry) (n : ℕ) → IsPlayedRun s text log
@@ -107,14 +108,22 @@ same_first files program script limits n both refused =
     (same_start files program script limits refused.image both refused.taken) refused.first in
     subst (λ text. IsFirstBadLine (setting_of both.image limits) text n) lines first
 
+-- none but a guest is outside its range
+of_guest : (P : Needs → Type 0) (needs : Needs) (n : ℕ)
+    → ((guest : AskedGuest) → IsOutsideGuest (Guest guest) n → P (Guest guest)) → IsOutsideGuest needs n → P needs
+of_guest P Nothing n holds outside = absurd outside
+of_guest P (Program program limits) n holds outside = absurd outside
+of_guest P (Script program script limits) n holds outside = absurd outside
+of_guest P (Guest guest) n holds outside = holds guest outside
+of_guest P (Pair pair) n holds outside = absurd outside
+
 -- what can't be where good files are told
 no_big_when_good : (files : Files) (needs : Needs) → TellsGoodFiles files needs → ¬ (HasBigFile files needs)
 no_big_when_good files Nothing told big = absurd told
 no_big_when_good files (Program program limits) told big =
     program_fits files program told.bytes limits told.told told.good big
 no_big_when_good files (Guest guest) told big = big
-no_big_when_good files (Script program script limits) told big =
-    no_big_file files program script limits told.both big
+no_big_when_good files (Script program script limits) told big = no_big_file files program script limits told.both big
 no_big_when_good files (Pair pair) told big = no_big_when_told_pair files pair told.all big
 
 no_refusal_when_good : (files : Files) (needs : Needs) (fault : ElfFault) → TellsGoodFiles files needs
@@ -139,11 +148,8 @@ no_bad_line_when_good files (Pair pair) n told refused = no_line_when_good_pair 
 
 no_guest_when_good : (files : Files) (needs : Needs) (n : ℕ) → TellsGoodFiles files needs
     → ¬ (IsOutsideGuest needs n)
-no_guest_when_good files Nothing n told outside = outside
-no_guest_when_good files (Program program limits) n told outside = outside
-no_guest_when_good files (Script program script limits) n told outside = outside
-no_guest_when_good files (Pair pair) n told outside = outside
-no_guest_when_good files (Guest guest) n told outside = absurd (cc (sym told ∙ outside.0))
+no_guest_when_good files needs n told outside =
+    of_guest (λ asked. ¬ (TellsGoodFiles files asked)) needs n (λ guest is size. absurd (cc (sym size ∙ is.0))) outside told
 
 -- a fault comes for a command's needs, for want of memory, or where there is no command
 no_usage : (files : Files) (command : Option words.Command) (Tells : Files → Needs → Type 0)
@@ -167,6 +173,38 @@ fault_when_good files command old new (fault.Guest number) told unread cause =
 fault_when_good files command old new (fault.Script number) told unread cause =
     absurd (no_bad_line_when_good files (needs_of command) number told cause)
 
+-- where this holds, each fault that the files or the guest cause has this status, and there is a command
+pub record Leaves (files : Files) (needs : Needs) (status : ℕ) : Type 0 where
+  pub some : ¬ (needs ≡ Nothing)
+  pub big : HasBigFile files needs → fault_status Big ≡ status
+  pub refused : (found : ElfFault) → IsRefusalOf files needs found → fault_status (Elf found) ≡ status
+  pub line : (number : ℕ) → IsScriptRefusalOf files needs number → fault_status (fault.Script number) ≡ status
+  pub guest : (number : ℕ) → IsOutsideGuest needs number → fault_status (fault.Guest number) ≡ status
+
+-- and where no read failed, no other fault is left but want of memory
+pub status_left : (files : Files) (command : Option words.Command) (old new : List ℕ → ℕ) (status : ℕ) (fault : Fault)
+    → Leaves files (needs_of command) status → ¬ (ReadFailed files (needs_of command) old new)
+    → IsCauseOf files command old new fault → (fault_status fault ≡ status) ⊎ (fault_status fault ≡ 7)
+status_left files command old new status Usage leaves unread cause = absurd (leaves.some (ap needs_of cause))
+status_left files command old new status Read leaves unread cause = absurd (unread cause)
+status_left files command old new status Memory leaves unread cause = inr refl
+status_left files command old new status Big leaves unread cause = inl (leaves.big cause)
+status_left files command old new status (Elf found) leaves unread cause = inl (leaves.refused found cause)
+status_left files command old new status (fault.Guest number) leaves unread cause = inl (leaves.guest number cause)
+status_left files command old new status (fault.Script number) leaves unread cause = inl (leaves.line number cause)
+
+-- a line is bad of a script beside a program, or of a pair's
+no_bad_line : (files : Files) (Tells : Needs → Type 0) (needs : Needs) (n : ℕ)
+    → ((program script : List ℕ) (limits : Limits) → Tells (Script program script limits)
+    → ¬ (IsScriptRefused files program script limits n))
+    → ((pair : words.PairRun) → Tells (Pair pair) → ¬ (IsScriptRefusalOf files (Pair pair) n)) → Tells needs
+    → ¬ (IsScriptRefusalOf files needs n)
+no_bad_line files Tells Nothing n beside of_pair told bad = bad
+no_bad_line files Tells (Program program limits) n beside of_pair told bad = bad
+no_bad_line files Tells (Guest guest) n beside of_pair told bad = bad
+no_bad_line files Tells (Script program script limits) n beside of_pair told bad = beside program script limits told bad
+no_bad_line files Tells (Pair pair) n beside of_pair told bad = of_pair pair told bad
+
 -- what can't be where a faulty program is told
 faulty_big : (files : Files) (program script : List ℕ) (limits : Limits) → TellsFaulty files program limits
     → ¬ (IsTooBig files program most_program_bytes ⊎ IsBigScript files program script limits)
@@ -185,13 +223,10 @@ no_big_when_faulty files (Pair pair) told big = no_big_when_faulty_pair files pa
 
 no_bad_line_when_faulty : (files : Files) (needs : Needs) (n : ℕ) → TellsFaultyProgram files needs
     → ¬ (IsScriptRefusalOf files needs n)
-no_bad_line_when_faulty files Nothing n told refused = absurd told
-no_bad_line_when_faulty files (Program program limits) n told refused = refused
-no_bad_line_when_faulty files (Guest guest) n told refused = absurd told
-no_bad_line_when_faulty files (Script program script limits) n told refused =
-    faulty_program files program limits refused.image told refused.taken
-no_bad_line_when_faulty files (Pair pair) n told refused =
-    not_taken_when_faulty_pair files pair refused.one refused.two told refused.taken
+no_bad_line_when_faulty files needs n told refused =
+    no_bad_line files (TellsFaultyProgram files) needs n
+    (λ program script limits faulty bad. faulty_program files program limits bad.image faulty bad.taken)
+    (λ pair faulty bad. not_taken_when_faulty_pair files pair bad.one bad.two faulty bad.taken) told refused
 
 pub unused_when_faulty : (files : Files) (needs : Needs) → TellsFaultyProgram files needs
     → ¬ (AreUsed files needs)
@@ -204,29 +239,15 @@ unused_when_faulty files (Script program script limits) told used =
 unused_when_faulty files (Pair pair) told used =
     not_taken_when_faulty_pair files pair used.1.one used.1.two told used.1.taken
 
-no_guest_when_faulty : (files : Files) (needs : Needs) (n : ℕ) → TellsFaultyProgram files needs
-    → ¬ (IsOutsideGuest needs n)
-no_guest_when_faulty files Nothing n told outside = outside
-no_guest_when_faulty files (Program program limits) n told outside = outside
-no_guest_when_faulty files (Script program script limits) n told outside = outside
-no_guest_when_faulty files (Guest guest) n told outside = told
-no_guest_when_faulty files (Pair pair) n told outside = outside
-
 -- where a faulty program is told, it is refused
-pub fault_when_faulty : (files : Files) (command : Option words.Command) (old new : List ℕ → ℕ) (fault : Fault)
-    → TellsFaultyProgram files (needs_of command) → ¬ (ReadFailed files (needs_of command) old new)
-    → IsCauseOf files command old new fault → (fault_status fault ≡ 3) ⊎ (fault_status fault ≡ 7)
-fault_when_faulty files command old new Usage told unread cause =
-    absurd (no_usage files command TellsFaultyProgram (λ never. never) told cause)
-fault_when_faulty files command old new Read told unread cause = absurd (unread cause)
-fault_when_faulty files command old new Memory told unread cause = inr refl
-fault_when_faulty files command old new Big told unread cause =
-    absurd (no_big_when_faulty files (needs_of command) told cause)
-fault_when_faulty files command old new (Elf fault) told unread cause = inl refl
-fault_when_faulty files command old new (fault.Guest number) told unread cause =
-    absurd (no_guest_when_faulty files (needs_of command) number told cause)
-fault_when_faulty files command old new (fault.Script number) told unread cause =
-    absurd (no_bad_line_when_faulty files (needs_of command) number told cause)
+pub left_by_faulty : (files : Files) (needs : Needs) → TellsFaultyProgram files needs → Leaves files needs 3
+left_by_faulty files needs told = record {
+  some = λ none. subst (TellsFaultyProgram files) none told;
+  big = λ big. absurd (no_big_when_faulty files needs told big);
+  refused = λ found refused. refl;
+  line = λ n refused. absurd (no_bad_line_when_faulty files needs n told refused);
+  guest = λ n outside. absurd (of_guest (λ asked. ¬ (TellsFaultyProgram files asked)) needs n (λ guest is never. never) outside told);
+}
 
 -- what can't be where a bad line is told
 no_big_when_bad_line : (files : Files) (needs : Needs) → TellsBadScript files needs
@@ -260,29 +281,15 @@ unused_when_bad_line files (Script program script limits) told used =
     (subst (λ text. IsPlayedRun (setting_of told.both.image limits) text used.2) lines run) told.first
 unused_when_bad_line files (Pair pair) told used = unused_when_bad_line_of_pair files pair told used.0 used.1
 
-no_guest_when_bad_line : (files : Files) (needs : Needs) (n : ℕ) → TellsBadScript files needs
-    → ¬ (IsOutsideGuest needs n)
-no_guest_when_bad_line files Nothing n told outside = outside
-no_guest_when_bad_line files (Program program limits) n told outside = outside
-no_guest_when_bad_line files (Script program script limits) n told outside = outside
-no_guest_when_bad_line files (Guest guest) n told outside = told
-no_guest_when_bad_line files (Pair pair) n told outside = outside
-
 -- where a bad line is told, the script is refused
-pub fault_when_bad_line : (files : Files) (command : Option words.Command) (old new : List ℕ → ℕ) (fault : Fault)
-    → TellsBadScript files (needs_of command) → ¬ (ReadFailed files (needs_of command) old new)
-    → IsCauseOf files command old new fault → (fault_status fault ≡ 4) ⊎ (fault_status fault ≡ 7)
-fault_when_bad_line files command old new Usage told unread cause =
-    absurd (no_usage files command TellsBadScript (λ never. never) told cause)
-fault_when_bad_line files command old new Read told unread cause = absurd (unread cause)
-fault_when_bad_line files command old new Memory told unread cause = inr refl
-fault_when_bad_line files command old new Big told unread cause =
-    absurd (no_big_when_bad_line files (needs_of command) told cause)
-fault_when_bad_line files command old new (Elf fault) told unread cause =
-    absurd (no_refusal_when_bad_line files (needs_of command) fault told cause)
-fault_when_bad_line files command old new (fault.Guest number) told unread cause =
-    absurd (no_guest_when_bad_line files (needs_of command) number told cause)
-fault_when_bad_line files command old new (fault.Script number) told unread cause = inl refl
+pub left_by_bad_line : (files : Files) (needs : Needs) → TellsBadScript files needs → Leaves files needs 4
+left_by_bad_line files needs told = record {
+  some = λ none. subst (TellsBadScript files) none told;
+  big = λ big. absurd (no_big_when_bad_line files needs told big);
+  refused = λ found refused. absurd (no_refusal_when_bad_line files needs found told refused);
+  line = λ n refused. refl;
+  guest = λ n outside. absurd (of_guest (λ asked. ¬ (TellsBadScript files asked)) needs n (λ guest is never. never) outside told);
+}
 
 -- what can't be where a file that is too big is told
 no_run_when_big : (files : Files) (program script text : List ℕ) (limits : Limits) (image : Image)
@@ -308,14 +315,11 @@ no_refusal_when_big files (Pair pair) fault told refused = no_refusal_when_big_p
 
 no_bad_line_when_big : (files : Files) (needs : Needs) (n : ℕ) → TellsBigFile files needs
     → ¬ (IsScriptRefusalOf files needs n)
-no_bad_line_when_big files Nothing n told refused = absurd told
-no_bad_line_when_big files (Program program limits) n told refused = refused
-no_bad_line_when_big files (Guest guest) n told refused = absurd told
-no_bad_line_when_big files (Script program script limits) n told refused =
-    no_run_when_big files program script refused.lines limits refused.image told refused.taken
-    refused.read.read refused.read.fits
-no_bad_line_when_big files (Pair pair) n told refused =
-    unused_when_big_pair files pair refused.one refused.two refused.lines told refused.taken refused.read
+no_bad_line_when_big files needs n told refused =
+    no_bad_line files (TellsBigFile files) needs n
+    (λ program script limits big bad.
+    no_run_when_big files program script bad.lines limits bad.image big bad.taken bad.read.read bad.read.fits)
+    (λ pair big bad. unused_when_big_pair files pair bad.one bad.two bad.lines big bad.taken bad.read) told refused
 
 pub unused_when_big : (files : Files) (needs : Needs) → TellsBigFile files needs → ¬ (AreUsed files needs)
 unused_when_big files Nothing told used = absurd told
@@ -326,72 +330,28 @@ unused_when_big files (Script program script limits) told used =
 unused_when_big files (Pair pair) told used =
     unused_when_big_pair files pair used.1.one used.1.two used.1.lines told used.1.taken used.1.read
 
-no_guest_when_big : (files : Files) (needs : Needs) (n : ℕ) → TellsBigFile files needs
-    → ¬ (IsOutsideGuest needs n)
-no_guest_when_big files Nothing n told outside = outside
-no_guest_when_big files (Program program limits) n told outside = outside
-no_guest_when_big files (Script program script limits) n told outside = outside
-no_guest_when_big files (Guest guest) n told outside = told
-no_guest_when_big files (Pair pair) n told outside = outside
-
 -- where a file that is too big is told, that is said
-pub fault_when_big : (files : Files) (command : Option words.Command) (old new : List ℕ → ℕ) (fault : Fault)
-    → TellsBigFile files (needs_of command) → ¬ (ReadFailed files (needs_of command) old new)
-    → IsCauseOf files command old new fault → (fault_status fault ≡ 8) ⊎ (fault_status fault ≡ 7)
-fault_when_big files command old new Usage told unread cause =
-    absurd (no_usage files command TellsBigFile (λ never. never) told cause)
-fault_when_big files command old new Read told unread cause = absurd (unread cause)
-fault_when_big files command old new Memory told unread cause = inr refl
-fault_when_big files command old new Big told unread cause = inl refl
-fault_when_big files command old new (Elf fault) told unread cause =
-    absurd (no_refusal_when_big files (needs_of command) fault told cause)
-fault_when_big files command old new (fault.Guest number) told unread cause =
-    absurd (no_guest_when_big files (needs_of command) number told cause)
-fault_when_big files command old new (fault.Script number) told unread cause =
-    absurd (no_bad_line_when_big files (needs_of command) number told cause)
+pub left_by_big : (files : Files) (needs : Needs) → TellsBigFile files needs → Leaves files needs 8
+left_by_big files needs told = record {
+  some = λ none. subst (TellsBigFile files) none told;
+  big = λ big. refl;
+  refused = λ found refused. absurd (no_refusal_when_big files needs found told refused);
+  line = λ n refused. absurd (no_bad_line_when_big files needs n told refused);
+  guest = λ n outside. absurd (of_guest (λ asked. ¬ (TellsBigFile files asked)) needs n (λ guest is never. never) outside told);
+}
 
 -- a guest that doesn't take its size leaves nothing else: no output, and no other fault but want of memory
 pub unused_when_outside : (files : Files) (needs : Needs) (n : ℕ) → IsOutsideGuest needs n → ¬ (AreUsed files needs)
-unused_when_outside files Nothing n outside used = outside
-unused_when_outside files (Program program limits) n outside used = outside
-unused_when_outside files (Script program script limits) n outside used = outside
-unused_when_outside files (Guest guest) n outside used = absurd (cc (sym used ∙ outside.0))
-unused_when_outside files (Pair pair) n outside used = outside
+unused_when_outside files needs n outside used =
+    of_guest (λ asked. ¬ (AreUsed files asked)) needs n (λ guest is size. absurd (cc (sym size ∙ is.0))) outside used
 
-no_big_when_outside : (files : Files) (needs : Needs) (n : ℕ) → IsOutsideGuest needs n → ¬ (HasBigFile files needs)
-no_big_when_outside files Nothing n outside big = outside
-no_big_when_outside files (Program program limits) n outside big = outside
-no_big_when_outside files (Script program script limits) n outside big = outside
-no_big_when_outside files (Guest guest) n outside big = big
-no_big_when_outside files (Pair pair) n outside big = outside
-
-no_refusal_when_outside : (files : Files) (needs : Needs) (n : ℕ) (fault : ElfFault) → IsOutsideGuest needs n
-    → ¬ (IsRefusalOf files needs fault)
-no_refusal_when_outside files Nothing n fault outside refused = outside
-no_refusal_when_outside files (Program program limits) n fault outside refused = outside
-no_refusal_when_outside files (Script program script limits) n fault outside refused = outside
-no_refusal_when_outside files (Guest guest) n fault outside refused = refused
-no_refusal_when_outside files (Pair pair) n fault outside refused = outside
-
-no_bad_line_when_outside : (files : Files) (needs : Needs) (n line : ℕ) → IsOutsideGuest needs n
-    → ¬ (IsScriptRefusalOf files needs line)
-no_bad_line_when_outside files Nothing n line outside refused = outside
-no_bad_line_when_outside files (Program program limits) n line outside refused = outside
-no_bad_line_when_outside files (Script program script limits) n line outside refused = outside
-no_bad_line_when_outside files (Guest guest) n line outside refused = refused
-no_bad_line_when_outside files (Pair pair) n line outside refused = outside
-
-pub fault_when_outside : (files : Files) (command : Option words.Command) (old new : List ℕ → ℕ) (fault : Fault) (n : ℕ)
-    → IsOutsideGuest (needs_of command) n → ¬ (ReadFailed files (needs_of command) old new)
-    → IsCauseOf files command old new fault → (fault_status fault ≡ 9) ⊎ (fault_status fault ≡ 7)
-fault_when_outside files command old new Usage n outside unread cause =
-    absurd (no_usage files command (λ f needs. IsOutsideGuest needs n) (λ never. never) outside cause)
-fault_when_outside files command old new Read n outside unread cause = absurd (unread cause)
-fault_when_outside files command old new Memory n outside unread cause = inr refl
-fault_when_outside files command old new Big n outside unread cause =
-    absurd (no_big_when_outside files (needs_of command) n outside cause)
-fault_when_outside files command old new (Elf fault) n outside unread cause =
-    absurd (no_refusal_when_outside files (needs_of command) n fault outside cause)
-fault_when_outside files command old new (fault.Guest number) n outside unread cause = inl refl
-fault_when_outside files command old new (fault.Script number) n outside unread cause =
-    absurd (no_bad_line_when_outside files (needs_of command) n number outside cause)
+pub left_by_outside : (files : Files) (needs : Needs) (n : ℕ) → IsOutsideGuest needs n → Leaves files needs 9
+left_by_outside files needs n outside = record {
+  some = λ none. subst (λ (asked : Needs). IsOutsideGuest asked n) none outside;
+  big = λ big. absurd (of_guest (λ asked. ¬ (HasBigFile files asked)) needs n (λ guest is never. never) outside big);
+  refused = λ found refused.
+      absurd (of_guest (λ asked. ¬ (IsRefusalOf files asked found)) needs n (λ guest is never. never) outside refused);
+  line = λ number refused.
+      absurd (of_guest (λ asked. ¬ (IsScriptRefusalOf files asked number)) needs n (λ guest is never. never) outside refused);
+  guest = λ number also. refl;
+}

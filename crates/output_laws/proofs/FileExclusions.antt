@@ -41,19 +41,23 @@ faulty_not_taken files name bytes limits fault image told faulty taken =
     good_not_faulty limits taken.bytes bytes fault taken.good faulty
     (sym (read_as_told files name taken.bytes bytes taken.read told))
 
+-- what was read of a file that is too big doesn't fit
+big_not_read : (files : Files) (name bytes read : List ℕ) → files name ≡ Some bytes → most_program_bytes < length bytes
+    → IsReadAs files name read → ¬ (length read ≤ most_program_bytes)
+big_not_read files name bytes read told big is fits =
+    let same = read_as_told files name read bytes is told in
+    let long = subst (λ b. most_program_bytes < length b) (sym same) big in
+    omega (arith, long, fits)
+
 pub big_not_taken : (files : Files) (name bytes : List ℕ) (limits : Limits) (image : Image)
     → files name ≡ Some bytes → most_program_bytes < length bytes → ¬ (IsProgram files name limits image)
 big_not_taken files name bytes limits image told big taken =
-    let same = read_as_told files name taken.bytes bytes taken.read told in
-    let long = subst (λ b. most_program_bytes < length b) (sym same) big in
-    omega (arith, long, taken.good.fits)
+    big_not_read files name bytes taken.bytes told big taken.read taken.good.fits
 
 pub big_not_refused : (files : Files) (name bytes : List ℕ) (limits : Limits) (fault : ElfFault)
     → files name ≡ Some bytes → most_program_bytes < length bytes → ¬ (IsRefused files name limits fault)
 big_not_refused files name bytes limits fault told big refused =
-    let same = read_as_told files name refused.bytes bytes refused.read told in
-    let long = subst (λ b. most_program_bytes < length b) (sym same) big in
-    omega (arith, long, refused.faulty.fits)
+    big_not_read files name bytes refused.bytes told big refused.read refused.faulty.fits
 
 -- the program is good
 pub program_fits : (files : Files) (name bytes : List ℕ) (limits : Limits) → files name ≡ Some bytes

@@ -28,7 +28,7 @@ use Rattle.outcomes.specs.PlayedPairs.{IsPlayedPair}
 use Rattle.outcomes.specs.Outputs.{IsDrawnAfter, IsOutputOf, IsPlainOutputOf, IsPlainRunOf, plain_text, setting_for}
 use Rattle.outcomes.specs.Programs.{Files, IsProgram, asks_of}
 use Rattle.outcomes.specs.Runs.{IsPlayedRun}
-use Rattle.outcomes.specs.Told.{AreTold, TellsGoodFiles}
+use Rattle.outcomes.specs.Told.{AreTold, TellsGood, TellsGoodFiles}
 use Rattle.output_laws.proofs.Exclusions.{AreUsed, used_by_output}
 use Rattle.output_laws.proofs.OneExploration.{one_account}
 use Rattle.output_laws.proofs.OnePairRun.{one_played_pair}
@@ -167,16 +167,19 @@ read_is_told : (o : Option (List ℕ)) (bytes : List ℕ) → IsSome o → IfSom
 read_is_told None bytes told read = absurd cc
 read_is_told (Some x) bytes told read = ap Some (sym read)
 
+-- a program that was taken is told, and good
+abbrev taken_is_good : (files : Files) (name : List ℕ) (limits : Limits) (image : Image) → IsSome (files name)
+    → IsProgram files name limits image → TellsGood files name limits
+taken_is_good files name limits image told taken = record {
+  bytes = taken.bytes;
+  told = read_is_told (files name) taken.bytes told taken.read;
+  good = taken.good;
+}
+
 used_are_good : (files : Files) (needs : Needs) → ¬ (needs ≡ Nothing) → AreTold files needs
     → AreUsed files needs → TellsGoodFiles files needs
 used_are_good files Nothing some told used = absurd (some refl)
-used_are_good files (Program program limits) some told used =
-    record {
-      bytes = used.1.bytes;
-      told = read_is_told (files program) used.1.bytes told used.1.read;
-      good =
-          used.1.good;
-    }
+used_are_good files (Program program limits) some told used = taken_is_good files program limits used.0 told used.1
 used_are_good files (Guest guest) some told used = absurd told
 used_are_good files (Script program script limits) some told used = record {
   both = record {
@@ -196,18 +199,10 @@ used_are_good files (Pair pair) some told used =
     let made = used.1 in
     record {
       all = record {
-        first = record {
-          bytes = made.taken.first.bytes;
-          told = read_is_told (files pair.first) made.taken.first.bytes told.0 made.taken.first.read;
-          good = made.taken.first.good;
-        };
+        first = taken_is_good files pair.first pair.limits made.one told.0 made.taken.first;
         one = made.one;
         first_loaded = made.taken.first.loaded;
-        second = record {
-          bytes = made.taken.second.bytes;
-          told = read_is_told (files pair.second) made.taken.second.bytes told.1 made.taken.second.read;
-          good = made.taken.second.good;
-        };
+        second = taken_is_good files pair.second pair.limits made.two told.1 made.taken.second;
         two = made.two;
         second_loaded = made.taken.second.loaded;
         lines = made.lines;

@@ -6,7 +6,7 @@ use Rattle.mach_types.specs.Bytes.{after_write, after_writes, byte_after, byte_o
 use Rattle.mach_types.specs.Kernel.Pages.{can_read, can_write}
 use Rattle.mach_types.specs.declared.user_memory.Write.{Write}
 use Rattle.mach_types.specs.declared.user_memory.Write.TheVariants.{Stored, Zeroed}
-use Rattle.page_map.specs.Map.{IsAlike, Map, are_visible, byte_in, can_write_in, held_in, is_visible, page_in, permission_in}
+use Rattle.page_map.specs.Map.{IsAlike, IsStored, Map, are_visible, byte_in, can_write_in, held_in, is_visible, page_in, permission_in}
 use Rattle.page_map.specs.MapLaws.{byte_in-readable}
 use Rattle.page_map.proofs.Accesses.{both_differ, each_byte-all, each_byte-at, true_or_not}
 use Rattle.page_map.proofs.Readings.{if-held, if-permission}
@@ -35,6 +35,17 @@ pub unwritable_stays : (m m' : Map) (made : Bool) (at size v : ℕ) → made ≡
 unwritable_stays m m' false at size v answer held a fails = held a
 unwritable_stays m m' true at size v answer held a fails =
     held a ∙ same_byte at size v a (held_in m a) (outside (can_write_in m) at size a (sym answer) fails)
+
+pub stored-alike : (m m' : Map) (made : Bool) (at size v : ℕ) → made ≡ each_byte (can_write_in m) at size
+    → IsStored m m' made (record { at = at; size = size; value = v }) → IsAlike m m'
+stored-alike m m' made at size v answer set = record {
+  permissions = set.permissions;
+  code = set.code;
+  unwritable = unwritable_stays m m' made at size v answer set.held;
+  free = set.free;
+  break_at = set.break_at;
+  break_start = set.break_start;
+}
 
 -- bytes that can be written can be read
 some_is : (o : Option ℕ) → IsSome o → is_some o ≡ true

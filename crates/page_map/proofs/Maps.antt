@@ -212,22 +212,27 @@ module _ (m : Map) (capacity : ℕ) (kept : IsMap m capacity) where
           numbers = omega arith;
         }
 
+  -- other bytes are in the frames
+  pub repooled-map : (pool : List (Option (List ℕ))) → AreHeld pool (frames_of m.mapped) → free_count pool ≡ free_count m.pool
+      → IsMap (record { pool = pool; mapped = m.mapped; table = m.table; break_at = m.break_at; break_start = m.break_start }) capacity
+  repooled-map pool held same = record {
+    held = held;
+    placed = kept.placed;
+    entered = kept.entered;
+    permissions = kept.permissions;
+    lie = kept.lie;
+    break_from = kept.break_from;
+    break_to = kept.break_to;
+    room = rw same kept.room;
+    numbers = rw same kept.numbers;
+  }
+
   -- the frame of a mapped page is written
   module _ (number i : ℕ) (p : MappedPage) (bytes : List ℕ) (place : place_in m.table number ≡ Some i) (at : slice_get m.mapped i ≡ Some p) where
     pub written-map : IsMap (record { pool = slice_set m.pool p.frame (Some bytes); mapped = m.mapped; table = m.table; break_at = m.break_at; break_start = m.break_start }) capacity
     written-map =
-        let same : free_count (slice_set m.pool p.frame (Some bytes)) ≡ free_count m.pool = free_count-writing m.pool p.frame bytes (page-taken i p at) in
-        record {
-          held = AreHeld-write m.pool (frames_of m.mapped) p.frame bytes kept.held;
-          placed = kept.placed;
-          entered = kept.entered;
-          permissions = kept.permissions;
-          lie = kept.lie;
-          break_from = kept.break_from;
-          break_to = kept.break_to;
-          room = rw same kept.room;
-          numbers = rw same kept.numbers;
-        }
+        repooled-map (slice_set m.pool p.frame (Some bytes)) (AreHeld-write m.pool (frames_of m.mapped) p.frame bytes kept.held)
+        (free_count-writing m.pool p.frame bytes (page-taken i p at))
 
     pub written-free : free_count (slice_set m.pool p.frame (Some bytes)) ≡ free_count m.pool
     written-free = free_count-writing m.pool p.frame bytes (page-taken i p at)

@@ -65,38 +65,7 @@ removed-by m number i size p last mapped' table table' place within is_size is_p
 
 module _ (m : Map) (capacity : ℕ) (kept : IsMap m capacity) (number : ℕ) (p : MappedPage) (mapped' : List MappedPage) (table' : Table)
     (gone : IsRemoved m number p mapped' table') where
-  abbrev i : ℕ
-  i = gone.i
-
-  abbrev j : ℕ
-  j = gone.j
-
-  abbrev last : MappedPage
-  last = gone.last
-
-  place : place_in m.table number ≡ Some i
-  place = gone.place
-
-  at : slice_get m.mapped i ≡ Some p
-  at = gone.there
-
-  end : slice_get m.mapped j ≡ Some last
-  end = gone.ends
-
-  is_end : j + 1 ≡ length m.mapped
-  is_end = gone.is_end
-
-  shorter : length mapped' ≡ j
-  shorter = gone.shorter
-
-  moved : j ≢ i → slice_get mapped' i ≡ Some last
-  moved = gone.moved
-
-  stays : (k : ℕ) → k ≢ i → k < j → slice_get mapped' k ≡ slice_get m.mapped k
-  stays = gone.stays
-
-  places : (n : ℕ) → place_in table' n ≡ cond (nat_eq n number) None (cond (nat_eq n last.number) (Some i) (place_in m.table n))
-  places = gone.places
+  open gone use {i, j, last, place, there as at, ends as end, is_end, shorter, moved, stays, places}
 
   abbrev after : Map
   after = record { pool = slice_set m.pool p.frame None; mapped = mapped'; table = table'; break_at = m.break_at; break_start = m.break_start }

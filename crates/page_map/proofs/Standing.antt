@@ -14,8 +14,8 @@ use Rattle.page_map.specs.Mapping.{IsMap, frames_of}
 use Rattle.page_map.specs.Starting.{AreLaidOut, IsStartPage, StandsWith, image_page, mapped_page, stack_page}
 use Rattle.page_map.specs.Table.{place_in}
 use Rattle.page_map.specs.declared.mapped_page.MappedPage.{MappedPage}
-use Rattle.page_map.proofs.Maps.{one-page, page-none, page-some, page-taken, place_or_none}
-use Rattle.page_map.proofs.Starts.{image-permission, none-below, not-return, not-stack, return-run, stack-run, start-page}
+use Rattle.page_map.proofs.Maps.{one-page, page-none, page-some, page-taken, place_or_none, repooled-map}
+use Rattle.page_map.proofs.Starts.{by-place, image-permission, none-below, not-return, not-stack, return-run, stack-run, start-page}
 
 none-tail : (b : Bool) (p : ImagePage) (o : Option ImagePage) → cond b (Some p) o ≡ None → o ≡ None
 none-tail true p o none = cc
@@ -55,19 +55,7 @@ module _ (m : Map) (capacity : ℕ) (kept : IsMap m capacity) where
 
   -- once all frames are zero
   pub zeroed-map : IsMap (record { pool = zeroed m.pool; mapped = m.mapped; table = m.table; break_at = m.break_at; break_start = m.break_start }) capacity
-  zeroed-map =
-      let same : free_count (zeroed m.pool) ≡ free_count m.pool = free_count-zeroed m.pool in
-      record {
-        held = AreHeld-zeroed m.pool (frames_of m.mapped) kept.held;
-        placed = kept.placed;
-        entered = kept.entered;
-        permissions = kept.permissions;
-        lie = kept.lie;
-        break_from = kept.break_from;
-        break_to = kept.break_to;
-        room = rw same kept.room;
-        numbers = rw same kept.numbers;
-      }
+  zeroed-map = repooled-map m capacity kept (zeroed m.pool) (AreHeld-zeroed m.pool (frames_of m.mapped) kept.held) (free_count-zeroed m.pool)
 
   pub zeroed-pages : (n : ℕ)
       → page_in (record { pool = zeroed m.pool; mapped = m.mapped; table = m.table; break_at = m.break_at; break_start = m.break_start }) n
@@ -198,16 +186,7 @@ module _ (pages : List ImagePage) (n : ℕ) (permission : Option ℕ) (bytes : L
         written ∙ (rw (run, ne_eqb n 0x3FFFFF0 two) (left-over (image_page pages n) permission given))
 
     laid-after : after ≡ cond (is_in stack_run n) (Some stack_page) (cond (nat_eq n 0x3FFFFF0) (Some (record { permission = 5; bytes = bytes })) (image_page pages n))
-    laid-after = elim (cases_lt n 0x3FFFF00) [
-      | inl low ↦ laid-image (inl low) (λ e. omega arith)
-      | inr from ↦ elim (cases_lt n 0x3FFFF40) [
-        | inl to ↦ laid-stack from to
-        | inr high ↦ elim (cases_eq n 0x3FFFFF0) [
-          | inl same ↦ laid-return same
-          | inr two ↦ laid-image (inr high) two
-        ]
-      ]
-    ]
+    laid-after = by-place n laid-image laid-stack laid-return
 
     pub refilled : IfSome (image_page pages n) (λ p. (k : ℕ) → slice_index p.bytes k < 256) → ((k : ℕ) → slice_index bytes k ≡ return_byte k)
         → ((k : ℕ) → slice_index bytes k < 256) → IsStartPage pages n after

@@ -1,5 +1,5 @@
 -- The pages of a process at its start.
-use Rattle.std.proofs.Common.{◌≡◌, ◌≢◌, ℕ, zero, suc, ◌+◌, ◌-◌, ◌/◌, ◌%◌, ◌^◌, ◌<◌, ◌≤◌, ◌⊎◌, ◌&&◌, inl, inr, Bool, true, false, cond, List, [], ◌∷◌, ◌++◌, Option, Some, None, is_some, length, get_or, map, take, nat_eq, nat_le, nat_lt, slice_index, refl, sym, ap, ◌∙◌, subst, arith, add-one, eq-eqb}
+use Rattle.std.proofs.Common.{◌≡◌, ◌≢◌, ℕ, zero, suc, ◌+◌, ◌-◌, ◌/◌, ◌%◌, ◌^◌, ◌<◌, ◌≤◌, ◌⊎◌, ◌&&◌, inl, inr, Bool, true, false, cond, List, [], ◌∷◌, ◌++◌, Option, Some, None, is_some, length, get_or, map, take, nat_eq, nat_le, nat_lt, slice_index, refl, sym, ap, ◌∙◌, subst, arith, eq-eqb}
 use Rattle.std.specs.Prelude.{All, IfSome}
 use Rattle.std.specs.Bool.{OnTrue}
 use Rattle.std.specs.List.Sorted.{IsStrictlyIncreasing}
@@ -15,6 +15,7 @@ use Rattle.mach_types.specs.declared.user_memory.Store.{Store}
 use Rattle.elf_load.specs.Images.{end_of, numbers}
 use Rattle.elf_load.specs.Start.{Program, image_byte, image_run, loaded_byte, page_byte, page_of, return_byte, return_run, name_word, return_words, stack_run, start_byte, start_runs, start_stores, start_words, stored_from}
 use Rattle.elf_load.specs.declared.image.ImagePage.{ImagePage}
+use Rattle.elf_load.proofs.Laws.{rises}
 use Rattle.frame_pool.specs.Pool.{fresh}
 use Rattle.frame_pool.proofs.Laws.{fresh-at}
 use Rattle.page_map.specs.Map.{Map, Page, byte_at, byte_if, bytes_if, can_write_in, held_in, may_write, page_in, permission_in}
@@ -70,16 +71,6 @@ return-at zeros one two first second empty long long' made write made' write' k 
 pub made-length : (zeros one : List ℕ) (v : ℕ) (made : Bool) → made ≡ true → OnTrue made (one ≡ with_word zeros 0 4 v) → length zeros ≡ 4096 → length one ≡ 4096
 made-length zeros one v made done write long =
     ap length (on-true made (one ≡ with_word zeros 0 4 v) done write) ∙ length-with_word zeros 0 4 v (omega arith) ∙ long
-
--- among rising numbers, a later one is greater
-rises : (xs : List ℕ) (i j : ℕ) → IsStrictlyIncreasing xs → i < j → j < length xs → get_or xs i 0 < get_or xs j 0
-rises xs i zero up lt within = absurd (omega arith)
-rises xs i (suc j) up lt within =
-    let next : get_or xs j 0 < get_or xs (suc j) 0 = rw add-one at (up j (omega arith)) in
-    elim (cases_eq i j) [
-      | inl same ↦ rw same next
-      | inr ne ↦ let below = rises xs i j up (omega arith) (omega arith) in omega (arith, below, next)
-    ]
 
 none-take : (pages : List ImagePage) (n i : ℕ) → ((k : ℕ) → k < i → k < length (numbers pages) → get_or (numbers pages) k 0 ≢ n) → page_of (take i pages) n ≡ None
 none-take [] n zero h = refl
@@ -189,6 +180,19 @@ zero-stack k = ap (λ x. x % 256) (fresh-at k)
 pub return-run : (n : ℕ) → is_in return_run n ≡ nat_eq 0x3FFFFF0 n
 return-run n = one-run 0x3FFFFF0 n
 
+-- a page is the program's, or of the stack, or the one that handlers return to
+pub by-place : {P : Type 0} (n : ℕ) → ((n < 0x3FFFF00) ⊎ (0x3FFFF40 ≤ n) → n ≢ 0x3FFFFF0 → P) → (0x3FFFF00 ≤ n → n < 0x3FFFF40 → P) → (n ≡ 0x3FFFFF0 → P) → P
+by-place n image stack return = elim (cases_lt n 0x3FFFF00) [
+  | inl low ↦ image (inl low) (λ e. omega arith)
+  | inr from ↦ elim (cases_lt n 0x3FFFF40) [
+    | inl to ↦ stack from to
+    | inr high ↦ elim (cases_eq n 0x3FFFFF0) [
+      | inl same ↦ return same
+      | inr two ↦ image (inr high) two
+    ]
+  ]
+]
+
 -- the pages of an image, the return page and those of the stack, mapped in this order, are those of the start
 module _ (pages : List ImagePage) (n : ℕ) (image laid after : Option Page) (bytes : List ℕ)
     (mapped : image ≡ image_page pages n) (small : IfSome image (λ p. (k : ℕ) → slice_index p.bytes k < 256))
@@ -222,16 +226,7 @@ module _ (pages : List ImagePage) (n : ℕ) (image laid after : Option Page) (by
       })
 
   pub start-page : IsStartPage pages n after
-  start-page = elim (cases_lt n 0x3FFFF00) [
-    | inl low ↦ start-image (inl low) (λ e. omega arith)
-    | inr from ↦ elim (cases_lt n 0x3FFFF40) [
-      | inl to ↦ start-stack from to
-      | inr high ↦ elim (cases_eq n 0x3FFFFF0) [
-        | inl same ↦ start-return same
-        | inr two ↦ start-image (inr high) two
-      ]
-    ]
-  ]
+  start-page = by-place n start-image start-stack start-return
 
 byte-if : (bit offset byte : ℕ) (o : Option Page) (permission : Option ℕ) → option_map (λ (p : Page). p.permission) o ≡ permission
     → IfSome o (λ p. slice_index p.bytes offset % 256 ≡ byte) → option_map (byte_at offset) (bytes_if bit o) ≡ cond (lets bit permission) (Some byte) None

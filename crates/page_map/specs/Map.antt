@@ -3,9 +3,10 @@
 use Rattle.std.specs.Prelude.{ℕ, ◌≡◌, ◌+◌, ◌/◌, ◌%◌, ◌&&◌, Bool, true, false, List, [], ◌∷◌, if◌then◌else◌, Option, Some, None, is_some, length, slice_get, slice_index}
 use Rattle.std.specs.Option.{option_and_then, option_map}
 use Rattle.byte_views.specs.Words.{with_word}
-use Rattle.mach_types.specs.Bytes.{each_byte}
+use Rattle.mach_types.specs.Bytes.{after_write, each_byte}
 use Rattle.mach_types.specs.Kernel.Pages.{PageRun, can_read, can_write, is_in, lets}
 use Rattle.mach_types.specs.declared.address_space.TheConstants.{PAGE_SIZE}
+use Rattle.mach_types.specs.declared.user_memory.Store.{Store}
 use Rattle.mach_types.specs.declared.user_memory.Write.{Write}
 use Rattle.mach_types.specs.declared.user_memory.Write.TheVariants.{Stored, Zeroed}
 use Rattle.frame_pool.specs.Pool.{free_count, fresh}
@@ -132,6 +133,16 @@ pub record IsAlike (m : Map) (m' : Map) : Type 0 where
   pub permissions : (n : ℕ) → permission_in m' n ≡ permission_in m n
   pub code : (a : ℕ) → code_in m' a ≡ code_in m a
   pub unwritable : (a : ℕ) → can_write_in m a ≡ false → held_in m' a ≡ held_in m a
+  pub free : free_in m' ≡ free_in m
+  pub break_at : break_in m' ≡ break_in m
+  pub break_start : break_start_in m' ≡ break_start_in m
+
+-- a store was made, or was refused, and nothing else changed
+pub record IsStored (m : Map) (m' : Map) (made : Bool) (s : Store) : Type 0 where
+  pub bytes : (a : ℕ) → byte_in m' a ≡ after_write made s (byte_in m) a
+  pub held : (a : ℕ) → held_in m' a ≡ after_write made s (held_in m) a
+  pub permissions : (n : ℕ) → permission_in m' n ≡ permission_in m n
+  pub code : (a : ℕ) → code_in m' a ≡ code_in m a
   pub free : free_in m' ≡ free_in m
   pub break_at : break_in m' ≡ break_in m
   pub break_start : break_start_in m' ≡ break_start_in m

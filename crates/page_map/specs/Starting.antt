@@ -1,12 +1,13 @@
 -- The pages of a process at its start, page by page.
-use Rattle.std.specs.Prelude.{◌≡◌, ℕ, ◌+◌, ◌-◌, ◌%◌, ◌<◌, List, Option, Some, IfSome, length, slice_get, slice_index}
+use Rattle.std.specs.Prelude.{◌≡◌, ℕ, ◌+◌, ◌-◌, ◌/◌, ◌%◌, ◌<◌, if◌then◌else◌, List, Option, Some, None, IfSome, is_some, length, slice_get, slice_index}
 use Rattle.std.specs.Option.{option_map}
-use Rattle.mach_types.specs.Kernel.Pages.{permission_of}
-use Rattle.elf_load.specs.Start.{page_byte, page_of, start_runs}
+use Rattle.mach_types.specs.Kernel.Pages.{can_read, permission_of}
+use Rattle.elf_load.specs.Start.{code_byte, page_byte, page_of, program_of, start_byte, start_runs}
+use Rattle.elf_load.specs.declared.image.Image.{Image}
 use Rattle.elf_load.specs.declared.image.ImagePage.{ImagePage}
 use Rattle.mach_types.specs.declared.address_space.TheConstants.{FIRST_STACK_PAGE, RETURN_PAGE, STACK_PAGES}
 use Rattle.frame_pool.specs.Pool.{fresh}
-use Rattle.page_map.specs.Map.{Page}
+use Rattle.page_map.specs.Map.{Map, Page, byte_in, code_in, held_in, permission_in}
 use Rattle.page_map.specs.declared.mapped_page.MappedPage.{MappedPage}
 
 -- a page of an image, once it is mapped
@@ -25,6 +26,13 @@ stack_page = record { permission = 6; bytes = fresh }
 pub record IsStartPage (pages : List ImagePage) (n : ℕ) (page : Option Page) : Type 0 where
   pub permission : option_map (λ (p : Page). p.permission) page ≡ permission_of (start_runs pages) n
   pub bytes : IfSome page (λ p. (k : ℕ) → slice_index p.bytes k % 256 ≡ page_byte pages n k)
+
+-- the pages, their bytes and their code are those with which a program starts
+pub record IsStarted (image : Image) (m : Map) : Type 0 where
+  pub permissions : (n : ℕ) → permission_in m n ≡ permission_of (start_runs image.pages.items) n
+  pub bytes : (a : ℕ) → byte_in m a ≡ (if can_read (permission_of (start_runs image.pages.items) (a / 4096)) then Some (start_byte (program_of image) a) else None)
+  pub held : (a : ℕ) → held_in m a ≡ (if is_some (permission_of (start_runs image.pages.items) (a / 4096)) then Some (start_byte (program_of image) a) else None)
+  pub code : (a : ℕ) → code_in m a ≡ code_byte image.pages.items a
 
 -- a page with this number and this permission stands at a place
 pub record StandsWith (mapped : List MappedPage) (i n perm : ℕ) : Type 0 where

@@ -4,7 +4,7 @@ ghost use Rattle.std.specs.Prelude.{◌≡◌, ◌==◌, ℕ, ◌+◌, ◌*◌, 
 ghost use Rattle.std.specs.Option.{SomeIff};
 ghost use Rattle.byte_views.specs.Words.{word_at as number_at};
 ghost use Rattle.mach_types.specs.Bytes.{IsAccessSize, after_write, each_byte, word_at};
-ghost use Rattle.page_map.specs.Map.{IsAlike, break_in, break_start_in, byte_if, byte_in, bytes_if, can_write_in, code_in, free_in, held_in, may_write, page_in, permission_in};
+ghost use Rattle.page_map.specs.Map.{IsAlike, IsStored, break_in, break_start_in, byte_if, byte_in, bytes_if, can_write_in, code_in, free_in, held_in, may_write, page_in, permission_in};
 ghost use Rattle.page_map.specs.MapLaws.{alike_itself, alike_next, byte_in-ends, byte_in-readable, byte_in-small};
 
 use crate::map::{EXECUTE, PageMap, READ, WRITE};
@@ -161,15 +161,7 @@ impl PageMap {
         requires size { IsAccessSize size }
         requires page { at % 4096 + size ≤ 4096 }
         ensures answer { result ≡ each_byte (can_write_in self.old) at size }
-        ensures bytes { (a : ℕ) → byte_in self.new a
-            ≡ after_write result (record { at = at; size = size; value = value }) (byte_in self.old) a }
-        ensures permissions { (n : ℕ) → permission_in self.new n ≡ permission_in self.old n }
-        ensures held { (a : ℕ) → held_in self.new a
-            ≡ after_write result (record { at = at; size = size; value = value }) (held_in self.old) a }
-        ensures code { (a : ℕ) → code_in self.new a ≡ code_in self.old a }
-        ensures free { free_in self.new ≡ free_in self.old }
-        ensures break_at { break_in self.new ≡ break_in self.old }
-        ensures break_start { break_start_in self.new ≡ break_start_in self.old }
+        ensures stored { IsStored self.old self.new result (record { at = at; size = size; value = value }) }
     {
         if !self.can_write(at / PAGE_SIZE) {
             return false;
@@ -192,15 +184,7 @@ impl PageMap {
         requires size { IsAccessSize size }
         requires across { 4096 < at % 4096 + size }
         ensures answer { result ≡ each_byte (can_write_in self.old) at size }
-        ensures bytes { (a : ℕ) → byte_in self.new a
-            ≡ after_write result (record { at = at; size = size; value = value }) (byte_in self.old) a }
-        ensures permissions { (n : ℕ) → permission_in self.new n ≡ permission_in self.old n }
-        ensures held { (a : ℕ) → held_in self.new a
-            ≡ after_write result (record { at = at; size = size; value = value }) (held_in self.old) a }
-        ensures code { (a : ℕ) → code_in self.new a ≡ code_in self.old a }
-        ensures free { free_in self.new ≡ free_in self.old }
-        ensures break_at { break_in self.new ≡ break_in self.old }
-        ensures break_start { break_start_in self.new ≡ break_start_in self.old }
+        ensures stored { IsStored self.old self.new result (record { at = at; size = size; value = value }) }
     {
         if !self.writable_across(at, size) {
             return false;

@@ -9,7 +9,7 @@ ghost use Rattle.elf_load.specs.Images.{IsBootable, IsPermission, numbers};
 ghost use Rattle.elf_load.specs.Start.{code_byte, program_of, return_byte, start_byte, start_runs, stack_run, start_words, stored_from};
 ghost use Rattle.frame_pool.specs.Pool.{free_count, fresh};
 ghost use Rattle.page_map.specs.Map.{break_in, break_start_in, byte_in, can_write_in, code_in, frames_in, free_in, held_in, page_in, permission_in};
-ghost use Rattle.page_map.specs.Starting.{IsStartPage, image_page, stack_page};
+ghost use Rattle.page_map.specs.Starting.{IsStartPage, IsStarted, image_page, stack_page};
 
 use crate::map::PageMap;
 use byte_views::write_word;
@@ -107,7 +107,8 @@ impl PageMap {
         ensures break_start { IfOk result (λ m. break_start_in m ≡ image.now.break_at) }
     {
         let mut map = PageMap::empty(alloc, pool, image.break_at)?;
-        map.start(image);
+        map.lay_out(image);
+        map.write_start(image);
         Ok(map)
     }
 
@@ -134,41 +135,10 @@ impl PageMap {
         self.write_start(image);
     }
 
-    /// Maps the pages with which a program starts, over none, and writes what the kernel writes on the stack.
-    fn start(&mut self, image: &Image)
-        requires image { IsBootable (free_in self.old) image.now }
-        requires empty { (n : ℕ) → page_in self.old n ≡ None }
-        requires break_at { break_in self.old ≡ image.now.break_at }
-        requires break_start { break_start_in self.old ≡ image.now.break_at }
-        ensures permissions { (n : ℕ) → permission_in self.new n
-            ≡ permission_of (start_runs image.now.pages.items) n }
-        ensures bytes { (a : ℕ) → byte_in self.new a
-            ≡ (if can_read (permission_of (start_runs image.now.pages.items) (a / 4096))
-            then Some (start_byte (program_of image.now) a) else None) }
-        ensures held { (a : ℕ) → held_in self.new a
-            ≡ (if is_some (permission_of (start_runs image.now.pages.items) (a / 4096))
-            then Some (start_byte (program_of image.now) a) else None) }
-        ensures code { (a : ℕ) → code_in self.new a ≡ code_byte image.now.pages.items a }
-        ensures free { free_in self.new + 65 + length image.now.pages.items ≡ free_in self.old }
-        ensures break_at { break_in self.new ≡ break_in self.old }
-        ensures break_start { break_start_in self.new ≡ break_start_in self.old }
-    {
-        self.lay_out(image);
-        self.write_start(image);
-    }
-
     /// Writes what the kernel writes on the stack of a program, whose pages are mapped.
     fn write_start(&mut self, image: &Image)
         requires { (n : ℕ) → IsStartPage image.now.pages.items n (page_in self.old n) }
-        ensures permissions { (n : ℕ) → permission_in self.new n
-            ≡ permission_of (start_runs image.now.pages.items) n }
-        ensures bytes { (a : ℕ) → byte_in self.new a
-            ≡ (if can_read (permission_of (start_runs image.now.pages.items) (a / 4096))
-            then Some (start_byte (program_of image.now) a) else None) }
-        ensures held { (a : ℕ) → held_in self.new a
-            ≡ (if is_some (permission_of (start_runs image.now.pages.items) (a / 4096))
-            then Some (start_byte (program_of image.now) a) else None) }
-        ensures code { (a : ℕ) → code_in self.new a ≡ code_byte image.now.pages.items a }
+        ensures started { IsStarted image.now self.new }
         ensures free { free_in self.new ≡ free_in self.old }
         ensures break_at { break_in self.new ≡ break_in self.old }
         ensures break_start { break_start_in self.new ≡ break_start_in self.old }

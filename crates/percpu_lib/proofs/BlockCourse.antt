@@ -1,7 +1,7 @@
 -- A thread at the retry label of a block, whose hart is left undisturbed, is at the post-commit address after as many
 -- instructions as stand before it, by a sequence that is whole.
 use Rattle.std.proofs.Common.{◌≡◌, ℕ, zero, suc, ◌+◌, ◌*◌, ◌-◌, ◌%◌, ◌^◌, ◌<◌, ◌≤◌, ◌⊎◌, inl, inr, List, ◌++◌}
-use Rattle.std.proofs.Common.{[], ◌∷◌, refl, sym, ap, ◌∙◌, arith, subst, Bool, true, false, eqb, ltb}
+use Rattle.std.proofs.Common.{◌∷◌, refl, sym, ap, ◌∙◌, arith, subst, Bool, true, false, eqb, ltb}
 use Rattle.std.proofs.Common.{Option, Some, None, ℤ, pos, length, slice_get}
 use Rattle.std.proofs.lemmas.Bool.{cases_lt, lt-ltb}
 use Rattle.mach_types.proofs.Laws.{eqb_same}
@@ -495,17 +495,3 @@ module _ (s : Setting) (form : Form) (at : ℕ) (area : Area) (h t : ℕ) (law :
         chosen = λ some. absurd (omega arith);
         closed = λ some. absurd (omega arith);
       })) many
-
--- where each place like this is one like that
-pub is_brought : (s : Setting) (h n : ℕ) (log rest : List Entry) (This That : History → Type 0)
-    → ((now : History) → This now → That now) → Brings s h n This log rest → Brings s h n That log rest
-is_brought s h n log rest This That so it = record {
-  earlier = it.earlier;
-  entry = it.entry;
-  later = it.later;
-  stretch_is = it.stretch_is;
-  own = it.own;
-  executed = it.executed;
-  soon = it.soon;
-  there = so (history s (log ++ it.earlier ++ it.entry ∷ [])) it.there;
-}

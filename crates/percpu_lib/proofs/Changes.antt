@@ -1,5 +1,5 @@
 -- Registers of a block that brings a value out, and branches on equality.
-use Rattle.std.proofs.Common.{◌≡◌, ◌≢◌, ℕ, ◌%◌, refl, sym, ap, ◌∙◌, true, false, cond, eqb, ◌||◌, ℤ}
+use Rattle.std.proofs.Common.{◌≡◌, ◌≢◌, ℕ, ◌%◌, sym, ap, ◌∙◌, true, false, cond, eqb, ◌||◌, ℤ}
 use Rattle.std.proofs.lemmas.Bool.{false≢true, ne_eqb}
 use Rattle.mach_types.proofs.Laws.{eqb_same}
 use Rattle.mach_types.specs.Registers.{register}
@@ -26,9 +26,6 @@ pub scratch_not : (r v : ℕ) → is_scratch r ≡ true → is_scratch v ≡ fal
 scratch_not r v scratch kept same = false≢true (sym kept ∙ sym (ap is_scratch same) ∙ scratch)
 
 module _ (p : Slots) where
-  pub scratch_changed : (r : ℕ) → is_scratch r ≡ true → is_changed p r ≡ true
-  scratch_changed r is = ap (λ b. b || eqb r p.value) is
-
   pub not_changed : (r : ℕ) → is_scratch r ≡ false → r ≢ p.value → is_changed p r ≡ false
   not_changed r kept other = ap (λ b. b || eqb r p.value) kept ∙ ne_eqb r p.value other
 
@@ -53,9 +50,6 @@ module _ (p : Slots) where
 
     pub beside_value : (r x : ℕ) (temps : ℕ → ℕ) → is_scratch r ≡ true → put p.value x temps r ≡ temps r
     beside_value r x temps is = put_other p.value x temps r (scratch_not r p.value is slots.value)
-
-    pub zero_not_changed : is_changed p 0 ≡ false
-    zero_not_changed = not_changed 0 refl (λ is. slots.some_value (sym is))
 
 -- BRANCHES
 

@@ -9,6 +9,7 @@ use Rattle.std.proofs.lemmas.Bool.{and_parts, eqb-false, eqb-true, false≢true,
 use Rattle.std.proofs.lemmas.Bool.{not-true}
 use Rattle.std.proofs.lemmas.List.{take-append-drop}
 use Rattle.mach_types.specs.Kernel.Areas.{is_inside}
+use Rattle.mach_types.specs.Registers.{register}
 use Rattle.mach_types.specs.declared.events.Choice.{Choice}
 use Rattle.mach_types.specs.declared.events.Choice.TheVariants as asked
 use Rattle.mach_types.specs.declared.events.Entry.{Entry}
@@ -419,11 +420,25 @@ sequence_found s log fits there = by_what (sequence_on s 0 (history s log)) refl
     by_what (Some q) is test = record { sequence = q; is = is; passes = test }
 
 -- a use of which a fact is known, as the laws ask for one
+abbrev pub Shows : (Slots → Form) → (Setting → Slots → Sequence → Type 0) → Type 0
+Shows form Fact = (s : Setting) × (log : List Entry) × (p : Slots) × (at : ℕ) × (area : Area) × (others : List Placed)
+    × (q : Sequence) × IsWellUsed s log (form p) at area others q × Fact s p q
+
 pub is_shown : (form : Slots → Form) (tested : (p : Slots) → IsTested (form p))
     (Fact : Setting → Slots → Sequence → Type 0) (s : Setting) (log : List Entry) (n : ℕ) (p : Slots) (at : ℕ)
     (others : List Placed) (fits : Sequence → Bool) → IsGood s log n (use_of form tested p at) others fits
-    → ((q : Sequence) → fits q ≡ true → Fact s p q)
-    → (s : Setting) × (log : List Entry) × (p : Slots) × (at : ℕ) × (area : Area) × (others : List Placed)
-    × (q : Sequence) × IsWellUsed s log (form p) at area others q × Fact s p q
+    → ((q : Sequence) → fits q ≡ true → Fact s p q) → Shows form Fact
 is_shown form tested Fact s log n p at others fits good so =
     (s, take n log, p, at, own_area, others, good.sequence, good.used, so good.sequence good.passes)
+
+-- one whose value is a number then
+abbrev pub value_of_use : Setting → Slots → Sequence → ℕ
+value_of_use s p q = register (file s q.thread q.reached).file p.value
+
+pub value_shown : (form : Slots → Form) (tested : (p : Slots) → IsTested (form p)) (s : Setting) (log : List Entry)
+    (n : ℕ) (p : Slots) (at : ℕ) (others : List Placed) (value : ℕ)
+    → IsGood s log n (use_of form tested p at) others (λ q. eqb (value_of_use s p q) value)
+    → Shows form (λ s p q. value_of_use s p q ≡ value)
+value_shown form tested s log n p at others value good =
+    is_shown form tested (λ s p q. value_of_use s p q ≡ value) s log n p at others (λ q. eqb (value_of_use s p q) value)
+    good (λ q is. eqb-true (value_of_use s p q) value is)

@@ -5,7 +5,7 @@ use Rattle.std.proofs.Common.{Bool, true, ◌||◌, Option, Some, inl, inr, unwr
 use Rattle.mach_types.specs.Bytes.{each_byte, word_at}
 use Rattle.mach_types.specs.declared.user_memory.Store.{Store}
 use Rattle.rv_inst.specs.Execution.{seen_byte}
-use Rattle.rv_inst.specs.Memory.{loaded, low_bytes}
+use Rattle.rv_inst.specs.Memory.{loaded}
 use Rattle.alone.proofs.Laws.{loaded_word}
 use Rattle.alone_laws.specs.Blocks.{among}
 use Rattle.alone_laws.specs.Spans.{seen_at, sees}
@@ -72,9 +72,6 @@ module _ (s : Setting) (h : ℕ) (begun : History) (area ring value count : ℕ)
 
   pub word_low : (a : ℕ) → word_of s h a begun < 2 ^ 64
   word_low a = omega arith
-
-  pub word_whole : (n : ℕ) → n < 2 ^ 64 → low_bytes 8 n ≡ n
-  word_whole n low = omega arith
 
   -- WHAT LIES BESIDE WHAT
 

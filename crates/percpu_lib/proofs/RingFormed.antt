@@ -1,6 +1,6 @@
 -- The words of ring blocks lead on in them.
 use Rattle.std.proofs.Common.{◌≡◌, ℕ, ◌+◌, ◌*◌, ◌<◌, ◌≤◌, ◌^◌, List, ◌++◌, refl, arith, true, length}
-use Rattle.std.proofs.Common.{false, eqb, ltb, Option, Some, [], ◌∷◌, subst, pos, rules}
+use Rattle.std.proofs.Common.{false, eqb, ltb, Option, subst, pos, rules}
 use Rattle.std.proofs.lemmas.Bool.{ltb-true, ne_eqb}
 use Rattle.rv_inst.specs.declared.instruction.Inst.{Inst}
 use Rattle.rv_inst.specs.declared.instruction.Inst.TheVariants as inst
@@ -8,19 +8,11 @@ use Rattle.percpu_lib.specs.Forms.{Form, committed}
 use Rattle.percpu_lib.specs.RingForms.{get_block, get_front, get_insts, put_block, put_front, put_insts}
 use Rattle.percpu_lib.specs.RingForms.{repeated, ring_end, ring_get_form, ring_put_form}
 use Rattle.percpu_lib.specs.RingKinds.{RingKind, gets, puts, ring_form_of}
-use Rattle.percpu_lib.specs.Words.{asking_words}
 use Rattle.percpu_lib.specs.declared.slots.Slots.{Slots}
 use Rattle.percpu_lib.proofs.BlockCode.{AreWords, IsFormed}
 use Rattle.percpu_lib.proofs.Changes.{value_changed}
 use Rattle.percpu_lib.proofs.FormedWords.{AreFit, IsInner, formed_of, words_fit}
 use Rattle.percpu_lib.proofs.RingWords.{in_all, repeated_length, words_append, words_repeated}
-
--- what stands before the words, where the test loads by i and j, subtracts by d, compares by c and branches by b
-abbrev pub front_with : Slots → Inst → Inst → Inst → Inst → Inst → List (Option Inst)
-front_with p i j d c b =
-    Some (inst.Addi 28 p.value (pos 0))
-    ∷ asking_words p 23 13 (Some (inst.Addi 28 p.value (pos 0)) ∷ Some i ∷ Some j ∷ Some d ∷ Some c
-    ∷ Some (inst.Addi p.value 0 (pos 0)) ∷ Some b ∷ Some (inst.Addi p.value 28 (pos 0)) ∷ [])
 
 pub put_six : (p : Slots) (k : ℕ) → length (put_insts p k) ≡ 6
 put_six p k = refl

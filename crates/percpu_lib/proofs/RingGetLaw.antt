@@ -123,4 +123,4 @@ module _ (r : RingPlace gets) where
   pub get_course : IsCourse s (form gets r) at area h t begun
   get_course =
       course_by gets r not_got
-      (λ temps es last after done. record { gets = gets_it temps es last after done; kept = after.kept })
+      (λ temps es last after done. record { moves = gets_it temps es last after done; kept = after.kept })

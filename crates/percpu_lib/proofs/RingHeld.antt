@@ -6,7 +6,7 @@ use Rattle.rv_inst.specs.declared.instruction.Inst.{Inst}
 use Rattle.rv_inst.specs.declared.instruction.Inst.TheVariants as inst
 use Rattle.percpu_lib.specs.BlockLines.{block_lines, end_lines, leave_lines}
 use Rattle.percpu_lib.specs.Lines.{AreEmitted, HasRoom, IsContinued, instructions}
-use Rattle.percpu_lib.specs.RingForms.{get_insts, put_insts, repeated, ring_end}
+use Rattle.percpu_lib.specs.RingForms.{front_with, get_insts, put_insts, repeated, ring_end}
 use Rattle.percpu_lib.specs.RingKinds.{RingKind, gets, puts, ring_form_of, ring_lines_of, ring_steps_of}
 use Rattle.percpu_lib.specs.Rings.{get_word, get_words, put_word, put_words, ring_aborted, ring_first}
 use Rattle.percpu_lib.specs.declared.lines.Line.{Line}
@@ -15,7 +15,7 @@ use Rattle.percpu_lib.specs.declared.slots.Slots.{Slots}
 use Rattle.percpu_lib.proofs.BoundLabels.{HasPlaces, places}
 use Rattle.percpu_lib.proofs.HeldBlocks.{words_of}
 use Rattle.percpu_lib.proofs.KindWords.{IsHeld, back, branch_is, forth, lines_held}
-use Rattle.percpu_lib.proofs.RingFormed.{front_with, ring_parts}
+use Rattle.percpu_lib.proofs.RingFormed.{ring_parts}
 use Rattle.percpu_lib.proofs.RingLines.{AreFirst, first_gets, first_puts, ring_none}
 
 -- LINES ONE BEHIND THE OTHER

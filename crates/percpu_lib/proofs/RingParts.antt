@@ -21,14 +21,14 @@ use Rattle.block_model.specs.Setting.{Setting}
 use Rattle.percpu_lib.specs.Forms.{Form}
 use Rattle.percpu_lib.specs.Pushes.{LieBeside, word_seen}
 use Rattle.percpu_lib.specs.RingForms.{IsNoGet, IsNoPut, IsRingApart, IsWholeGet, IsWholePut, first_stores}
-use Rattle.percpu_lib.specs.RingForms.{get_insts, held, put_insts, repeated, ring_bytes, ring_end, ring_form}
-use Rattle.percpu_lib.specs.RingForms.{slot_of, word_of, word_store}
+use Rattle.percpu_lib.specs.RingForms.{front_with, get_insts, held, put_insts, repeated, ring_bytes, ring_end}
+use Rattle.percpu_lib.specs.RingForms.{ring_form, slot_of, word_of, word_store}
 use Rattle.percpu_lib.specs.RingKinds.{RingKind, gets, puts}
 use Rattle.percpu_lib.specs.declared.slots.Slots.{Slots}
 use Rattle.percpu_lib.proofs.BlockCode.{IsFormed}
 use Rattle.percpu_lib.proofs.Changes.{means_beq_not, means_beq_taken}
 use Rattle.percpu_lib.proofs.RingData.{in_slot, in_words, ring_pointer, ring_word, word_pointer, word_ring}
-use Rattle.percpu_lib.proofs.RingFormed.{front_with, get_formed, put_formed}
+use Rattle.percpu_lib.proofs.RingFormed.{get_formed, put_formed}
 use Rattle.percpu_lib.proofs.RingMeans.{means_sltiu, means_sub, word_small}
 use Rattle.percpu_lib.proofs.RingPlaces.{AreOfRing, head_in, slot_in, tail_in}
 use Rattle.percpu_lib.proofs.RingStores.{beside_first}

@@ -114,4 +114,4 @@ module _ (r : RingPlace puts) where
   pub put_course : IsCourse s (form puts r) at area h t begun
   put_course =
       course_by puts r not_put
-      (λ temps es last after done. record { puts = puts_it temps es last after done; kept = after.kept })
+      (λ temps es last after done. record { moves = puts_it temps es last after done; kept = after.kept })

@@ -34,9 +34,9 @@ use Rattle.alone_laws.proofs.Arrivals.{IsCode, KnowsAt}
 use Rattle.alone_laws.proofs.Retrying.{IsAskedRun, IsKept, first_place, known_throughout}
 use Rattle.percpu_lib.specs.Forms.{AreBlockUsed, Form, HoldsBlock, IsBlockUsed, committed, placed_of}
 use Rattle.percpu_lib.specs.Forms.{range_of}
-use Rattle.percpu_lib.specs.RingForms.{get_front, get_insts, put_front, put_insts, repeated, ring_end}
+use Rattle.percpu_lib.specs.RingForms.{front_with, get_front, get_insts, put_front, put_insts, repeated}
 use Rattle.percpu_lib.specs.RingForms.{IsNoGet, IsNoPut, IsWholeGet, IsWholePut, ring_form, ring_get_form}
-use Rattle.percpu_lib.specs.RingForms.{ring_put_form}
+use Rattle.percpu_lib.specs.RingForms.{ring_end, ring_put_form}
 use Rattle.percpu_lib.specs.RingKinds.{RingKind, gets, puts, ring_form_of}
 use Rattle.percpu_lib.specs.Words.{AreSlots}
 use Rattle.percpu_lib.specs.declared.slots.Slots.{Slots}
@@ -44,7 +44,7 @@ use Rattle.percpu_lib.proofs.BlockCode.{IsFormed, IsInstruction, KnowsTable, bef
 use Rattle.percpu_lib.proofs.BlockCode.{block_code, it, leads_at, outcome_is}
 use Rattle.percpu_lib.proofs.Changes.{scratch_not, some_value}
 use Rattle.percpu_lib.proofs.FormedWords.{AreFitBut, Unless, tame_at}
-use Rattle.percpu_lib.proofs.RingFormed.{front_inner, front_with, get_formed, get_long, get_six, put_formed, put_long}
+use Rattle.percpu_lib.proofs.RingFormed.{front_inner, get_formed, get_long, get_six, put_formed, put_long}
 use Rattle.percpu_lib.proofs.RingFormed.{put_six, to_end, word_inner, words_long}
 use Rattle.percpu_lib.proofs.RingWords.{at_end, repeated_length}
 use Rattle.percpu_lib.proofs.WordLaws.{Leads, begins_anew, beq_pc, bne_pc, goes_on, leads_out, leaves_block}
@@ -284,7 +284,7 @@ module _ (count : ℕ) (few : count ≤ 4) (p : Slots) (slots : AreSlots p) wher
       is_ring_with (inst.Ld 6 5 (pos 8)) (inst.Ld 7 5 (pos 0)) (inst.Sub 7 6 7) (inst.Sltiu 7 7 (pos (513 - count)))
       (inst.Beq 7 0 (pos (12 + 24 * count))) (put_insts p) (put_six p) 8
       (λ s ring h t. IsWholePut s p ring h t count) (λ s ring h t. IsNoPut s p ring h t count)
-      (λ seen f pc to r is even. beq_pc seen f pc to r 7 0 (pos (12 + 24 * count)) (ap (sum_64 pc) small ∙ is) even)
+      (λ seen f pc to r is even. beq_pc 7 0 (pos (12 + 24 * count)) seen f pc to r (ap (sum_64 pc) small ∙ is) even)
       (put_copy_kept count few p slots) (put_value_kept count few p slots)
 
   pub get_is_ring : IsRing (ring_get_form count p) count
@@ -292,7 +292,7 @@ module _ (count : ℕ) (few : count ≤ 4) (p : Slots) (slots : AreSlots p) wher
       is_ring_with (inst.Ld 6 5 (pos 0)) (inst.Ld 7 5 (pos 8)) (inst.Sub 7 7 6) (inst.Sltiu 7 7 (pos count))
       (inst.Bne 7 0 (pos (12 + 24 * count))) (get_insts p) (get_six p) 0
       (λ s ring h t. IsWholeGet s p ring h t count) (λ s ring h t. IsNoGet s p ring h t count)
-      (λ seen f pc to r is even. bne_pc seen f pc to r 7 0 (pos (12 + 24 * count)) (ap (sum_64 pc) small ∙ is) even)
+      (λ seen f pc to r is even. bne_pc 7 0 (pos (12 + 24 * count)) seen f pc to r (ap (sum_64 pc) small ∙ is) even)
       (get_copy_kept count few p slots) (get_value_kept count few p slots)
 
 -- WHAT IS ASKED OF THE DATA

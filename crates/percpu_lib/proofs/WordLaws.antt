@@ -4,7 +4,7 @@ use Rattle.std.proofs.Common.{refl, sym, ap, ◌∙◌, subst, arith, Bool, true
 use Rattle.std.proofs.Common.{length, Option, ℤ, pos, negsuc}
 use Rattle.std.proofs.lemmas.Bool.{false≢true}
 use Rattle.std.proofs.lemmas.Int.{ints}
-use Rattle.mach_types.specs.Registers.{register}
+use Rattle.mach_types.specs.Registers.{register, with_register}
 use Rattle.mach_types.specs.declared.registers.Regs.{Regs}
 use Rattle.rv_inst.specs.Class.{is_call}
 use Rattle.rv_inst.specs.Execution.{outcome}
@@ -48,41 +48,34 @@ IsPlain may (inst.Sd rs1 rs2 imm) = Unit {0}
 IsPlain may other = ⊥
 
 module _ (may : ℕ → Bool) where
-  -- an instruction that writes one register
+  -- an instruction that writes one register, and leads on
   writes : {i : Inst} (rd : ℕ) → may rd ≡ true → ((f : Regs) (pc : ℕ) → is_call (meaning i f pc) ≡ false)
-      → ((seen : ℕ → Option ℕ) (f : Regs) (pc : ℕ) (r : Option ℕ) (x : ℕ) → x ≢ rd
-      → register (outcome seen f pc r (meaning i f pc)).regs x ≡ register f x)
       → ((seen : ℕ → Option ℕ) (f : Regs) (pc : ℕ) (r : Option ℕ)
-      → (outcome seen f pc r (meaning i f pc)).pc ≡ sum_64 pc 4) → IsStraight may i
-  writes rd allowed plain keeps on = record {
+      → (n : ℕ) × ((outcome seen f pc r (meaning i f pc)).regs ≡ with_register f rd n)
+      × ((outcome seen f pc r (meaning i f pc)).pc ≡ sum_64 pc 4)) → IsStraight may i
+  writes rd allowed plain does = record {
     tame = record {
       plain = plain;
-      keeps = λ seen f pc r x other. keeps seen f pc r x (another may x rd other allowed);
+      keeps = λ seen f pc r x other.
+          let its = does seen f pc r in
+          ap (λ (regs : Regs). register regs x) its.1
+          ∙ written_other f rd its.0 x (another may x rd other allowed);
     };
-    on = on;
+    on = λ seen f pc r. (does seen f pc r).2;
   }
 
   -- each plain one
   pub straight_of : (i : Inst) → IsPlain may i → IsStraight may i
   unfolding meaning
-  straight_of (inst.Lw rd rs imm) is =
-      writes rd is (λ f pc. refl) (λ seen f pc r x. written_other f rd _ x) (λ seen f pc r. refl)
-  straight_of (inst.Ld rd rs imm) is =
-      writes rd is (λ f pc. refl) (λ seen f pc r x. written_other f rd _ x) (λ seen f pc r. refl)
-  straight_of (inst.Lui rd imm) is =
-      writes rd is (λ f pc. refl) (λ seen f pc r x. written_other f rd _ x) (λ seen f pc r. refl)
-  straight_of (inst.Addi rd rs imm) is =
-      writes rd is (λ f pc. refl) (λ seen f pc r x. written_other f rd _ x) (λ seen f pc r. refl)
-  straight_of (inst.Slli rd rs shamt) is =
-      writes rd is (λ f pc. refl) (λ seen f pc r x. written_other f rd _ x) (λ seen f pc r. refl)
-  straight_of (inst.Add rd rs1 rs2) is =
-      writes rd is (λ f pc. refl) (λ seen f pc r x. written_other f rd _ x) (λ seen f pc r. refl)
-  straight_of (inst.Sub rd rs1 rs2) is =
-      writes rd is (λ f pc. refl) (λ seen f pc r x. written_other f rd _ x) (λ seen f pc r. refl)
-  straight_of (inst.Sltiu rd rs imm) is =
-      writes rd is (λ f pc. refl) (λ seen f pc r x. written_other f rd _ x) (λ seen f pc r. refl)
-  straight_of (inst.Andi rd rs imm) is =
-      writes rd is (λ f pc. refl) (λ seen f pc r x. written_other f rd _ x) (λ seen f pc r. refl)
+  straight_of (inst.Lw rd rs imm) is = writes rd is (λ f pc. refl) (λ seen f pc r. (_, (refl, refl)))
+  straight_of (inst.Ld rd rs imm) is = writes rd is (λ f pc. refl) (λ seen f pc r. (_, (refl, refl)))
+  straight_of (inst.Lui rd imm) is = writes rd is (λ f pc. refl) (λ seen f pc r. (_, (refl, refl)))
+  straight_of (inst.Addi rd rs imm) is = writes rd is (λ f pc. refl) (λ seen f pc r. (_, (refl, refl)))
+  straight_of (inst.Slli rd rs shamt) is = writes rd is (λ f pc. refl) (λ seen f pc r. (_, (refl, refl)))
+  straight_of (inst.Add rd rs1 rs2) is = writes rd is (λ f pc. refl) (λ seen f pc r. (_, (refl, refl)))
+  straight_of (inst.Sub rd rs1 rs2) is = writes rd is (λ f pc. refl) (λ seen f pc r. (_, (refl, refl)))
+  straight_of (inst.Sltiu rd rs imm) is = writes rd is (λ f pc. refl) (λ seen f pc r. (_, (refl, refl)))
+  straight_of (inst.Andi rd rs imm) is = writes rd is (λ f pc. refl) (λ seen f pc r. (_, (refl, refl)))
   straight_of (inst.Sd rs1 rs2 imm) is = record {
     tame = record { plain = λ f pc. refl; keeps = λ seen f pc r x other. refl };
     on = λ seen f pc r. refl;
@@ -97,27 +90,27 @@ either_pc seen f pc to r true aligned =
     inl (ap (λ n. (outcome seen f pc r (cond (eqb n 0) (effect.Next 0 0 to) effect.Misaligned)).pc) aligned)
 either_pc seen f pc to r false aligned = inr refl
 
-pub bne_pc : (seen : ℕ → Option ℕ) (f : Regs) (pc to : ℕ) (r : Option ℕ) (rs1 rs2 : ℕ) (imm : ℤ)
-    → sum_64 pc (word imm) ≡ to → to % 4 ≡ 0
-    → ((outcome seen f pc r (meaning (inst.Bne rs1 rs2 imm) f pc)).pc ≡ to)
-    ⊎ ((outcome seen f pc r (meaning (inst.Bne rs1 rs2 imm) f pc)).pc ≡ sum_64 pc 4)
-unfolding meaning
-bne_pc seen f pc to r rs1 rs2 imm target aligned =
-    subst (λ n. ((outcome seen f pc r (branch (not (eqb (register f rs1) (register f rs2))) n pc)).pc ≡ to)
-    ⊎ ((outcome seen f pc r (branch (not (eqb (register f rs1) (register f rs2))) n pc)).pc ≡ sum_64 pc 4))
-    (sym target)
-    (either_pc seen f pc to r (not (eqb (register f rs1) (register f rs2))) aligned)
+-- a branch, by how far it leads
+abbrev pub IsBranch : Inst → ℤ → Type 0
+IsBranch i imm = (seen : ℕ → Option ℕ) (f : Regs) (pc to : ℕ) (r : Option ℕ) → sum_64 pc (word imm) ≡ to → to % 4 ≡ 0
+    → ((outcome seen f pc r (meaning i f pc)).pc ≡ to) ⊎ ((outcome seen f pc r (meaning i f pc)).pc ≡ sum_64 pc 4)
 
-pub beq_pc : (seen : ℕ → Option ℕ) (f : Regs) (pc to : ℕ) (r : Option ℕ) (rs1 rs2 : ℕ) (imm : ℤ)
+branch_pc : (seen : ℕ → Option ℕ) (f : Regs) (pc to : ℕ) (r : Option ℕ) (c : Bool) (imm : ℤ)
     → sum_64 pc (word imm) ≡ to → to % 4 ≡ 0
-    → ((outcome seen f pc r (meaning (inst.Beq rs1 rs2 imm) f pc)).pc ≡ to)
-    ⊎ ((outcome seen f pc r (meaning (inst.Beq rs1 rs2 imm) f pc)).pc ≡ sum_64 pc 4)
+    → ((outcome seen f pc r (branch c (sum_64 pc (word imm)) pc)).pc ≡ to)
+    ⊎ ((outcome seen f pc r (branch c (sum_64 pc (word imm)) pc)).pc ≡ sum_64 pc 4)
+branch_pc seen f pc to r c imm target aligned =
+    subst (λ n. ((outcome seen f pc r (branch c n pc)).pc ≡ to)
+    ⊎ ((outcome seen f pc r (branch c n pc)).pc ≡ sum_64 pc 4))
+    (sym target) (either_pc seen f pc to r c aligned)
+
+pub bne_pc : (rs1 rs2 : ℕ) (imm : ℤ) → IsBranch (inst.Bne rs1 rs2 imm) imm
 unfolding meaning
-beq_pc seen f pc to r rs1 rs2 imm target aligned =
-    subst (λ n. ((outcome seen f pc r (branch (eqb (register f rs1) (register f rs2)) n pc)).pc ≡ to)
-    ⊎ ((outcome seen f pc r (branch (eqb (register f rs1) (register f rs2)) n pc)).pc ≡ sum_64 pc 4))
-    (sym target)
-    (either_pc seen f pc to r (eqb (register f rs1) (register f rs2)) aligned)
+bne_pc rs1 rs2 imm seen f pc to r = branch_pc seen f pc to r (not (eqb (register f rs1) (register f rs2))) imm
+
+pub beq_pc : (rs1 rs2 : ℕ) (imm : ℤ) → IsBranch (inst.Beq rs1 rs2 imm) imm
+unfolding meaning
+beq_pc rs1 rs2 imm seen f pc to r = branch_pc seen f pc to r (eqb (register f rs1) (register f rs2)) imm
 
 jal_pc : (seen : ℕ → Option ℕ) (f : Regs) (pc to : ℕ) (r : Option ℕ) (rd : ℕ) (imm : ℤ)
     → sum_64 pc (word imm) ≡ to → to % 4 ≡ 0
@@ -215,18 +208,12 @@ module _ (form : Form) (k : ℕ) (short : k < 2 ^ 8) where
         either_word seen at pc (outcome seen f pc r (meaning (inst.Bne rs1 rs2 (negsuc n)) f pc)).pc 0 is low
         inner
         (begins_anew refl)
-        (bne_pc seen f pc (at + 4 * 0) r rs1 rs2 (negsuc n) (omega (arith, ints)) (omega arith));
+        (bne_pc rs1 rs2 (negsuc n) seen f pc (at + 4 * 0) r (omega (arith, ints)) (omega arith));
   }
 
   -- a branch to the post-commit address
-  branch_out : (i : Inst) (n : ℕ) → IsTame form.may i → 4 * k + n ≡ 4 * committed form → committed form
-      < 2 ^ 8
-      → k ≢ committed form
-      → ((seen : ℕ → Option ℕ) (f : Regs) (pc to : ℕ) (r : Option ℕ) → sum_64 pc (word (pos n)) ≡ to → to % 4
-      ≡ 0
-      → ((outcome seen f pc r (meaning i f pc)).pc ≡ to)
-      ⊎ ((outcome seen f pc r (meaning i f pc)).pc ≡ sum_64 pc 4))
-      → IsWord form k i
+  branch_out : (i : Inst) (n : ℕ) → IsTame form.may i → 4 * k + n ≡ 4 * committed form → committed form < 2 ^ 8
+      → k ≢ committed form → IsBranch i (pos n) → IsWord form k i
   branch_out i n tame far near inner goes = record {
     tame = tame;
     leads = λ seen f pc at r is aligned low.
@@ -239,13 +226,13 @@ module _ (form : Form) (k : ℕ) (short : k < 2 ^ 8) where
       → IsWord form k (inst.Beq rs1 rs2 (pos n))
   beq_out rs1 rs2 n far near inner =
       branch_out (inst.Beq rs1 rs2 (pos n)) n (tame_beq form.may rs1 rs2 (pos n)) far near inner
-      (λ seen f pc to r. beq_pc seen f pc to r rs1 rs2 (pos n))
+      (beq_pc rs1 rs2 (pos n))
 
   pub bne_out : (rs1 rs2 n : ℕ) → 4 * k + n ≡ 4 * committed form → committed form < 2 ^ 8 → k ≢ committed form
       → IsWord form k (inst.Bne rs1 rs2 (pos n))
   bne_out rs1 rs2 n far near inner =
       branch_out (inst.Bne rs1 rs2 (pos n)) n (tame_bne form.may rs1 rs2 (pos n)) far near inner
-      (λ seen f pc to r. bne_pc seen f pc to r rs1 rs2 (pos n))
+      (bne_pc rs1 rs2 (pos n))
 
   -- the jumps
   pub jal_anew : (n : ℕ) → n + 1 ≡ 4 * k → IsWord form k (inst.Jal 0 (negsuc n))

@@ -53,34 +53,23 @@ ring_end p count offset =
     ∷ Some (inst.Jal 0 (negsuc (83 + 24 * count)))
     ∷ []
 
--- what stands before the words are put, and before they are got
+-- what stands before the words are moved, where the test loads by i and j, subtracts by d, compares by c and branches
+-- by b; before they are put, and before they are got
+abbrev pub front_with : Slots → Inst → Inst → Inst → Inst → Inst → List (Option Inst)
+front_with p i j d c b =
+    Some (inst.Addi 28 p.value (pos 0))
+    ∷ asking_words p 23 13 (Some (inst.Addi 28 p.value (pos 0)) ∷ Some i ∷ Some j ∷ Some d ∷ Some c
+    ∷ Some (inst.Addi p.value 0 (pos 0)) ∷ Some b ∷ Some (inst.Addi p.value 28 (pos 0)) ∷ [])
+
 abbrev pub put_front : Slots → ℕ → List (Option Inst)
 put_front p count =
-    Some (inst.Addi 28 p.value (pos 0))
-    ∷ asking_words p 23 13
-    (Some (inst.Addi 28 p.value (pos 0))
-    ∷ Some (inst.Ld 6 5 (pos 8))
-    ∷ Some (inst.Ld 7 5 (pos 0))
-    ∷ Some (inst.Sub 7 6 7)
-    ∷ Some (inst.Sltiu 7 7 (pos (513 - count)))
-    ∷ Some (inst.Addi p.value 0 (pos 0))
-    ∷ Some (inst.Beq 7 0 (pos (12 + 24 * count)))
-    ∷ Some (inst.Addi p.value 28 (pos 0))
-    ∷ [])
+    front_with p (inst.Ld 6 5 (pos 8)) (inst.Ld 7 5 (pos 0)) (inst.Sub 7 6 7) (inst.Sltiu 7 7 (pos (513 - count)))
+    (inst.Beq 7 0 (pos (12 + 24 * count)))
 
 abbrev pub get_front : Slots → ℕ → List (Option Inst)
 get_front p count =
-    Some (inst.Addi 28 p.value (pos 0))
-    ∷ asking_words p 23 13
-    (Some (inst.Addi 28 p.value (pos 0))
-    ∷ Some (inst.Ld 6 5 (pos 0))
-    ∷ Some (inst.Ld 7 5 (pos 8))
-    ∷ Some (inst.Sub 7 7 6)
-    ∷ Some (inst.Sltiu 7 7 (pos count))
-    ∷ Some (inst.Addi p.value 0 (pos 0))
-    ∷ Some (inst.Bne 7 0 (pos (12 + 24 * count)))
-    ∷ Some (inst.Addi p.value 28 (pos 0))
-    ∷ [])
+    front_with p (inst.Ld 6 5 (pos 0)) (inst.Ld 7 5 (pos 8)) (inst.Sub 7 7 6) (inst.Sltiu 7 7 (pos count))
+    (inst.Bne 7 0 (pos (12 + 24 * count)))
 
 -- the words of a block from the retry label on
 abbrev pub put_block : Slots → ℕ → List (Option Inst)
@@ -216,24 +205,32 @@ pub record GetsNoMore (s : Setting) (p : Slots) (ring h t count : ℕ) (begun re
   pub stored : stores h reached
       ≡ stores h begun ++ first_stores (get_store s h ring (value_of s p t begun) begun) some
 
--- whole, and not whole; no other register changed but those that every block may change
-pub record IsWholePut (s : Setting) (p : Slots) (ring h t count : ℕ) (begun reached : History) : Type 0 where
-  pub puts : Puts s p ring h t count begun reached
+-- whole, and not whole: so it became of the words, and no other register changed but those that every block may change
+pub record IsWholeMove (s : Setting) (p : Slots) (t : ℕ) (Moves : Type 0) (begun reached : History) : Type 0 where
+  pub moves : Moves
   pub kept : AreKept s (is_changed p) t begun reached
 
-pub record IsNoPut (s : Setting) (p : Slots) (ring h t count : ℕ) (begun reached : History) : Type 0 where
-  pub same : IsRingKept s ring h begun reached
-  pub stored : PutsNoMore s p ring h t count begun reached
-  pub kept : AreKept s (is_changed p) t begun reached
+pub record IsNoMove (s : Setting) (p : Slots) (ring h t : ℕ) (MovesNoMore : Type 0) (begun reached : History) : Type 0
+  where
+    pub same : IsRingKept s ring h begun reached
+    pub stored : MovesNoMore
+    pub kept : AreKept s (is_changed p) t begun reached
 
-pub record IsWholeGet (s : Setting) (p : Slots) (ring h t count : ℕ) (begun reached : History) : Type 0 where
-  pub gets : Gets s p ring h t count begun reached
-  pub kept : AreKept s (is_changed p) t begun reached
+abbrev pub IsWholePut : Setting → Slots → ℕ → ℕ → ℕ → ℕ → History → History → Type 0
+IsWholePut s p ring h t count begun reached =
+    IsWholeMove s p t (Puts s p ring h t count begun reached) begun reached
 
-pub record IsNoGet (s : Setting) (p : Slots) (ring h t count : ℕ) (begun reached : History) : Type 0 where
-  pub same : IsRingKept s ring h begun reached
-  pub stored : GetsNoMore s p ring h t count begun reached
-  pub kept : AreKept s (is_changed p) t begun reached
+abbrev pub IsWholeGet : Setting → Slots → ℕ → ℕ → ℕ → ℕ → History → History → Type 0
+IsWholeGet s p ring h t count begun reached =
+    IsWholeMove s p t (Gets s p ring h t count begun reached) begun reached
+
+abbrev pub IsNoPut : Setting → Slots → ℕ → ℕ → ℕ → ℕ → History → History → Type 0
+IsNoPut s p ring h t count begun reached =
+    IsNoMove s p ring h t (PutsNoMore s p ring h t count begun reached) begun reached
+
+abbrev pub IsNoGet : Setting → Slots → ℕ → ℕ → ℕ → ℕ → History → History → Type 0
+IsNoGet s p ring h t count begun reached =
+    IsNoMove s p ring h t (GetsNoMore s p ring h t count begun reached) begun reached
 
 -- what the blocks of a count do, but for what became of the ring: a put and a get differ in that alone
 abbrev pub ring_form : Slots → List (Option Inst) → ℕ → (Setting → ℕ → ℕ → ℕ → History → History → Type 0)

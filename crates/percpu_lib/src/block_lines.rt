@@ -6,22 +6,9 @@ ghost use Rattle.percpu_lib.specs.BlockLines.{block_lines, start_lines};
 use crate::lines::Line;
 use crate::room::{lower_part, upper_part};
 use crate::slots::Slots;
+use crate::{branch, inst};
 use rv_inst::Inst;
 use std::alloc::{AllocError, Global};
-
-/// A line with an instruction, as `inst!(Ld rd = 6, rs1 = 5, imm = 0)`.
-macro_rules! inst {
-    ($name:ident $($field:ident = $value:expr),*) => {
-        Line::Plain(Inst::$name { $($field: $value),* })
-    };
-}
-
-/// A branch to a label, as `branch!(Beq rs1 = 5, rs2 = 6 => HERE)`.
-macro_rules! branch {
-    ($name:ident $($field:ident = $value:expr),* => $label:expr) => {
-        Line::Branch(Inst::$name { $($field: $value,)* imm: 0 }, $label)
-    };
-}
 
 /// What stands before a start, and the start: up to where the address of the processor's data is in x5.
 fn start_of_block(base: u32, slots: Slots, shift: u8) -> [Line; 9]
@@ -73,6 +60,3 @@ pub(crate) fn lines_of_block(
     lines.extend_from_slice(&[branch!(Jal rd = 0 => base), Line::Label(base + 4)])?;
     Ok(lines)
 }
-
-pub(crate) use branch;
-pub(crate) use inst;

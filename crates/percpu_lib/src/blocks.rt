@@ -7,11 +7,12 @@ ghost use Rattle.percpu_lib.specs.{BlockKinds.kind_of, BlockLines.IsLabelled};
 ghost use Rattle.percpu_lib.specs.{Kinds.lines_of, Kinds.steps_of, Words.AreSlots};
 ghost use Rattle.percpu_lib.specs.Lines.{AreEmitted, HasRoom};
 
-use crate::block_lines::{branch, inst, lines_of_block};
+use crate::block_lines::lines_of_block;
 use crate::fault::EmitFault;
 use crate::lines::{Line, emit_lines};
 use crate::room::has_room;
 use crate::slots::Slots;
+use crate::{branch, inst};
 use rv_asm::Asm;
 use rv_inst::Inst;
 use std::alloc::{AllocError, Global};

@@ -20,6 +20,22 @@ pub enum Line {
     Data(u32),
 }
 
+/// A line with an instruction, as `inst!(Ld rd = 6, rs1 = 5, imm = 0)`.
+#[macro_export]
+macro_rules! inst {
+    ($name:ident $($field:ident = $value:expr),*) => {
+        $crate::Line::Plain(Inst::$name { $($field: $value),* })
+    };
+}
+
+/// A branch to a label, as `branch!(Beq rs1 = 5, rs2 = 6 => HERE)`.
+#[macro_export]
+macro_rules! branch {
+    ($name:ident $($field:ident = $value:expr),* => $label:expr) => {
+        $crate::Line::Branch(Inst::$name { $($field: $value,)* imm: 0 }, $label)
+    };
+}
+
 /// Appends a line; a label that isn't free is left as it is. Where memory is short nothing changes.
 fn emit_line(asm: &mut Asm, line: &Line) -> Result<(), AllocError>
     requires { IsEmittable (length asm.now.labels) line.now }

@@ -8,11 +8,12 @@ ghost use Rattle.percpu_lib.specs.RingKinds.{ring_lines_of, ring_steps_of};
 ghost use Rattle.percpu_lib.specs.Rings.{get_steps, put_steps};
 ghost use Rattle.percpu_lib.specs.Words.{AreSlots};
 
-use crate::block_lines::{branch, inst, lines_of_block};
+use crate::block_lines::lines_of_block;
 use crate::fault::EmitFault;
 use crate::lines::{Line, emit_lines};
 use crate::room::has_room;
 use crate::slots::Slots;
+use crate::{branch, inst};
 use rv_asm::Asm;
 use rv_inst::Inst;
 use std::alloc::{AllocError, Global};

@@ -5,7 +5,7 @@ ghost use Rattle.block_model.specs.Here.{memory, view};
 ghost use Rattle.place_text.specs.Memory as spec;
 ghost use Rattle.place_text.specs.Seen.{here_of, past_of};
 
-use crate::fields::{begin_line, push_value, push_value_or_none, push_word};
+use crate::fields::{begin_hart_line, end_line, push_value, push_value_or_none};
 use mach_types::Hart;
 use machine_core::Machine;
 use std::alloc::AllocError;
@@ -48,20 +48,17 @@ fn push_held(text: &mut Vec<u8>, at: u64, value: Option<u64>) -> Result<(), Allo
     text.extend_from_slice(b"memory")?;
     push_value(text, at)?;
     push_value_or_none(text, value)?;
-    text.push(b'\n')?;
-    Ok(())
+    end_line(text)
 }
 
 /// Appends the line of what a hart sees.
 fn push_sees(text: &mut Vec<u8>, hart: Hart, at: u64, value: Option<u64>) -> Result<(), AllocError>
     ensures { OnOk result (text.new.items ≡ text.old.items ++ spec.sees_line hart.0 at value) }
 {
-    begin_line(text, b"hart", u64::from(hart.0))?;
-    push_word(text, b"sees")?;
+    begin_hart_line(text, hart, b"sees")?;
     push_value(text, at)?;
     push_value_or_none(text, value)?;
-    text.push(b'\n')?;
-    Ok(())
+    end_line(text)
 }
 
 /// Appends that line where memory has something else.

@@ -8,7 +8,7 @@ pub use Rattle.block_model.specs.Calls.Memory.{lies_on, lies_waiting_on, taken_b
 pub use Rattle.block_model.specs.Deciding.{entry_in, final, number_of, pc_in, thread_in}
 pub use Rattle.block_model.specs.Events.{done_of, refusal_of}
 pub use Rattle.block_model.specs.Events.Drain.{done_drain_of, refusal_drain_of}
-pub use Rattle.block_model.specs.Events.Exec.{by_call, by_effect, by_fault, by_outcome, called_here, done_exec_by, has_handler, is_held, next_effect, next_fault, one_instruction, others_gate, outcome_of, refusal_exec, refusal_exec_by}
+pub use Rattle.block_model.specs.Events.Exec.{by_call, by_fault, by_outcome, has_handler, is_held, next_effect, next_fault, one_instruction, others_gate, outcome_of, refusal_exec, refusal_exec_by}
 pub use Rattle.block_model.specs.Events.Finish.{done_done_by, refusal_done_by, refusal_return}
 pub use Rattle.block_model.specs.Events.Preempt.{done_preempt_by, refusal_preempt_by, unless_in_barrier, unless_waiting}
 pub use Rattle.block_model.specs.Events.Run.{done_killed, done_run, done_run_by, done_running, lives_on}
@@ -32,7 +32,7 @@ pub use Rattle.hart_state.specs.State.{entered, exec_refusal, hart_after, idle_h
 pub use Rattle.hart_state.specs.declared.hart.HartState.{HartState}
 pub use Rattle.kernel_threads.proofs.Laws.{emptied, is_kept, ready_saves_something, running_saves_nothing, saved_of_others}
 pub use Rattle.kernel_threads.specs.Table.{IsTable, Table, saved_of, start_table, with_saved}
-pub use Rattle.mach_types.specs.Bytes.{after_write, after_writes, all_stored, byte_over, covers, each_byte, joined, overlay, written}
+pub use Rattle.mach_types.specs.Bytes.{after_write, after_writes, all_stored, covers, each_byte, joined, written}
 pub use Rattle.mach_types.specs.Kernel.Areas.{Words, area_of, interruption, is_inside, is_inside_named, lowest_cid, named, pc_after, words_entered, words_on, words_written, writes_of}
 pub use Rattle.mach_types.specs.Kernel.Barriers.{harts_that, none_registered}
 pub use Rattle.mach_types.specs.Kernel.Pages.{PageRun, Pages, can_execute, can_read, can_write, is_in, lets, permission_at, permission_of}
@@ -73,7 +73,7 @@ pub use Rattle.process.specs.Harts.{counted, credit_of, file_of, file_on, hart_a
 pub use Rattle.process.specs.Pages.{AreDecoded, code_of, is_executable, word_in, word_of_page}
 pub use Rattle.process.specs.OtherProcess.{passed_by, taken_aside}
 pub use Rattle.process.specs.PlainSteps.{IsPlainStep, stepped}
-pub use Rattle.process.specs.Planned.{HasPlan, IsExecuted, IsInside, IsOwnStep, IsPlanned}
+pub use Rattle.process.specs.Planned.{HasPlan, IsExecuted, IsInside, IsNextStep, IsOwnStep, IsPlanned}
 pub use Rattle.process.specs.Refinement.{HasCode, IsAfter, IsAlone, IsCounted, IsPlace, IsReadable, IsTied, IsUncounted, MayDrain, answered}
 pub use Rattle.process.specs.Reservations.{lost_by_all, lost_by_write, lost_unless}
 pub use Rattle.process.specs.Sequences.{area_on, holds}
@@ -85,10 +85,10 @@ pub use Rattle.rv_inst.specs.Execution.{access_fault, fault_in, has_reserved, in
 pub use Rattle.rv_inst.specs.Sizes.{HasAccessSizes}
 pub use Rattle.rv_inst.specs.declared.effects.Effect.{Effect}
 pub use Rattle.rv_inst.specs.declared.instruction.Inst.{Inst}
-pub use Rattle.std.proofs.Common.{All, AllPairs, Bool, Err, Fits, IfSome, IsOk, IsTrue, List, None, Ok, OnOk, Option, Result, Some, [], add-one, add-zero, ap, append-nil, arith, cond, drop, eq-eqb, eqb, false, filter, find, get_or, if◌then◌else◌, inl, inr, is_le, is_lt, is_some, length, length-append, ltb, map, max, min, nat_cmp, nat_eq, nat_le, nat_lt, not, position, refl, rules, set, slice_get, slice_index, subst, suc, sym, take, true, w8, zero, ℕ, ◌%◌, ◌&&◌, ◌*◌, ◌++◌, ◌+◌, ◌-◌, ◌/◌, ◌<◌, ◌^◌, ◌||◌, ◌↔◌, ◌∙◌, ◌∷◌, ◌≡◌, ◌≢◌, ◌≤◌, ◌⊎◌}
+pub use Rattle.std.proofs.Common.{All, AllPairs, Bool, Err, Fits, IfSome, IsOk, IsTrue, List, None, Ok, OnOk, Option, Result, Some, [], add-zero, ap, append-nil, arith, cond, drop, eq-eqb, eqb, false, filter, find, get_or, if◌then◌else◌, inl, inr, is_le, is_lt, is_some, length, length-append, ltb, map, max, min, nat_cmp, nat_eq, nat_le, nat_lt, not, position, refl, rules, set, slice_get, slice_index, subst, suc, sym, take, true, w8, zero, ℕ, ◌%◌, ◌&&◌, ◌*◌, ◌++◌, ◌+◌, ◌-◌, ◌/◌, ◌<◌, ◌^◌, ◌||◌, ◌↔◌, ◌∙◌, ◌∷◌, ◌≡◌, ◌≢◌, ◌≤◌, ◌⊎◌}
 pub use Rattle.std.proofs.Math.Path.{fun_ext}
 pub use Rattle.std.proofs.Math.Seq.{take-length}
-pub use Rattle.std.proofs.lemmas.Bool.{OnTrue_at, and_from, and_parts, and_right, cases_eq, cases_lt, cond_both, eqb-true, false≢true, le-ltb, lt-leb, lt-ltb, ltb-false, ne_eqb, not-false, not-true, not_from_false, or_right}
+pub use Rattle.std.proofs.lemmas.Bool.{OnTrue_at, and_from, and_parts, and_right, cases_eq, cases_lt, cond_both, eqb-true, false≢true, le-ltb, lt-ltb, ltb-false, ne_eqb, not-false, not-true, not_from_false, or_right}
 pub use Rattle.std.proofs.lemmas.Bool.Decides.{nat_tests}
 pub use Rattle.std.proofs.lemmas.Grind.{common_steps}
 pub use Rattle.std.proofs.lemmas.List.{drop_all, get_or-map, get_or-set_other, get_or-set_same, get_or_append_left, get_or_push, length-map, length-set, length_push, take_all, take_more, with_items_is}

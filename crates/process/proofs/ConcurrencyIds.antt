@@ -61,9 +61,8 @@ first_hold s p m id some tied zero few = refl
 first_hold s p m id some tied (suc n) few =
     let xs = m.harts.items in
     let lt : n < length xs = omega arith in
-    let all = tied.all_harts in
     let more : n + 1 ≡ suc n = omega arith in
-    let at = hart_there s p m n (get_or xs n some) tied (omega (arith, all, lt)) (slice_get-get_or xs n some lt) in
+    let at = hart_there s p m n (get_or xs n some) tied (omega (arith, tied.all_harts, lt)) (slice_get-get_or xs n some lt) in
     ap (λ k. list_any (holds id) (take k xs)) (sym more)
     ∙ list_any_more (holds id) xs n some lt
     ∙ ap (λ b. b || holds id (get_or xs n some)) (first_hold s p m id some tied n (omega arith))
@@ -72,11 +71,10 @@ first_hold s p m id some tied (suc n) few =
 pub held_here : (v : Stand) (m : Parts) (h : ℕ) → IsPlace v m h
     → harts_that (λ id. list_any (holds id) m.harts.items) 8 ≡ held_ids v.plain.kernel.ids
 held_here v m h place =
-    let p = v.plain in
     ap (λ (test : ℕ → Bool). harts_that test 8) (fun_ext (λ id.
     ap (list_any (holds id)) (sym (take-length m.harts.items))
-    ∙ first_hold v.setting p m id idle_hart place.tied (length m.harts.items) (omega arith)
-    ∙ ap (is_held_below p.kernel.threads p.kernel.ids id) place.tied.all_harts
+    ∙ first_hold v.setting v.plain m id idle_hart place.tied (length m.harts.items) (omega arith)
+    ∙ ap (is_held_below v.plain.kernel.threads v.plain.kernel.ids id) place.tied.all_harts
     ∙ sym (stand_taken v id place.stands place.limits.eight_harts)))
 
 -- a set of the smaller ids has room for one more

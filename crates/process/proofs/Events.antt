@@ -24,9 +24,6 @@ lost_nothing b None = refl
 lost_nothing true (Some x) = refl
 lost_nothing false (Some x) = refl
 
-none_lost : (h : ℕ) (d : Done) (xs : List HartState) → d.entered ≡ [] → HaveLost h d xs xs
-none_lost h d xs none k = rw none (lost_nothing (eqb k h) (slice_get xs k))
-
 -- each hart but one is as an event of that one leaves it
 abbrev pub AreBeside : ℕ → Done → List HartState → List HartState → Type 0
 AreBeside h d xs ys = (k : ℕ) → slice_get ys k ≡ option_map (beside_unless (eqb k h) k h d) (slice_get xs k)
@@ -53,7 +50,7 @@ pub quietly : (h : ℕ) (d : Done) (xs ys : List HartState) → IsQuiet d → Ha
 quietly h d xs ys quiet lost k = lost k ∙ quiet_one k h d (slice_get xs k) quiet
 
 pub none_beside : (h : ℕ) (d : Done) (xs : List HartState) → IsQuiet d → d.entered ≡ [] → AreBeside h d xs xs
-none_beside h d xs quiet none = quietly h d xs xs quiet (none_lost h d xs none)
+none_beside h d xs quiet none = quietly h d xs xs quiet (λ k. rw none (lost_nothing (eqb k h) (slice_get xs k)))
 
 -- the parts changed as an event does: its hart is to be y, and is z so far
 pub record IsMade (v : Stand) (h : ℕ) (d : Done) (m m' : Parts) (y z : HartState) : Type 0 where
@@ -127,9 +124,7 @@ uncounted v h d m m' z place fit is = record {
     few =
         let made : z.events + 1 ≡ v.plain.events h + 1 = ap (λ (y : HartState). y.events) is.own in
         let most = place.stands.events h in
-        let room = place.room in
-        let steps = place.limits.most_steps in
-        omega (arith, made, most, room, steps)
+        omega (arith, made, most, place.room, place.limits.most_steps)
 
     own : (m'' : Parts) → IsCounted h m' m'' → slice_get m''.harts.items h ≡ option_map (beside_unless (eqb h h) h h d) (slice_get (set m.harts.items h (counted z)) h)
     own m'' then = then.harts h ∙ rw (eq-eqb h h refl, there, get_set_same m.harts.items h x (counted z) (place.tied.harts h place.lt)) refl

@@ -1,5 +1,5 @@
 -- Stores that wait on pages, and the gate of the next instruction.
-use Rattle.process.proofs.Common.{and_right, not-true, ◌≡◌, ℕ, zero, suc, ◌+◌, ◌-◌, ◌/◌, ◌<◌, ◌≤◌, List, [], ◌∷◌, length, take, get_or, refl, sym, ap, ◌∙◌, arith, Bool, true, false, cond, not, ◌&&◌, ◌||◌, Option, Some, None, is_some, nat_le, nat_lt, list_any, option_or, le-ltb, take-length, list_any_more, slice_get-get_or, each_byte, is_in, HartState, IsTied, Next, Parts, Plain, Setting, Stand, Store, Why, exec_refusal, hart_at, here_at, runs, Idle, InBarrier, instruction_gate, Neighbour, or_in_segment, lies_waiting_on, is_held, next_effect, next_fault, others_gate, refusal_exec, unless_in_barrier, IsNextAt, lies_in, lies_outside, nat_tests, each_byte-fails, not-false, not_from_false, ◌↔◌, min, max, IsTrue, Any, Any-from_list_any, list_any-from_Any, covers, PageRun, is_in_segment, lies_on, AreOfSegment}
+use Rattle.process.proofs.Common.{and_right, not-true, ◌≡◌, ℕ, zero, suc, ◌+◌, ◌-◌, ◌/◌, ◌<◌, ◌≤◌, List, [], ◌∷◌, length, take, get_or, refl, sym, ap, ◌∙◌, arith, Bool, true, false, cond, not, ◌&&◌, ◌||◌, Option, Some, None, is_some, nat_le, nat_lt, list_any, option_or, le-ltb, take-length, list_any_more, slice_get-get_or, each_byte, is_in, HartState, IsTied, Next, Parts, Stand, Store, Why, exec_refusal, hart_at, here_at, runs, Idle, InBarrier, instruction_gate, Neighbour, or_in_segment, lies_waiting_on, is_held, next_effect, next_fault, others_gate, refusal_exec, unless_in_barrier, IsNextAt, lies_in, lies_outside, nat_tests, each_byte-fails, not-false, not_from_false, ◌↔◌, min, max, IsTrue, Any, Any-from_list_any, list_any-from_Any, covers, PageRun, is_in_segment, lies_on, AreOfSegment}
 use Rattle.std.proofs.Math.Bool.{or_comm}
 use Rattle.std.specs.Cmp.{both_ways}
 use Rattle.mach_types.proofs.Laws.{each_byte-same}
@@ -132,10 +132,6 @@ lies_same beside pages kept r w same shared =
     ∙ sym (either_way beside (λ b. not (is_in r (b / 4096))) a))
     w.at w.size)
 
-any_same : (beside : Option Neighbour) (pages kept : PageSpan) (r : PageRun) (ws : List Store) → ((n : ℕ) → has_page pages n ≡ is_in r n)
-    → AreOfSegment beside kept → list_any (lies_outside pages kept) ws ≡ list_any (lies_on beside r) ws
-any_same beside pages kept r ws same shared = ap (λ (test : Store → Bool). list_any test ws) (λ i w. lies_same beside pages kept r w same shared i)
-
 -- the harts' buffers are the plain machine's
 module _ (beside : Option Neighbour) (pages kept : PageSpan) (r : PageRun) (waiting : ℕ → List Store) (xs : List HartState) (some : HartState)
     (same : (n : ℕ) → has_page pages n ≡ is_in r n) (shared : AreOfSegment beside kept) (harts : (k : ℕ) → k < length xs → (get_or xs k some).buffer ≡ waiting k)
@@ -151,14 +147,9 @@ module _ (beside : Option Neighbour) (pages kept : PageSpan) (r : PageRun) (wait
         ap (λ k. list_any waits (take k xs)) (sym more)
         ∙ list_any_more waits xs n some lt
         ∙ or_comm (list_any waits (take n xs)) (waits (get_or xs n some))
-        ∙ ap (λ b. b || list_any waits (take n xs)) (ap (list_any (lies_outside pages kept)) (harts n lt) ∙ any_same beside pages kept r (waiting n) same shared)
+        ∙ ap (λ b. b || list_any waits (take n xs)) (ap (list_any (lies_outside pages kept)) (harts n lt)
+        ∙ ap (λ (test : Store → Bool). list_any test (waiting n)) (λ i w. lies_same beside pages kept r w same shared i))
         ∙ ap (λ b. list_any (lies_on beside r) (waiting n) || b) (first_wait n (omega arith))
-
--- a hart's buffer
-buffer_of : (s : Setting) (p : Plain) (m : Parts) (k : ℕ) (some : HartState) → IsTied s p m → k < length m.harts.items → (get_or m.harts.items k some).buffer ≡ p.waiting k
-buffer_of s p m k some tied lt =
-    let all = tied.all_harts in
-    ap (λ (x : HartState). x.buffer) (hart_there s p m k (get_or m.harts.items k some) tied (omega (arith, all, lt)) (slice_get-get_or m.harts.items k some lt))
 
 -- whether a store waits on one of them
 pub held_is : (v : Stand) (m : Parts) (pages kept : PageSpan) (r : PageRun) (some : HartState) → IsTied v.setting v.plain m → ((n : ℕ) → has_page pages n ≡ is_in r n)
@@ -166,7 +157,8 @@ pub held_is : (v : Stand) (m : Parts) (pages kept : PageSpan) (r : PageRun) (som
     → list_any (λ (x : HartState). list_any (lies_outside pages kept) x.buffer) m.harts.items ≡ lies_waiting_on v.beside r v.plain.waiting v.setting.limits.harts
 held_is v m pages kept r some tied same shared =
     ap (list_any (λ (x : HartState). list_any (lies_outside pages kept) x.buffer)) (sym (take-length m.harts.items))
-    ∙ first_wait v.beside pages kept r v.plain.waiting m.harts.items some same shared (λ k lt. buffer_of v.setting v.plain m k some tied lt) (length m.harts.items) (omega arith)
+    ∙ first_wait v.beside pages kept r v.plain.waiting m.harts.items some same shared (λ k lt. ap (λ (x : HartState). x.buffer)
+    (hart_there v.setting v.plain m k (get_or m.harts.items k some) tied (omega (arith, tied.all_harts, lt)) (slice_get-get_or m.harts.items k some lt))) (length m.harts.items) (omega arith)
     ∙ ap (lies_waiting_on v.beside r v.plain.waiting) tied.all_harts
 
 -- the gate of the next instruction is the place's

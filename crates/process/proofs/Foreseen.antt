@@ -1,5 +1,5 @@
 -- What the interruption of an event comes to: that of the thread which its entry names, where it interrupts one.
-use Rattle.process.proofs.Common.{◌≡◌, ℕ, refl, sym, ap, ◌∙◌, Bool, true, false, ◌&&◌, cond, is_some, List, [], ◌∷◌, Option, Some, None, option_map, interruption, Choice, Entry, Area, Done, Effect, Hart, Here, IsPlace, Outcome, Parts, Stand, Store, area_here, area_of, byte_in, can_write_in, done_of, here_at, interruption_here, refusal_of, runs, is_call, areas_by_number, entry_in, number_of, pc_in, thread_in, done_drain_of, by_call, by_outcome, has_handler, next_effect, next_fault, outcome_of, done_done_by, done_preempt_by, done_killed, done_running, lives_on, handled_unless_killed, kills, done_take_by, waiting_here, interrupts, by_effect, called_here, done_exec_by}
+use Rattle.process.proofs.Common.{◌≡◌, ℕ, refl, sym, ap, ◌∙◌, Bool, true, false, ◌&&◌, cond, is_some, Option, Some, None, option_map, interruption, Choice, Entry, Area, Done, Hart, Here, IsPlace, Outcome, Parts, Stand, area_here, area_of, byte_in, can_write_in, done_of, here_at, interruption_here, refusal_of, runs, areas_by_number, entry_in, number_of, pc_in, thread_in, done_killed, done_running, lives_on, handled_unless_killed, kills, done_take_by, interrupts}
 use Rattle.mach_types.specs.declared.events.Choice.TheVariants as asked
 use Rattle.block_model.proofs.Laws.{interrupts_none}
 use Rattle.process.proofs.Places.{bytes_at, writable_at}

@@ -7,8 +7,7 @@ hart_there s p m h x tied lt at = same_Some x (hart_at s p h (credit_of m.harts.
 
 pub hart_tied : (s : Setting) (p : Plain) (m : Parts) (h : ℕ) (x : HartState) → IsTied s p m → h < s.limits.harts → x ≡ get_or m.harts.items h x → x ≡ hart_at s p h (credit_of m.harts.items h)
 hart_tied s p m h x tied lt value =
-    let all = tied.all_harts in
-    let in_list : h < length m.harts.items = omega (arith, all, lt) in
+    let in_list : h < length m.harts.items = omega (arith, tied.all_harts, lt) in
     hart_there s p m h x tied lt (slice_get-get_or m.harts.items h x in_list ∙ ap Some (sym value))
 
 -- what holds of one hart, and of each other, holds of all

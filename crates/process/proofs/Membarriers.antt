@@ -22,12 +22,11 @@ past_all f n (suc d) none =
 pub running_tied : (s : Setting) (p : Plain) (m : Parts) → IsTied s p m → s.limits.harts ≤ 8
     → harts_that (is_busy m.harts.items) 8 ≡ running_harts p.kernel.threads s.limits.harts
 running_tied s p m tied few =
-    let all = tied.all_harts in
     let n = s.limits.harts in
     let eight : n + (8 - n) ≡ 8 = omega (arith, few) in
     ap (harts_that (is_busy m.harts.items)) (sym eight)
     ∙ past_all (is_busy m.harts.items) n (8 - n)
-    (λ k past. ap (λ o. option_map_or (λ (x : HartState). is_some x.running) o false) (slice_get_past m.harts.items k (omega (arith, all, past))))
+    (λ k past. ap (λ o. option_map_or (λ (x : HartState). is_some x.running) o false) (slice_get_past m.harts.items k (omega (arith, tied.all_harts, past))))
     ∙ same_harts (is_busy m.harts.items) (λ k. is_some (running_on k p.kernel.threads)) n
     (λ k lt. ap (λ o. option_map_or (λ (x : HartState). is_some x.running) o false) (tied.harts k lt) ∙ mapped_is thread (running_on k p.kernel.threads))
 

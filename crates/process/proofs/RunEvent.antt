@@ -1,5 +1,5 @@
 -- A thread that begins to run, and one that stays ready since the process is killed first.
-use Rattle.process.proofs.Common.{◌≡◌, ◌≢◌, ℕ, suc, ◌<◌, List, [], ◌∷◌, find, map, length, get_or, slice_get, refl, sym, ap, ◌∙◌, subst, arith, Bool, true, false, cond, eqb, Option, Some, None, inl, inr, list_any, IsStrictlyIncreasing, option_map, option_map_or, cases_eq, eqb-true, ne_eqb, AllPairs-from_increasing, area_of, lowest_cid, AreSaved, Area, Done, Hart, HartState, Here, IsPlace, IsUncounted, IsWritten, Kernel, Map, Outcome, Parts, Saved, Stand, Write, counted, credit_of, file_among, files_interrupted, hart_at, harts_that, here_at, holds, interruption_here, lost_unless, refusal_of, Scheduling, without_ready, Thread, Threads, is_ready, is_ready_state, is_thread, state_if, state_of, with_state, Tid, Killed, SIGSEGV, ThreadState, Ready, Running, entered, IsTable, Table, saved_of, with_saved, is_kept, saved_of_others, areas_by_number, HoldsTables, done_killed, done_run, done_running, lives_on, id_of, next_id, with_id, ready_listed, HasHart, IsChanged, IsReadied, IsWaiting, begun_without, IsSome, is_running_state, numbers, ready_saves_something, holds_past_ids, holds_scheduling, holds_threads, is_running, ran, run_ready, stand_free_id}
+use Rattle.process.proofs.Common.{◌≡◌, ◌≢◌, ℕ, suc, ◌<◌, List, [], ◌∷◌, find, map, length, get_or, slice_get, refl, sym, ap, ◌∙◌, subst, arith, Bool, true, false, cond, eqb, Option, Some, None, inl, inr, list_any, IsStrictlyIncreasing, option_map, option_map_or, cases_eq, eqb-true, ne_eqb, AllPairs-from_increasing, area_of, lowest_cid, AreSaved, Area, Done, Hart, HartState, Here, IsPlace, IsUncounted, IsWritten, Kernel, Map, Outcome, Parts, Saved, Stand, Write, counted, credit_of, file_among, files_interrupted, hart_at, harts_that, here_at, holds, interruption_here, lost_unless, refusal_of, Scheduling, without_ready, Thread, Threads, is_ready, is_ready_state, is_thread, state_if, state_of, with_state, Tid, Killed, SIGSEGV, ThreadState, Ready, Running, entered, IsTable, Table, saved_of, with_saved, is_kept, saved_of_others, areas_by_number, HoldsTables, done_killed, done_run, done_running, lives_on, id_of, next_id, with_id, ready_listed, IsChanged, IsReadied, IsWaiting, begun_without, IsSome, is_running_state, numbers, ready_saves_something, holds_past_ids, holds_scheduling, holds_threads, is_running, ran, run_ready, stand_free_id}
 use Rattle.mach_types.proofs.Laws.{state_of-with_state_same}
 use Rattle.mach_types.specs.declared.events.Choice.TheVariants as asked
 use Rattle.mach_types.specs.declared.sequences.Outcome.TheVariants as comes_to
@@ -11,7 +11,7 @@ use Rattle.process.proofs.Interruptions.{begun_beside}
 use Rattle.process.proofs.SavedFiles.{saved_ran, none_kept, saved_but_one}
 use Rattle.process.proofs.Memory.{pages_written, readable_written}
 use Rattle.process.proofs.StuckProcess.{not_stuck, ready_live}
-use Rattle.process.proofs.Places.{bytes_at, goes_on, still_there, tables_at, writable_at}
+use Rattle.process.proofs.Places.{bytes_at, goes_on, tables_at, writable_at}
 
 -- THREADS
 
@@ -25,9 +25,6 @@ all_other t st (x ∷ xs) other = rw (ne_eqb x.tid t (other 0 (omega arith))) (a
 
 was_ready : (x : Thread) (rest : Option ThreadState) → option_map (λ (th : Thread). th.state) (Some x) ≡ Some Ready → x.state ≡ Ready
 was_ready x rest is = cc
-
-ready_again : (x : Thread) (h : Hart) → x.state ≡ Ready → record (record x { state = Running h }) { state = Ready } ≡ x
-ready_again x h is = ap (λ st. let y : Thread = record x { state = st } in y) (sym is)
 
 put_back_list : (t : ℕ) (h : Hart) (xs : List Thread) → AreRising xs → option_map (λ (th : Thread). th.state) (find (is_thread t) xs) ≡ Some Ready
     → map (state_if t Ready) (map (state_if t (Running h)) xs) ≡ xs
@@ -45,7 +42,7 @@ put_back_list t h (x ∷ xs) up is = go (is_thread t x) refl is (put_back_list t
         let same = all_other t (Running h) xs (others first) in
         let again = all_other t Ready xs (others first) in
         let tail : map (state_if t Ready) (map (state_if t (Running h)) xs) ≡ xs = ap (map (state_if t Ready)) same ∙ again in
-        rw (at, at) (ap (λ y. y ∷ map (state_if t Ready) (map (state_if t (Running h)) xs)) (ready_again x h (was_ready x None found)) ∙ ap (λ ys. x ∷ ys) tail)
+        rw (at, at) (ap (λ y. y ∷ map (state_if t Ready) (map (state_if t (Running h)) xs)) (ap (λ st. let y : Thread = record x { state = st } in y) (sym (was_ready x None found))) ∙ ap (λ ys. x ∷ ys) tail)
     go false at found rest = rw (at, at) (ap (λ ys. x ∷ ys) (rest found))
 
 pub put_back : (t : ℕ) (h : Hart) (ts : Threads) → IsStrictlyIncreasing (numbers ts.live) → state_of t ts ≡ Some Ready → with_state t Ready (with_state t (Running h) ts) ≡ ts
@@ -80,10 +77,7 @@ pub file_other : (here : Here) (t u : ℕ) (o : Outcome) (f : Saved) → u ≢ t
 file_other here t u (comes_to.Aborted at) f other = rw (ne_eqb t u (λ e. other (sym e))) refl
 file_other here t u o f other = refl
 
--- what is kept after it: nothing of a thread that runs, and the file of one that is ready again
-kept_running : (f g : ℕ → Saved) (t : ℕ) (old new : Table) → new.saved ≡ with_saved t None old.saved → ((u : ℕ) → u ≢ t → g u ≡ f u) → AreSaved f old → AreSaved g new
-kept_running f g t old new is same saved = saved_but_one f g t new (none_kept t old new is) same (saved_ran f t old new is saved)
-
+-- what is kept after it of one that is ready again: its file
 kept_again : (f g : ℕ → Saved) (t : ℕ) (y : Saved) (old mid new : Table) → mid.saved ≡ with_saved t None old.saved → new.saved ≡ with_saved t (Some y) mid.saved → y ≡ g t
     → ((u : ℕ) → u ≢ t → g u ≡ f u) → AreSaved f old → AreSaved g new
 kept_again f g t y old mid new was is own same saved u x at = elim (cases_eq u t) [
@@ -136,12 +130,6 @@ module _ (v : Stand) (m : Parts) (h : Hart) (t : Tid) (place : IsPlace v m h.0) 
       let is = made (waiting a n x has its kept) in
       record { lives = is.lives; file = is.file; pages = is.pages; harts = is.harts }
 
-  pub readied_there : (k : Kernel) (a : Option Area) (n : ℕ) (x y : Saved) (alive : Bool) (m1 : Parts) → a ≡ area_of t.0 (areas_by_number m.kernel.areas.items)
-      → n ≡ lowest_cid (harts_that (λ id. list_any (holds id) m.harts.items) 8) → Some x ≡ saved_of t.0 m.kernel.threads.saved
-      → (IsWaiting here t.0 h.0 m.pages a x n → IsReadied here t.0 alive y (record m { kernel = k }) m1) → HasHart m1.harts.items h.0
-  readied_there k a n x y alive m1 has its kept made =
-      still_there v m h.0 (done_run here t.0).entered m1.harts.items place (readied k a n x y alive m1 has its kept made).harts
-
   -- it is in the ready list, and runs once it was taken to
   pub listed : is_listed t.0 m.kernel.ready ≡ true
   listed = ap (is_listed t.0) place.tied.tables.scheduling ∙ ready_listed v.setting.limits.harts t.0 v.plain.kernel.threads v.plain.kernel.scheduling (tables_at v m h.0 place) ∙ ready
@@ -178,7 +166,8 @@ module _ (v : Stand) (m : Parts) (h : Hart) (t : Tid) (place : IsPlace v m h.0) 
             order (without_ready t.0 p.kernel.scheduling) (taken ∙ ap (without_ready t.0) place.tied.tables.scheduling)) (with_id t.0 p.kernel.ids));
         ids = λ k u ne runs. id_with_other t.0 u p.kernel.ids (ready_apart v.setting.limits.harts k t.0 u p.kernel.threads p.kernel.scheduling tables ready runs);
         table = rw kernel table;
-        saved = rw kernel (kept_running p.file (λ u. file_among d.files u (p.file u)) t.0 m.kernel.threads file saved (λ u other. file_other here t.0 u comes (p.file u) other) place.tied.saved);
+        saved = rw kernel (saved_but_one p.file (λ u. file_among d.files u (p.file u)) t.0 file (none_kept t.0 m.kernel.threads file saved) (λ u other. file_other here t.0 u comes (p.file u) other)
+            (saved_ran p.file t.0 m.kernel.threads file saved place.tied.saved));
         ended = ended ∙ goes_on v m h.0 (ran t.0 h.0 p.kernel) place (not_stuck t.0 (Running h) p.kernel.threads refl (ready_live t.0 p.kernel.threads ready));
       })
 

@@ -89,8 +89,7 @@ module _ (here : Here) (t h s : ℕ) (o : Outcome) (x x1 x2 : Saved) (a : Option
 
   its_outcome : interruption_here here t ≡ o
   its_outcome =
-      let found = half.found in
-      rw (found.bytes, found.writable, its_area, found.file) at half.comes
+      rw (half.found.bytes, half.found.writable, its_area, half.found.file) at half.comes
 
   its_file : x1 ≡ file_interrupted here t o
   its_file = half.file ∙ ap (λ (y : Saved). let z : Saved = record y { pc = pc_after y.pc o } in z) half.found.file

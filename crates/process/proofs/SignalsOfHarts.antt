@@ -1,10 +1,10 @@
 -- Signals at a place: they are kept of the thread on a hart, a fault's signal is one of 31, and which faults have handlers.
-use Rattle.process.proofs.Common.{live_in, ◌≡◌, ℕ, ◌≤◌, ◌<◌, List, sym, ap, ◌∙◌, arith, Bool, true, false, not, cond, eqb, ◌&&◌, ◌||◌, Option, Some, None, get_or, subst, ◌%◌, option_map, Entry, Effect, Hart, HartState, ImagePage, IsPlace, IsPlanned, IsTied, Next, Parts, Running, Saved, Stand, entry_from, here_at, runs, thread, Kind, Action, SIGSEGV, Signalling, action_of, is_handler, is_ignored, is_ignored_by_default, with_pending, fault_in, fault_by, fetched, is_storable, reached, running_is, SIGBUS, atomic_write, conditional_write, plain_read, plain_write, reserving_read, access_fault, is_allowed, unless_allowed, HasSignals}
+use Rattle.process.proofs.Common.{cond_both, live_in, ◌≡◌, ℕ, ◌≤◌, ◌<◌, sym, ap, ◌∙◌, arith, Bool, true, false, not, cond, eqb, ◌&&◌, ◌||◌, Option, Some, None, get_or, subst, ◌%◌, option_map, Entry, Effect, Hart, HartState, IsPlace, IsPlanned, IsTied, Next, Parts, Running, Stand, entry_from, here_at, runs, thread, Kind, Action, SIGSEGV, Signalling, action_of, is_handler, is_ignored, is_ignored_by_default, with_pending, fault_in, fault_by, fetched, is_storable, reached, running_is, SIGBUS, atomic_write, conditional_write, plain_read, plain_write, reserving_read, access_fault, is_allowed, unless_allowed, HasSignals}
 use Rattle.sys_calls.proofs.ThreadSignals.{held_as_live}
 use Rattle.mach_types.specs.Kernel.Signals.{is_held, posted}
 use Rattle.rv_inst.specs.declared.class.Access.{Access}
 use Rattle.rv_inst.specs.declared.effects.Effect.TheVariants as effect
-use Rattle.block_model.specs.Instruction.{fetch_fault, next_effect, next_fault}
+use Rattle.block_model.specs.Instruction.{fetch_fault, next_effect}
 use Rattle.block_model.specs.Standing.{IsStanding}
 use Rattle.process.proofs.HartStates.{hart_there}
 use Rattle.process.proofs.Places.{hart_is, thread_is}
@@ -52,14 +52,10 @@ is_segv = (omega arith, omega arith)
 is_bus : IsSignal (Some SIGBUS)
 is_bus = (omega arith, omega arith)
 
-either : (b : Bool) (x y : Option ℕ) → IsSignal x → IsSignal y → IsSignal (cond b x y)
-either true x y one other = one
-either false x y one other = other
-
 of_access : (byte : ℕ → Option ℕ) (can_write : ℕ → Bool) (a : Access) → IsSignal (access_fault byte can_write a)
 of_access byte can_write a =
-    let allowed : IsSignal (unless_allowed (is_allowed byte can_write a)) = either (is_allowed byte can_write a) None (Some SIGSEGV) tt is_segv in
-    either a.must_align _ _ (either _ (unless_allowed (is_allowed byte can_write a)) (Some SIGBUS) allowed is_bus) allowed
+    let allowed : IsSignal (unless_allowed (is_allowed byte can_write a)) = cond_both (is_allowed byte can_write a) None (Some SIGSEGV) IsSignal (λ _. tt) (λ _. is_segv) in
+    cond_both a.must_align _ _ IsSignal (λ _. cond_both _ (unless_allowed (is_allowed byte can_write a)) (Some SIGBUS) IsSignal (λ _. allowed) (λ _. is_bus)) (λ _. allowed)
 
 of_effect : (byte : ℕ → Option ℕ) (can_write : ℕ → Bool) (e : Effect) → IsSignal (fault_in byte can_write e)
 of_effect byte can_write (effect.Load at size is_signed rd) = of_access byte can_write (plain_read at size)
@@ -72,11 +68,7 @@ of_effect byte can_write effect.Misaligned = is_bus
 of_effect byte can_write e = tt
 
 of_fetch : (pc : ℕ) (word : Option ℕ) → IsSignal (Some (fetch_fault pc word))
-of_fetch pc None = at (eqb (pc % 4) 0)
-  where
-    at : (b : Bool) → IsSignal (Some (cond b SIGSEGV SIGBUS))
-    at true = is_segv
-    at false = is_bus
+of_fetch pc None = cond_both (eqb (pc % 4) 0) SIGSEGV SIGBUS (λ s. IsSignal (Some s)) (λ _. is_segv) (λ _. is_bus)
 of_fetch pc (Some word) = (omega arith, omega arith)
 
 of_next : (byte : ℕ → Option ℕ) (can_write : ℕ → Bool) (pc : ℕ) (word : Option ℕ) (o : Option Effect) → IsSignal (fault_by byte can_write pc word o)
@@ -84,12 +76,10 @@ of_next byte can_write pc word None = of_fetch pc word
 of_next byte can_write pc word (Some e) = of_effect byte can_write e
 
 -- the signal of a fault
-fault_is_signal : (pages : List ImagePage) (byte : ℕ → Option ℕ) (can_write : ℕ → Bool) (f : Saved) (o : Option ℕ) → o ≡ next_fault pages byte can_write f → IsSignal o
-fault_is_signal pages byte can_write f o is = subst IsSignal (sym is) (of_next byte can_write f.pc (fetched pages f.pc) (next_effect pages f))
-
 pub planned_fault : (v : Stand) (h : ℕ) (next : Next) → IsPlanned v h next → IsSignal next.fault
 planned_fault v h next plan =
-    fault_is_signal v.setting.program.pages (reached (here_at v h)) (is_storable (here_at v h)) ((here_at v h).file plan.thread) next.fault plan.fault
+    let f = (here_at v h).file plan.thread in
+    subst IsSignal (sym plan.fault) (of_next (reached (here_at v h)) (is_storable (here_at v h)) f.pc (fetched v.setting.program.pages f.pc) (next_effect v.setting.program.pages f))
 
 -- HANDLERS
 

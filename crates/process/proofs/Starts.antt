@@ -41,9 +41,6 @@ saved_if : (b : Bool) (start x : Saved) → option_and_then (λ pair. pair.1) (c
 saved_if true start x is = sym (same_Some start x is)
 saved_if false start x is = cc
 
-saved_start : (start : Saved) (u : ℕ) (x : Saved) → saved_of u (start_table start).saved ≡ Some x → x ≡ start
-saved_start start u x is = saved_if (nat_eq 1 u) start x is
-
 -- a page that is mapped holds its byte
 held_if : (b : ℕ) (o : Option ℕ) → cond (is_some o) (Some b) None ≡ option_map (λ _. b) o
 held_if b None = refl
@@ -83,7 +80,7 @@ tied-start image limits m allowed permissions held free break_at break_start cou
     console = console;
   };
   table = table;
-  saved = λ u x is. saved_start (start_file (program_of image)) u x (ap (λ t. saved_of u t.saved) (sym threads) ∙ is);
+  saved = λ u x is. saved_if (nat_eq 1 u) (start_file (program_of image)) x (ap (λ t. saved_of u t.saved) (sym threads) ∙ is);
   ended = ended;
 }
 

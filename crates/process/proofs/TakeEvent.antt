@@ -1,5 +1,5 @@
 -- The event take: what the interruption of the hart's thread comes to, if it is to restart, and the parts after it.
-use Rattle.process.proofs.Common.{◌≡◌, ◌≢◌, ℕ, List, [], append-nil, refl, sym, ap, ◌∙◌, subst, Bool, true, false, cond, eqb, eq-eqb, Option, Some, None, slice_get, set, ne_eqb, option_and_then, option_map, option_or, interruption, pc_after, writes_of, AreSaved, Area, Done, End, Hart, HartState, Here, IsPlace, IsUncounted, IsWritten, Map, Outcome, Parts, Plain, Saved, Setting, Stand, Write, area_here, byte_in, can_write_in, counted, credit_of, done_of, file_among, files_interrupted, hart_at, hart_in, here_at, here_in_plain, interruption_here, is_writable, lost_unless, memory, refusal_of, runs, unless_waiting, done_take, done_take_by, killed_by, ended_by, NoRequest, only_took, took_and_interrupted, IsRestarted, noticed, restart_here, taken_or_noticed, taken_with, add-zero}
+use Rattle.process.proofs.Common.{cond_both, ◌≡◌, ◌≢◌, ℕ, List, [], append-nil, refl, sym, ap, ◌∙◌, subst, Bool, true, false, cond, eqb, eq-eqb, Option, Some, None, slice_get, set, ne_eqb, option_and_then, option_map, option_or, interruption, pc_after, writes_of, AreSaved, Area, Done, End, Hart, HartState, Here, IsPlace, IsUncounted, IsWritten, Map, Outcome, Parts, Plain, Saved, Setting, Stand, Write, area_here, byte_in, can_write_in, counted, credit_of, done_of, file_among, files_interrupted, hart_at, hart_in, here_at, here_in_plain, interruption_here, is_writable, lost_unless, memory, refusal_of, runs, unless_waiting, done_take, done_take_by, killed_by, ended_by, NoRequest, only_took, took_and_interrupted, IsRestarted, noticed, restart_here, taken_or_noticed, taken_with, add-zero}
 use Rattle.mach_types.specs.declared.events.Choice.TheVariants as asked
 use Rattle.process.proofs.Entries.{uncounted_as}
 use Rattle.process.proofs.Events.{AreBeside, lost_nothing}
@@ -54,11 +54,8 @@ pub not_asked : (here : Here) → here.restart ≡ false → restart_here here �
 not_asked here lacks = ap (λ b. cond b (option_map (interruption_here here) (runs here)) None) lacks
 
 pub none_runs : (here : Here) → runs here ≡ None → restart_here here ≡ None
-none_runs here none = ap (λ r. cond here.restart (option_map (interruption_here here) r) None) none ∙ either here.restart
-  where
-    either : (b : Bool) → cond b (option_map (interruption_here here) None) None ≡ None
-    either true = refl
-    either false = refl
+none_runs here none =
+    ap (λ r. cond here.restart (option_map (interruption_here here) r) None) none ∙ cond_both here.restart (option_map (interruption_here here) None) None (λ z. z ≡ None) (λ _. refl) (λ _. refl)
 
 -- its thread t is
 pub restarted : (here : Here) (t : ℕ) (o : Outcome) (area : Option Area) (pc : ℕ) (m m' : Parts) → here.restart ≡ true → runs here ≡ Some t
@@ -141,7 +138,6 @@ module _ (v : Stand) (m : Parts) (h : Hart) (place : IsPlace v m h.0) (free : re
       → e ≡ option_and_then killed_by came → counted (taken_with came own_hart) ≡ own_after v.setting v.plain h.0 (done_so here files ws comes e) (credit_of m.harts.items h.0)
       → AreSaved (λ u. file_among files u (v.plain.file u)) m.kernel.threads → IsUncounted v h.0 (done_of asked.Take here) m m2
   event_so files ws comes came e m1 m2 same is over own kept =
-      let p = v.plain in
       let d = done_so here files ws comes e in
       let its : (done_take here).entered ≡ ws = ap (λ (z : Done). z.entered) same in
       let wrote : IsWritten ws m.pages m2.pages =
@@ -150,13 +146,13 @@ module _ (v : Stand) (m : Parts) (h : Hart) (place : IsPlace v m h.0) (free : re
         own = own;
         harts = take_beside here h.0 files ws comes came e m.harts.items m1.harts.items m2.harts.items own_hart (place.tied.harts h.0 place.lt)
             (λ k. is.restarted.harts k ∙ ap (λ vs. option_map (lost_unless (eqb k h.0) vs) (slice_get m.harts.items k)) its) is.harts;
-        pages = pages_written p.kernel.pages v.setting.program.break_at p.byte ws m.pages m2.pages place.tied.pages wrote;
+        pages = pages_written v.plain.kernel.pages v.setting.program.break_at v.plain.byte ws m.pages m2.pages place.tied.pages wrote;
         readable = readable_written ws m.pages m2.pages place.tied.readable wrote;
         tables = rw is.same_kernel place.tied.tables;
         ids = λ k u ne runs. refl;
         table = rw is.same_kernel place.tied.table;
         saved = rw is.same_kernel kept;
-        ended = is.ended ∙ ap (λ o. option_or o m.ended) (sym over) ∙ ap (option_or e) (goes_on v m h.0 p.kernel place (was_not_stuck v m h.0 place));
+        ended = is.ended ∙ ap (λ o. option_or o m.ended) (sym over) ∙ ap (option_or e) (goes_on v m h.0 v.plain.kernel place (was_not_stuck v m h.0 place));
       })
 
   by_outcome : (r : Option ℕ) (came : Option Outcome) (m1 m2 : Parts) → runs here ≡ r → done_of asked.Take here ≡ done_with here r came → came ≡ restart_here here

@@ -10,10 +10,14 @@ use Rattle.block_model.specs.Events.{refusal_of, done_of}
 use Rattle.block_model.specs.Events.Exec.{next_effect, next_fault}
 use Rattle.block_model.specs.Stands.{Stand, here_at}
 use Rattle.block_model.specs.Sequences.{is_inside_here}
+use Rattle.page_map.specs.Map.{byte_in, can_write_in}
 use Rattle.sys_calls.specs.Made.{IsOwnCall}
+use Rattle.process.specs.Harts.{credit_of, hart_at}
+use Rattle.process.specs.PlainSteps.{IsPlainStep}
 use Rattle.process.specs.Refinement.{IsPlace, IsUncounted}
 use Rattle.process.specs.declared.next.Next.{Next}
 use Rattle.process.specs.declared.parts.Parts.{Parts}
+use Rattle.process.specs.declared.plain.PlainStep.{PlainStep}
 
 -- the step of thread t reads and writes nothing of another process: there is none, or it is a fault, or a call of its own process, or one
 -- that kills the process, since it is made inside a sequence
@@ -38,6 +42,18 @@ pub record HasPlan (m : Parts) (h : ℕ) (next : Next) : Type 0 where
   pub stand : Stand
   pub place : IsPlace stand m h
   pub plan : IsPlanned stand h next
+
+-- the thread on hart h may execute its next instruction there, which is a plain one that does this
+pub record IsNextStep (v : Stand) (m : Parts) (h : ℕ) (does : PlainStep) : Type 0 where
+  pub asked : Effect
+  pub plan : IsPlanned v h (record { effect = Some asked; fault = None })
+  pub plain : IsPlainStep (byte_in m.pages) (can_write_in m.pages) asked (hart_at v.setting v.plain h (credit_of m.harts.items h)) does
+
+-- there is a place where it is
+pub record HasStep (m : Parts) (h : ℕ) (does : PlainStep) : Type 0 where
+  pub stand : Stand
+  pub place : IsPlace stand m h
+  pub next : IsNextStep stand m h does
 
 -- whether the thread that runs on hart h at a place is inside a good sequence is this
 abbrev pub IsInside : Bool → Parts → ℕ → Type 0

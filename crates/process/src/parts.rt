@@ -93,11 +93,8 @@ impl Parts {
             → IfOk result (λ e. IsAfter v hart.0 (done_of Choice.Exec (here_at v hart.0)) self.old self.new) }
         ensures err { OnErr result (self.new ≡ self.old) }
     {
-        match self.exec_plain(code, hart) {
-            Some(entry) => {
-                self.count(hart);
-                Ok(entry)
-            }
+        match self.make_plain(code, hart) {
+            Some(entry) => Ok(entry),
             None => match self.exec_any(code, hart) {
                 Ok(entry) => {
                     self.count(hart);

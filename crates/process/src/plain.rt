@@ -7,7 +7,8 @@ ghost use Rattle.block_model.specs.Events.{done_of};
 ghost use Rattle.block_model.specs.Stands.{Stand, here_at};
 ghost use Rattle.page_map.specs.Map.{byte_in, can_write_in};
 ghost use Rattle.process.specs.PlainSteps.{Fits, IsPlainStep, stepped};
-ghost use Rattle.process.specs.Refinement.{HasCode, IsAlone, IsPlace, IsUncounted, answer_to};
+ghost use Rattle.process.specs.Planned.{HasStep, IsNextStep};
+ghost use Rattle.process.specs.Refinement.{HasCode, IsAfter, IsAlone, IsPlace, answer_to};
 
 use crate::code::Code;
 use crate::next::kept_instruction;
@@ -87,16 +88,33 @@ pub(crate) fn take_step(state: &mut HartState, step: PlainStep)
 }
 
 impl Parts {
-    /// [`Parts::exec_any`] where the next instruction of the thread on a hart is one that the code keeps, a plain one that may be
-    /// executed; else None, and nothing changes.
+    /// [`Parts::make`] of an `exec` of the thread on a hart, whose next instruction may be executed and is a plain
+    /// one that does this: its entry.
     #[inline(always)]
-    pub(crate) fn exec_plain(&mut self, code: &Code, hart: Hart) -> Option<Entry>
+    pub(crate) fn make_step(&mut self, hart: Hart, step: PlainStep) -> Entry
+        requires { HasStep self.old hart.0 step }
+        ensures answer { (v : Stand) → IsPlace v self.old hart.0 → IsNextStep v self.old hart.0 step
+            → Ok result ≡ answer_to v hart.0 Choice.Exec }
+        ensures after { (v : Stand) → IsPlace v self.old hart.0 → IsNextStep v self.old hart.0 step
+            → IsAfter v hart.0 (done_of Choice.Exec (here_at v hart.0)) self.old self.new }
+    {
+        let state = &mut self.harts[hart.0 as usize];
+        let made = entry_of(hart, Kind::Exec, state);
+        take_step(state, step);
+        state.ran += 1;
+        self.count(hart);
+        made
+    }
+
+    /// The same where the next instruction of the thread on a hart is one that the code keeps, a plain one that
+    /// may be executed; else None, and nothing changes.
+    #[inline(always)]
+    pub(crate) fn make_plain(&mut self, code: &Code, hart: Hart) -> Option<Entry>
         requires { HasCode code.now self.old hart.0 }
         ensures answer { (v : Stand) → IsPlace v self.old hart.0 → IsAlone code.now v
             → IfSome result (λ e. Ok e ≡ answer_to v hart.0 Choice.Exec) }
-        ensures made { (v : Stand) → IsPlace v self.old hart.0 → IsAlone code.now v
-            → IfSome result
-            (λ e. IsUncounted v hart.0 (done_of Choice.Exec (here_at v hart.0)) self.old self.new) }
+        ensures after { (v : Stand) → IsPlace v self.old hart.0 → IsAlone code.now v → IfSome result
+            (λ e. IsAfter v hart.0 (done_of Choice.Exec (here_at v hart.0)) self.old self.new) }
         ensures none { IfNone result (self.new ≡ self.old) }
     {
         let state = &self.harts[hart.0 as usize];
@@ -109,10 +127,6 @@ impl Parts {
         let Some(step) = plain_step(state, &self.pages, inst) else {
             return None;
         };
-        let made = entry_of(hart, Kind::Exec, state);
-        let state = &mut self.harts[hart.0 as usize];
-        take_step(state, step);
-        state.ran += 1;
-        Some(made)
+        Some(self.make_step(hart, step))
     }
 }

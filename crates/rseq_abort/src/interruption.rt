@@ -1,12 +1,12 @@
 //! What an interruption comes to.
 
-ghost use Rattle.std.specs.Prelude.{◌≡◌, ℕ, [], if◌then◌else◌, Some};
+ghost use Rattle.std.specs.Prelude.{◌≡◌, ℕ, [], if◌then◌else◌, not, Some};
 ghost use Rattle.mach_types.specs.Bytes.{after_writes};
 ghost use Rattle.mach_types.specs.Kernel.Areas as areas;
-ghost use Rattle.mach_types.specs.Kernel.Areas.{interruption, outcome_of, pointer_cleared, writes_of};
+ghost use Rattle.mach_types.specs.Kernel.Areas.{interruption, is_inside, outcome_of, pointer_cleared, writes_of};
 
 use mach_types::sequences::RSEQ_CS;
-use mach_types::{Area, BadWhy, Named, Outcome, UserMem};
+use mach_types::{Area, BadWhy, Named, Outcome, Seq, UserMem};
 use rseq_area::named;
 
 /// Interrupts a thread at a pc, with the area that is registered for it (rseq(2)).
@@ -52,15 +52,7 @@ fn interrupt_named<M: UserMem>(mem: &mut M, area: &Area, pc: u64, found: Named) 
     match found {
         Named::Nothing => Outcome::Nothing,
         Named::Bad(why) => Outcome::Killed(why),
-        Named::Good(sequence) => {
-            if !clear_pointer(mem, area) {
-                Outcome::Killed(BadWhy::AreaBytes)
-            } else if sequence.is_inside(pc) {
-                Outcome::Aborted(sequence.abort)
-            } else {
-                Outcome::Cleared
-            }
-        }
+        Named::Good(sequence) => outcome_in(sequence, pc, clear_pointer(mem, area)),
     }
 }
 
@@ -71,15 +63,21 @@ fn foreseen_named<M: UserMem>(mem: &M, area: &Area, pc: u64, found: Named) -> Ou
     match found {
         Named::Nothing => Outcome::Nothing,
         Named::Bad(why) => Outcome::Killed(why),
-        Named::Good(sequence) => {
-            if !is_clearable(mem, area) {
-                Outcome::Killed(BadWhy::AreaBytes)
-            } else if sequence.is_inside(pc) {
-                Outcome::Aborted(sequence.abort)
-            } else {
-                Outcome::Cleared
-            }
-        }
+        Named::Good(sequence) => outcome_in(sequence, pc, is_clearable(mem, area)),
+    }
+}
+
+/// What comes of a thread at a pc whose area names this sequence, where the area's pointer is cleared, or can't be.
+fn outcome_in(sequence: Seq, pc: u64, cleared: bool) -> Outcome
+    ensures { result ≡ (if not cleared then Outcome.Killed BadWhy.AreaBytes
+        else if is_inside sequence pc then Outcome.Aborted sequence.abort else Outcome.Cleared) }
+{
+    if !cleared {
+        Outcome::Killed(BadWhy::AreaBytes)
+    } else if sequence.is_inside(pc) {
+        Outcome::Aborted(sequence.abort)
+    } else {
+        Outcome::Cleared
     }
 }
 

@@ -99,7 +99,7 @@ fn say<R: Eprint>(rt: &R, text: &str) {
 /// usage.
 fn system_words(rt: &HostRuntime) -> Result<Vec<String>, Fault> {
     match env::args(rt) {
-        Ok(args) => Ok(args.skip(1).collect(rt.alloc())?),
+        Ok(args) => args.skip(1).collect(rt.alloc()).map_err(|_| Fault::Memory),
         Err(error) if error.kind() == ErrorKind::OutOfMemory => Err(Fault::Memory),
         Err(_) => Err(Fault::Usage),
     }

@@ -2,7 +2,6 @@
 
 ghost use Rattle.std.specs.Prelude.{◌≡◌, ℕ, ◌+◌, ◌*◌, ◌%◌, ◌^◌, ◌<◌, ◌≤◌};
 ghost use Rattle.std.specs.Int.{w64, cast_unsigned};
-ghost use Rattle.rv_inst.specs.Fields.{field};
 ghost use Rattle.rv_asm.specs.Fields as spec;
 ghost use Rattle.rv_asm.specs.Formats.{IsLaidOut};
 
@@ -43,16 +42,6 @@ pub fn low_bits(count: u32, imm: i64) -> u32
     ensures { result ≡ cast_unsigned w64 imm % 2 ^ count }
 {
     (imm.cast_unsigned() % (1 << count)) as u32
-}
-
-/// The `count` bits of a number from bit `low` on.
-pub fn bits(number: u32, low: u32, count: u32) -> u32
-    requires within { low + count ≤ 32 }
-    requires some { 1 ≤ count }
-    requires narrow { count < 32 }
-    ensures { result ≡ field low count number }
-{
-    (number >> low) & ((1 << count) - 1)
 }
 
 /// The word of six fields, from the lowest to the highest.

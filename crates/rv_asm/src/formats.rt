@@ -6,8 +6,8 @@ ghost use Rattle.rv_asm.specs.Fields.{fits_jump, fits_shift, fits_fence};
 ghost use Rattle.rv_asm.specs.Formats.{IsLaidOut, IsFormatI, IsFormatS, IsFormatB, IsFormatU};
 ghost use Rattle.rv_asm.specs.Formats.{IsFormatJ, IsShift, IsFence, IsAtomic};
 
-use crate::fields::{bits, has_signed_bits, is_even, is_register, is_upper, lay_out, low_bits};
-use rv_decode::opcodes;
+use crate::fields::{has_signed_bits, is_even, is_register, is_upper, lay_out, low_bits};
+use rv_decode::{bits, opcodes};
 
 /// Format R: three registers.
 pub fn format_r(opcode: u32, funct3: u32, funct7: u32, rd: u8, rs1: u8, rs2: u8) -> Option<u32>

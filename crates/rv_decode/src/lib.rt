@@ -12,3 +12,4 @@ mod memory;
 pub mod opcodes;
 
 pub use decoder::decode;
+pub use fields::bits;

@@ -2,7 +2,7 @@
 use Rattle.std.proofs.lemmas.List.Elements.{filter-append}
 use Rattle.mach_types.specs.Kernel.Pages.{can_read}
 use Rattle.process.specs.Refinement.{IsReadable}
-use Rattle.shared_procs.proofs.Common.{◌≡◌, ℕ, ◌<◌, ◌++◌, ◌/◌, ◌||◌, Bool, true, false, List, [], ◌∷◌, length, drop, append_assoc, append-nil, Option, Some, None, IfSome, slice_get, refl, sym, ap, ◌∙◌, subst, arith, all_stored, AllByRecursion, AreEntering, AreStorable, aside, can_write, Done, each_byte, filter, fun_ext, HaveEntered, HaveLost, here_in_plain, HoldsPages, is_in_segment, is_shared, IsTied, lost_after, Map, may_write, nothing, Parts, permission_in, Plain, Setting, storable_in, Store, Stored, Write, written, lost_app}
+use Rattle.shared_procs.proofs.Common.{◌≡◌, ℕ, ◌++◌, ◌/◌, ◌||◌, Bool, true, false, List, [], ◌∷◌, drop, append_assoc, append-nil, Option, Some, None, IfSome, slice_get, refl, sym, ap, ◌∙◌, subst, all_stored, AllByRecursion, AreEntering, AreStorable, aside, can_write, Done, each_byte, filter, fun_ext, HaveEntered, HaveLost, here_in_plain, HoldsPages, is_in_segment, is_shared, IsTied, lost_after, Map, may_write, nothing, Parts, permission_in, Plain, Setting, storable_in, Store, Stored, Write, written, lost_app}
 use Rattle.shared_procs.proofs.TiedAlike.{quietly_aside}
 
 -- LISTS OF STORES
@@ -87,16 +87,6 @@ lost_both ss ts m m1 m2 first then s y tied =
 
 -- ONE AFTER THE OTHER
 
-pub entering_start : (waited : List Store) (m : Map) (segment : List ℕ) (other : Parts) → AreStorable m waited
-    → AreEntering waited waited m segment other m segment other
-entering_start waited m segment other may = record {
-  gone = [];
-  all = refl;
-  entered = entered_none m segment;
-  lost = λ s y tied. tied;
-  storable = may;
-}
-
 pub entering_more : (waited left : List Store) (w : Store) (m m1 m2 : Map) (segment segment1 segment2 : List ℕ) (other other1 other2 : Parts)
     → AreEntering waited left m segment other m1 segment1 other1 → Some w ≡ slice_get left 0
     → HaveEntered (w ∷ []) m1 segment1 m2 segment2 → HaveLost (w ∷ []) other1 other2
@@ -111,10 +101,6 @@ entering_more waited (v ∷ left) w m m1 m2 segment segment1 segment2 other othe
       lost = lost_both so.gone (w ∷ []) other other1 other2 so.lost lost;
       storable = storable_kept m1 m2 left entered.permissions so.storable.1;
     }
-
-pub fewer_left : (left : List Store) (w : Store) → Some w ≡ slice_get left 0 → length (drop 1 left) < length left
-fewer_left [] w at = cc
-fewer_left (v ∷ left) w at = omega arith
 
 pub none_left : (left : List Store) → None ≡ slice_get left 0 → left ≡ []
 none_left [] at = refl

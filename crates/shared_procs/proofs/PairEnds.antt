@@ -1,7 +1,7 @@
 -- How the processes of a pair end: an event ends a process by its exit or by a signal. So what is kept of a process tells whether an
 -- event ended it, or no thread of it can go on.
 use Rattle.mach_types.specs.declared.limits.End.TheVariants as over
-use Rattle.shared_procs.proofs.Common.{◌≡◌, ◌≢◌, Bool, true, false, not, ◌&&◌, cond, [], ◌∷◌, Option, Some, None, is_some, refl, sym, ap, ◌∙◌, subst, acting, choice_of, End, ends_by_process, Entry, event_two, half, has_ended, here_two, is_stuck, IsPairRunHistory, option_or, own_choice, Pair, pair_after, PairEvent, PairHistory, PairSetting, Plain, plain_over, state_of_end}
+use Rattle.shared_procs.proofs.Common.{◌≡◌, ◌≢◌, Bool, true, false, not, ◌&&◌, cond, [], ◌∷◌, Option, Some, None, is_some, refl, sym, ap, ◌∙◌, subst, acting, choice_of, End, ends_by_process, Entry, event_two, half, has_ended, here_two, is_stuck, IsPairRunHistory, option_or, own_choice, Pair, pair_after, PairEvent, PairHistory, PairSetting, plain_over}
 use Rattle.shared_procs.proofs.Halves.{each_half}
 
 -- no event ended it as one that is stuck
@@ -33,15 +33,6 @@ ended_tells None true fine = refl
 ended_tells None false fine = refl
 ended_tells (Some over.Stuck) stuck fine = absurd (fine refl)
 ended_tells (Some e) stuck fine = refl
-
-state_with : (o : Option End) (stuck : Bool) → state_of_end (option_or o (cond stuck (Some over.Stuck) None)) ≡ state_of_end o
-state_with None true = refl
-state_with None false = refl
-state_with (Some e) stuck = refl
-
--- how it stands
-pub state_read : (m : Plain) → state_of_end (plain_over m) ≡ state_of_end m.ended
-state_read m = state_with m.ended (is_stuck m.kernel.threads)
 
 -- and whether both have ended
 pub both_tell : (m : Pair) (one two : Option End) → ((p : Bool) → NotStuck (half p m).ended) → one ≡ plain_over m.first → two ≡ plain_over m.second

@@ -4,7 +4,7 @@ use Rattle.std.specs.Char.{digit_value, is_ascii_digit}
 use Rattle.std.specs.List.{list_all}
 use Rattle.std.specs.Str.Parse.{digits_value, AllDigits}
 use Rattle.std.proofs.lemmas.List.{take_all}
-use Rattle.std.proofs.lemmas.Int.Digits.{digits_value_more, digits_value-lt}
+use Rattle.std.proofs.lemmas.Int.Digits.{digits_value_more}
 use Rattle.std.proofs.lemmas.Str.Parse.{IsNumeralModel, numerals_by_value, digit_at, digits_value-take-le}
 use Rattle.std.proofs.lemmas.Bool.Decides.{nat_tests}
 use Rattle.step_log.specs.Script.{is_hex_digit}
@@ -44,15 +44,6 @@ hex_digits [] all = tt
 hex_digits (c ∷ cs) all =
     let parts = both (is_hex_digit c) (list_all is_hex_digit cs) all in
     (hex_digit_value_small c parts.0, hex_digits cs parts.1)
-
--- 16 digits fit a register
-pub hex_fits : (ds : List ℕ) (i : ℕ) → list_all is_hex_digit ds ≡ true → length ds ≡ 16 → i < length ds
-    → digits_value 16 (take i ds) * 16 + digit_value (get_or ds i 0) < 2 ^ 64
-hex_fits ds i all long within =
-    let more = digits_value_more 16 ds i within in
-    let part : digits_value 16 (take (i + 1) ds) ≤ digits_value 16 ds = digits_value-take-le 16 ds (i + 1) (omega arith) in
-    let whole : digits_value 16 ds < 16 ^ 16 = rw long at (digits_value-lt 16 ds (hex_digits ds all)) in
-    omega arith
 
 -- a number that was read to the end is small enough
 pub decimal_whole : (ds : List ℕ) (i n : ℕ) → length ds ≤ i → n ≡ digits_value 10 (take i ds) → n < 2 ^ 32

@@ -26,8 +26,7 @@ asked h t = barriers.asked (signed_32 (argument h t 0)) (int_argument h t 1)
 
 abbrev harts_asked : Here → ℕ → ℕ
 harts_asked h t =
-    let harts = h.setting.limits.harts in
-    barriers.targets (int_argument h t 1) (signed_32 (argument h t 2)) h.hart (running_harts h.kernel.threads harts) harts
+    barriers.targets (int_argument h t 1) (signed_32 (argument h t 2)) h.hart (running_harts h.kernel.threads h.setting.limits.harts) h.setting.limits.harts
 
 abbrev pub answer_asked : Here → ℕ → Answer
 answer_asked h t =

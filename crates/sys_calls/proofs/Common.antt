@@ -10,7 +10,7 @@ pub use Rattle.block_model.specs.Calls.Ending.{clearing, clears, ended_with, exi
 pub use Rattle.block_model.specs.Calls.Futexes.{Woken, answered_wait, futex, futex_errors, futex_wait, futex_wake, operation, wait_errors, wake, woken_first}
 pub use Rattle.block_model.specs.Calls.Memory.{are_mapping_flags, changed_unless, mapped_or_refused, may_break, mmap, mprotect, permission_here, taken_by, unless_refused, zeros_if_mapped}
 pub use Rattle.block_model.specs.Calls.Sequences.{registers, registers_or_refused, rseq, unregisters, unregisters_or_refused}
-pub use Rattle.block_model.specs.Calls.Signals.{action_given, action_size, action_written, broken_wait, is_below_one, masked, post, refuses_signal, resumed, rt_sigaction, rt_sigprocmask, rt_sigreturn, send, tgkill, tkill, waits_in_vain, with_posted}
+pub use Rattle.block_model.specs.Calls.Signals.{action_given, action_written, broken_wait, is_below_one, masked, post, refuses_signal, resumed, rt_sigaction, rt_sigprocmask, rt_sigreturn, send, tgkill, tkill, waits_in_vain, with_posted}
 pub use Rattle.block_model.specs.Here.{Here, is_writable, memory}
 pub use Rattle.block_model.specs.History.{file_among}
 pub use Rattle.block_model.specs.Ids.{id_of, without_id}
@@ -26,7 +26,7 @@ pub use Rattle.mach_types.specs.Kernel.Pages.{PageRun, Pages, can_read, can_writ
 pub use Rattle.mach_types.specs.Kernel.Scheduling.{Scheduling, affinity_of, harts_in, has_hart, is_of, with_affinity, with_ready, with_thread}
 pub use Rattle.mach_types.specs.Kernel.SignalFrames.{frame_read}
 pub use Rattle.mach_types.specs.Kernel.Signals.{Signalling, acted, action_of, changed_mask, mask_of, next_for, posted, refuses_action, refuses_how, with_mask}
-pub use Rattle.mach_types.specs.Kernel.Threads.{IsThreads, Thread, Threads, clear_if, clear_of, is_full, is_live, is_on, is_ready_state, is_thread, is_waiting_state, longest_waiter, numbers, running_on, runs, state_of, thread_of, waits, with_child, with_clear, with_state, with_waiter, with_woken, without}
+pub use Rattle.mach_types.specs.Kernel.Threads.{IsThreads, Thread, Threads, clear_if, clear_of, is_full, is_live, is_ready_state, is_waiting_state, longest_waiter, numbers, running_on, runs, state_of, thread_of, waits, with_child, with_clear, with_state, with_waiter, with_woken, without}
 pub use Rattle.mach_types.specs.Registers.{register}
 pub use Rattle.mach_types.specs.declared.barriers.Answer.{Answer}
 pub use Rattle.mach_types.specs.declared.barriers.Registered.{Registered}
@@ -47,7 +47,7 @@ pub use Rattle.std.proofs.Common.{Bool, Err, IsErr, IsErrAnd, IsOk, List, None, 
 pub use Rattle.std.proofs.lemmas.Bool.{OnTrue_at, and_parts, and_right, cases_eq, cases_lt, cond-false, cond-true, eq-eqb, eqb-true, false≢true, le-leb, le-ltb, leb-true, lt-leb, lt-ltb, ltb-false, ltb-true, ne_eqb, not_from_false, not_from_true}
 pub use Rattle.std.proofs.lemmas.Int.{of_z-to_z}
 pub use Rattle.std.proofs.lemmas.List.{get_or-set_same, length-map, length-take, map-append, set-set}
-pub use Rattle.std.specs.List.{find, list_any}
+pub use Rattle.std.specs.List.{list_any}
 pub use Rattle.std.specs.Option.{option_map, option_map_or}
 pub use Rattle.sys_calls.specs.Answered.{AreTables, IsAnswered, IsCaller, IsEntered, IsRead}
 pub use Rattle.sys_calls.specs.Chosen.{setaffinity_with}

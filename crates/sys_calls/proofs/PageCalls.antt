@@ -110,9 +110,6 @@ abbrev munmap_at : Here → ℕ → ℕ → ℕ → CallDone
 munmap_at h t at len = changed_unless h t (munmap_refusal (permission_here h) at len) (unmapped at len h.kernel.pages)
 
 module _ (h : Here) (t : ℕ) (m m' : Map) (has : HasPages h m) (at len at' len' : ℕ) (at_is : at ≡ at') (len_is : len ≡ len') where
-  munmap_refusal_is : (o : Option Errno) → munmap_refusal (permission_in m) at len ≡ o → munmap_refusal (permission_here h) at len ≡ o
-  munmap_refusal_is o is = ap (λ (p : ℕ → Option ℕ). munmap_refusal p at len) (sym (permissions_are h m has)) ∙ is
-
   pub munmap_made : (u : Unit {0}) → Ok u ≡ answer_unless (munmap_refusal (permission_in m) at len)
       → ((n : ℕ) → permission_in m' n ≡ run_over (run (at / 4096) (pages_of len) None) (permission_in m) n)
       → ((a : ℕ) → held_in m' a ≡ held_over (run (at / 4096) (pages_of len) None) (held_in m) a)
@@ -126,7 +123,7 @@ module _ (h : Here) (t : ℕ) (m m' : Map) (has : HasPages h m) (at len at' len'
       (λ i. has.free i + mapped_count (permissions_are h m has i) (at / 4096) (pages_of len)) in
       subst (λ (d : CallDone). IsRemapped h t m m' [] (Ok 0) d) (λ i. munmap_at h t (at_is i) (len_is i))
       (changed_made h t m m' (munmap_refusal (permission_here h) at len) (unmapped at len p)
-      (munmap_refusal_is None (no_refusal (munmap_refusal (permission_in m) at len) u is))
+      (ap (λ (p : ℕ → Option ℕ). munmap_refusal p at len) (sym (permissions_are h m has)) ∙ no_refusal (munmap_refusal (permission_in m) at len) u is)
       (holds_over p h.setting.program.break_at h.byte m m' r (p.free + mapped_count (permission_of p.runs) (at / 4096) (pages_of len)) p.break_at [] has (zeroed_none r h.byte refl)
       permissions held (frees ∙ free_is) (breaks ∙ has.break_at) starts)
       code)
@@ -185,18 +182,17 @@ module _ (h : Here) (t : ℕ) (m m' : Map) (has : HasPages h m) (at len perm at'
         → IsRemapped h t m m' [] (Ok 0) (mprotect_at h t at' len' prot)
     mprotect_made u is permissions held frees breaks starts code =
         let r = run (at / 4096) (pages_of len) None in
-        let p = h.kernel.pages in
         let free = protect_refusal_is None (no_refusal (mprotect_refusal (permission_in m) at len perm) u is) in
         subst (λ (d : CallDone). IsRemapped h t m m' [] (Ok 0) d) (λ i. mprotect_at h t (at_is i) (len_is i) prot)
-        (changed_made h t m m' (mprotect_refusal (permission_here h) at len prot) (protected at len prot p) free
+        (changed_made h t m m' (mprotect_refusal (permission_here h) at len prot) (protected at len prot h.kernel.pages) free
         (record {
           permissions = λ n.
               permissions n
-              ∙ given_by (is_in r n) (permission_for perm) (permission_for prot) (permission_in m n) (permission_of p.runs n)
+              ∙ given_by (is_in r n) (permission_for perm) (permission_for prot) (permission_in m n) (permission_of h.kernel.pages.runs n)
               (λ here. let page = protectable_here free n here in ap permission_for (prot_is.same page.taken)) (has.permissions n);
           held = λ a.
               held a ∙ has.held a
-              ∙ kept_by (is_in r (a / 4096)) (permission_of p.runs (a / 4096)) (permission_for prot) (h.byte a)
+              ∙ kept_by (is_in r (a / 4096)) (permission_of h.kernel.pages.runs (a / 4096)) (permission_for prot) (h.byte a)
               (λ here. let page = protectable_here free (a / 4096) here in page.mapped);
           free = frees ∙ has.free;
           break_at = breaks ∙ has.break_at;

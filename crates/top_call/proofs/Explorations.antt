@@ -11,11 +11,11 @@ use Rattle.explored_runs.specs.Text.{explored_text}
 use Rattle.outcomes.specs.Explorations.{IsExploreOutput, exploration_of}
 use Rattle.outcomes.specs.Programs.{Files, IsProgram}
 
-pub output_of_exploration : (files : Files) (program : List ℕ) (settings : Settings) (image : Image) (x : Exploration)
-    (e : Explored) (text : List ℕ) → IsProgram files program settings.limits image → x ≡ exploration_of settings
+pub output_of_exploration : {files : Files} {program : List ℕ} {image : Image} {x : Exploration} {text : List ℕ}
+    (settings : Settings) (e : Explored) → IsProgram files program settings.limits image → x ≡ exploration_of settings
     → IsExplored (setting_of image settings.limits) x e → text ≡ explored_text x.apart (account_of e)
     → IsExploreOutput files program settings text
-output_of_exploration files program settings image x e text taken same told is = record {
+output_of_exploration {image = image} settings e taken same told is = record {
   image = image;
   taken = taken;
   account = account_of e;

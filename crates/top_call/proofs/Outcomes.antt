@@ -7,7 +7,7 @@ use Rattle.outcomes.specs.declared.faults.Fault.TheVariants.{Usage, Read, Memory
 use Rattle.outcomes.specs.Answers.{IsAnswer, IsTold}
 use Rattle.outcomes.specs.Causes.{HasBigFile, IsCause, IsCauseOf}
 use Rattle.outcomes.specs.Delivery.{IsCutShort, IsDelivered, IsWritten}
-use Rattle.outcomes.specs.Needs.{needs_in}
+use Rattle.outcomes.specs.Needs.{needs_in, needs_of}
 use Rattle.outcomes.specs.Outcome.{Call, CouldNotRead, IsDue, IsElfLine, IsGuestLine, IsOutcome, IsScriptLine, IsStatus}
 use Rattle.outcomes.specs.Outcome.{Wrote, WroteText}
 use Rattle.outcomes.specs.Outputs.{IsOutput, IsOutputOf}
@@ -15,8 +15,8 @@ use Rattle.outcomes.specs.Programs.{Files}
 use Rattle.outcomes.specs.Statuses.{fault_status}
 use Rattle.outcomes.specs.Text.{fault_line}
 use Rattle.command_words.specs.Words.{command_of}
-use Rattle.output_laws.proofs.Laws.{fault_when_bad_line, fault_when_big, fault_when_faulty}
-use Rattle.output_laws.proofs.Laws.{fault_when_good, fault_when_outside, unused_when_bad_line, unused_when_big}
+use Rattle.output_laws.proofs.Laws.{fault_when_good, left_by_bad_line, left_by_big, left_by_faulty, left_by_outside, status_left}
+use Rattle.output_laws.proofs.Laws.{unused_when_bad_line, unused_when_big}
 use Rattle.output_laws.proofs.Laws.{unused_when_faulty, unused_when_outside, used_by_output}
 use Rattle.output_laws.proofs.Laws.{plain_output_of}
 
@@ -176,6 +176,7 @@ written_line : (call : Call) (fault : Fault) (status : ℕ) → IsKept call
 written_line call fault status keeps cause written =
     let is = written.status in
     let command = command_of call.words in
+    let needs = needs_of command in
     let old = call.read_faults in
     let new = call.read_faults_after in
     let is_now : (a b : ℕ) → (fault_status fault ≡ a) ⊎ (fault_status fault ≡ b)
@@ -189,19 +190,19 @@ written_line call fault status keeps cause written =
           ∙ usage_alone call.files old new fault (subst (λ c. IsCauseOf call.files c old new fault) none cause));
       elf = λ at. elf_said call fault cause written.gained (sym is ∙ at);
       elf_always = λ told none. is_now 3 7
-          (fault_when_faulty call.files command old new fault told none.0 cause);
+          (status_left call.files command old new 3 fault (left_by_faulty call.files needs told) none.0 cause);
       script = λ at. script_said call fault cause written.gained (sym is ∙ at);
       script_always = λ told none. is_now 4 7
-          (fault_when_bad_line call.files command old new fault told none.0 cause);
+          (status_left call.files command old new 4 fault (left_by_bad_line call.files needs told) none.0 cause);
       read = λ at. read_said call fault cause written.gained (sym is ∙ at);
       write = λ at. absurd (no_write_status fault (sym is ∙ at));
       memory = λ at. memory_said call fault cause written.gained (sym is ∙ at);
       big = λ at. big_said call fault cause written.gained (sym is ∙ at);
       big_always = λ told none. is_now 8 7
-          (fault_when_big call.files command old new fault told none.0 cause);
+          (status_left call.files command old new 8 fault (left_by_big call.files needs told) none.0 cause);
       guest = λ at. guest_said call fault cause written.gained (sym is ∙ at);
       guest_always = λ number outside none. is_now 9 7
-          (fault_when_outside call.files command old new fault number outside none.0 cause);
+          (status_left call.files command old new 9 fault (left_by_outside call.files needs number outside) none.0 cause);
       complete = λ told none. inr (is
           ∙ ap fault_status (fault_when_good call.files command old new fault told none.0 cause));
       files = keeps.files;

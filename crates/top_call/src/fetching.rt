@@ -4,9 +4,10 @@ ghost use Rattle.std.specs.Prelude.{◌≡◌, ◌<◌, ◌≤◌, ◌⊎◌, Al
 ghost use Rattle.elf_load.specs.Images.{IsBootable};
 ghost use Rattle.elf_load.specs.Faults.{first_fault};
 ghost use Rattle.outside.specs.Counts.{NoneFalls};
+ghost use Rattle.command_words.specs.Commands.{Script};
 ghost use Rattle.outcomes.specs.Delivery.{IsFileReason, IsLoadReason, IsTakeReason};
-ghost use Rattle.outcomes.specs.Needs.{Program as NeedsProgram};
-ghost use Rattle.outcomes.specs.Programs.{IsProgram, IsReadAs, most_program_bytes};
+ghost use Rattle.outcomes.specs.Needs.{Program as NeedsProgram, needs_by};
+ghost use Rattle.outcomes.specs.Programs.{IsProgram, IsReadAs, IsScript, most_program_bytes};
 ghost use Rattle.outcomes.specs.Reasons.{IsReasonFor, most_bytes};
 
 use crate::elf_places::place_of;
@@ -37,6 +38,37 @@ pub(crate) fn taken<S: Shelf>(
     ensures counts { NoneFalls (S.faults shelf.old) (S.faults shelf.new) }
 {
     taken_as(alloc, name, FileRole::Program, limits, shelf)
+}
+
+/// The files of a run by a script: the program's image, and the script's bytes.
+#[derive(Drop)]
+pub(crate) struct ScriptFiles {
+    /// The program's image.
+    pub(crate) image: Image,
+    /// The script's bytes.
+    pub(crate) lines: Vec<u8>,
+}
+
+/// The image of the program of the first name, and the script of the second.
+pub(crate) fn scripted<S: Shelf>(
+    alloc: Global,
+    program: &str,
+    script: &str,
+    limits: Limits,
+    shelf: &mut S,
+) -> Result<ScriptFiles, Reason>
+    ensures taken { IfOk result (λ files. IsProgram (S.file shelf.old) program.now limits files.image) }
+    ensures bootable { IfOk result (λ files. IsBootable limits.frames files.image) }
+    ensures read { IfOk result (λ files. IsScript (S.file shelf.old) script.now files.lines.items) }
+    ensures cause { let needs = needs_by program.now (Script script.now) limits in
+        IfErr result (IsReasonFor (S.file shelf.old) needs (S.faults shelf.old) (S.faults shelf.new)
+        (S.last_trouble shelf.new)) }
+    ensures files { S.file shelf.new ≡ S.file shelf.old }
+    ensures counts { NoneFalls (S.faults shelf.old) (S.faults shelf.new) }
+{
+    let image = taken(alloc, program, &limits, shelf)?;
+    let lines = read_file(alloc, script, FileRole::Script, shelf)?;
+    Ok(ScriptFiles { image, lines })
 }
 
 /// The image of the program of this name, which has this role.

@@ -18,7 +18,7 @@ ghost use Rattle.outcomes.specs.Outputs.{HasRun, IsOutputOf, IsRunOutput};
 ghost use Rattle.outcomes.specs.Reasons.{IsReasonFor};
 
 use crate::exploring::{explored_alone, explored_together};
-use crate::fetching::{read_file, taken};
+use crate::fetching::{ScriptFiles, read_file, scripted, taken};
 use crate::pairing::pair_text;
 use command_runs::{
     Output, TracedRun, counted_summary, play, play_counted, play_traced, run_rounds, run_solo,
@@ -206,8 +206,8 @@ fn summed_text<S: Shelf>(
     ensures files { S.file shelf.new ≡ S.file shelf.old }
     ensures counts { NoneFalls (S.faults shelf.old) (S.faults shelf.new) }
 {
-    let image = taken(alloc, program, &limits, shelf)?;
-    let lines = read_file(alloc, script, FileRole::Script, shelf)?;
+    let files = scripted(alloc, program, script, limits, shelf)?;
+    let ScriptFiles { image, lines } = files;
     let run = play_counted(alloc, &image, limits, &lines)?;
     Ok(counted_summary(alloc, &run)?)
 }
@@ -383,8 +383,8 @@ fn script_run<S: Shelf>(
     ensures files { S.file shelf.new ≡ S.file shelf.old }
     ensures counts { NoneFalls (S.faults shelf.old) (S.faults shelf.new) }
 {
-    let image = taken(alloc, program, &limits, shelf)?;
-    let lines = read_file(alloc, script, FileRole::Script, shelf)?;
+    let files = scripted(alloc, program, script, limits, shelf)?;
+    let ScriptFiles { image, lines } = files;
     let machine = play(alloc, &image, limits, &lines)?;
     Ok(ProgramRun { image, machine })
 }

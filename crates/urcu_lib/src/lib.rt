@@ -6,7 +6,6 @@
 //! holds a number that isn't below the new counter.
 #![tactic(auto)]
 
-mod lines;
 mod reads;
 mod regs;
 mod syncs;

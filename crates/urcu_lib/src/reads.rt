@@ -5,9 +5,8 @@ ghost use Rattle.percpu_lib.specs.Lines.{AreEmitted};
 ghost use Rattle.urcu_lib.specs.Lines.{lock_lines, unlock_lines};
 ghost use Rattle.urcu_lib.specs.Registers.{AreReadRegs};
 
-use crate::lines::inst;
 use crate::regs::ReadRegs;
-use percpu_lib::{Line, emit_lines};
+use percpu_lib::{emit_lines, inst};
 use rv_asm::Asm;
 use rv_inst::Inst;
 use std::alloc::{AllocError, Global};

@@ -7,9 +7,8 @@ ghost use Rattle.percpu_lib.specs.Lines.{AreEmitted};
 ghost use Rattle.urcu_lib.specs.Lines.{AreFree, sync_lines};
 ghost use Rattle.urcu_lib.specs.Registers.{AreSyncRegs};
 
-use crate::lines::{branch, inst};
 use crate::regs::SyncRegs;
-use percpu_lib::{EmitFault, Line, emit_lines};
+use percpu_lib::{EmitFault, Line, branch, emit_lines, inst};
 use rv_asm::Asm;
 use rv_inst::Inst;
 use std::alloc::Global;

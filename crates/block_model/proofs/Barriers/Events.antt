@@ -1,7 +1,6 @@
 -- What an event has to do so that what holds of barriers goes on to hold, and what it then makes of requests and of barriers that are
 -- waited in. No kind of event occurs here.
-use Rattle.std.proofs.Common.{◌≡◌, ◌≢◌, ◌⊎◌, ℕ, ◌<◌, ◌++◌, drop, [], Bool, true, false, cond, eqb, ◌&&◌, ◌||◌, Option, Some, None, refl, sym, ap, ◌∙◌}
-use Rattle.block_model.proofs.Common.{Barrier, Done, Here, Neighbour, Threads, awaits_after, awaits_of_own, has_hart, option_map, option_or, requests_after, restart_after, restarts_at, running_on, runs, waiting_here, with_hart, without_hart}
+use Rattle.block_model.proofs.Common.{◌≡◌, ◌≢◌, ◌⊎◌, ℕ, ◌<◌, ◌++◌, drop, [], Bool, true, false, cond, eqb, ◌&&◌, ◌||◌, Option, Some, None, refl, sym, ap, ◌∙◌, Barrier, Done, Here, Neighbour, Threads, awaits_after, awaits_of_own, has_hart, option_map, option_or, requests_after, restart_after, restarts_at, running_on, runs, waiting_here, with_hart, without_hart}
 use Rattle.block_model.specs.Requests.{is_about}
 use Rattle.block_model.proofs.Barriers.Requests.{IsAwaited, awaited_begun, awaited_returned, awaited_same, awaited_taken}
 use Rattle.block_model.proofs.HartSets.{some_in, with_hart-itself}

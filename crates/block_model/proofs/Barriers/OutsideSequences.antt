@@ -1,7 +1,6 @@
 -- A hart whose thread waits in a barrier is in no sequence: the call of the barrier is outside, and no instruction is executed until the
 -- barrier returns.
-use Rattle.std.proofs.Common.{◌≡◌, ℕ, ◌∷◌, refl, sym, ap, ◌∙◌, Bool, true, false, cond, eq-eqb, Option, Some, None}
-use Rattle.block_model.proofs.Common.{Barrier, Done, Entry, Event, Here, History, IsRunHistory, Kind, Outcome, Sequence, Setting, awaits, awaits_of_own, choice_with, done_of, false≢true, is_inside_at, is_inside_here, is_instruction, is_of_hart, is_taken_in, option_map, option_map_or, option_or, refusal_exec_by, refusal_of, runs, sequence_on, without_hart}
+use Rattle.block_model.proofs.Common.{◌≡◌, ℕ, ◌∷◌, refl, sym, ap, ◌∙◌, Bool, true, false, cond, eq-eqb, Option, Some, None, Barrier, Done, Entry, Event, Here, History, IsRunHistory, Kind, Outcome, Sequence, Setting, awaits, awaits_of_own, choice_with, done_of, false≢true, is_inside_at, is_inside_here, is_instruction, is_of_hart, is_taken_in, option_map, option_map_or, option_or, refusal_exec_by, refusal_of, runs, sequence_on, without_hart}
 use Rattle.mach_types.specs.declared.events.Kind.TheVariants as kind
 use Rattle.block_model.proofs.Invariants.Events.{out_of_barrier}
 use Rattle.block_model.proofs.Sequences.{Begins, Elsewhere, IsOf, Own, SequenceStep, TakesIn, is_taken, by_sequence}

@@ -1,7 +1,6 @@
 -- Requests of barriers and the barriers that threads wait in, hart by hart: what holds of them at each place of a run, and that it goes
 -- on to hold where a barrier begins, where a hart takes its requests, and where a barrier returns. No event occurs here.
-use Rattle.std.proofs.Common.{◌≡◌, ◌≢◌, ℕ, ◌<◌, Bool, true, false, cond, eqb, Option, Some, None, inl, inr, refl, sym, ap, ◌∙◌, subst, arith}
-use Rattle.block_model.proofs.Common.{cond_both, eqb_same, eqb_tells, has_hart, ne_eqb, option_map, with_hart, without_hart}
+use Rattle.block_model.proofs.Common.{◌≡◌, ◌≢◌, ℕ, ◌<◌, Bool, true, false, cond, eqb, Option, Some, None, inl, inr, refl, sym, ap, ◌∙◌, subst, arith, cond_both, eqb_same, eqb_tells, has_hart, ne_eqb, option_map, with_hart, without_hart}
 use Rattle.block_model.proofs.HartSets.{none_in, with_hart-itself, with_hart-keeps, with_hart-other, without_hart-has, without_hart-other}
 
 -- the barrier of hart h's thread waits for hart k

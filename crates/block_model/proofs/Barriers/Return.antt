@@ -1,7 +1,6 @@
 -- In a log of allowed entries a barrier returns only where each hart that it is about is passed (membarrier(2)). While a thread waits
 -- in its barrier, each hart that the barrier is about has a request pending or is passed already.
-use Rattle.std.proofs.Common.{◌≡◌, ◌≢◌, ℕ, ◌+◌, ◌≤◌, List, [], ◌∷◌, ◌++◌, length, length-append, length-drop, drop, eqb, arith, refl, sym, ap, ◌∙◌, subst, Bool, true, false, not, cond, ◌&&◌, ◌||◌, inl, inr, Option, Some, None, is_none}
-use Rattle.block_model.proofs.Common.{Barrier, Done, Entry, Event, Here, History, IsAllowedLog, IsRunHistory, Kind, Sequence, Setting, Store, and_right, awaits, awaits_of_own, begun_with, cases_eq, choice_with, done_done_by, done_of, done_take_by, drains, eqb-false, eqb-true, eqb_same, event, false≢true, fold, has_hart, here_in_history, history, is_inside_at, is_inside_here, is_instruction, is_of_hart, is_taken_in, ne_eqb, option_map, option_map_or, option_or, or_right, refusal_done_by, restart, restarts_at, running, runs, sequence_on, stores, taken_up, waiting, with_event, without_hart}
+use Rattle.block_model.proofs.Common.{◌≡◌, ◌≢◌, ℕ, ◌+◌, ◌≤◌, List, [], ◌∷◌, ◌++◌, length, length-append, length-drop, drop, eqb, arith, refl, sym, ap, ◌∙◌, subst, Bool, true, false, not, cond, ◌&&◌, ◌||◌, inl, inr, Option, Some, None, is_none, Barrier, Done, Entry, Event, Here, History, IsAllowedLog, IsRunHistory, Kind, Sequence, Setting, Store, and_right, awaits, awaits_of_own, begun_with, cases_eq, choice_with, done_done_by, done_of, done_take_by, drains, eqb-false, eqb-true, eqb_same, event, false≢true, fold, has_hart, here_in_history, history, is_inside_at, is_inside_here, is_instruction, is_of_hart, is_taken_in, ne_eqb, option_map, option_map_or, option_or, or_right, refusal_done_by, restart, restarts_at, running, runs, sequence_on, stores, taken_up, waiting, with_event, without_hart}
 use Rattle.mach_types.specs.declared.events.Kind.TheVariants as kind
 use Rattle.block_model.specs.Barriers.{Begun, HaveReturned, IsPassed, IsProperReturn, begun_on, begun_or}
 use Rattle.block_model.specs.Requests.{has_taken}

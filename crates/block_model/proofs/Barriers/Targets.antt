@@ -1,6 +1,5 @@
 -- The harts that a barrier is about are others than its own, and a thread ran on each of them where it was called.
-use Rattle.std.proofs.Common.{◌≡◌, ◌≢◌, ℕ, [], ◌∷◌, sym, ◌∙◌, subst, Bool, true, false, cond, Option, Some, None, refl}
-use Rattle.block_model.proofs.Common.{Barrier, History, IsRunHistory, Setting, eqb-true, has_hart, is_of_hart, running}
+use Rattle.block_model.proofs.Common.{◌≡◌, ◌≢◌, ℕ, [], ◌∷◌, sym, ◌∙◌, subst, Bool, true, false, cond, Option, Some, None, refl, Barrier, History, IsRunHistory, Setting, eqb-true, has_hart, is_of_hart, running}
 use Rattle.block_model.specs.Barriers.{Begun, begun_on, begun_or}
 use Rattle.block_model.proofs.Runs.{fit_at}
 

@@ -1,7 +1,6 @@
 -- While a thread waits in the barrier that it began it stays on its hart, which makes no event but takes of requests (membarrier(2)). And a
 -- take interrupts a thread only where one of the requests asks for a restart.
-use Rattle.std.proofs.Common.{◌≡◌, ℕ, refl, Bool, true, false, Option, Some, None, ◌≢◌, List, [], ◌∷◌, ◌++◌, sym, ap, ◌∙◌, subst, cond}
-use Rattle.block_model.proofs.Common.{Barrier, Done, Entry, Event, Here, History, IsAllowedLog, IsRunHistory, IsSome, Kind, Setting, Store, awaits, awaits_of_own, choice_with, done, done_of, done_take, done_take_by, eqb-false, eqb-true, event, false≢true, history, is_of_hart, number_of, option_map, option_or, refusal_drain_of, refusal_of, restart, running, running_on, runs, thread_in, waiting_here, without_hart}
+use Rattle.block_model.proofs.Common.{◌≡◌, ℕ, refl, Bool, true, false, Option, Some, None, ◌≢◌, List, [], ◌∷◌, ◌++◌, sym, ap, ◌∙◌, subst, cond, Barrier, Done, Entry, Event, Here, History, IsAllowedLog, IsRunHistory, IsSome, Kind, Setting, Store, awaits, awaits_of_own, choice_with, done, done_of, done_take, done_take_by, eqb-false, eqb-true, event, false≢true, history, is_of_hart, number_of, option_map, option_or, refusal_drain_of, refusal_of, restart, running, running_on, runs, thread_in, waiting_here, without_hart}
 use Rattle.mach_types.specs.declared.events.Kind.TheVariants as kind
 use Rattle.block_model.specs.Barriers.{Begun, IsWaiting, begun_on, begun_or}
 use Rattle.block_model.proofs.Barriers.Events.{waited_before}

@@ -1,6 +1,5 @@
 -- sched_setaffinity(2), sched_getaffinity(2), sched_yield(2) and getcpu(2).
-use Rattle.std.proofs.Common.{◌≡◌, ℕ, ◌&&◌, [], ◌∷◌, true, arith, eqb}
-use Rattle.block_model.proofs.Common.{Here, and_parts, are_writable, argument, eqb-false, has_hart, int_argument, is_writable, not-false, word_written}
+use Rattle.block_model.proofs.Common.{◌≡◌, ℕ, ◌&&◌, [], ◌∷◌, true, arith, eqb, Here, and_parts, are_writable, argument, eqb-false, has_hart, int_argument, is_writable, not-false, word_written}
 use Rattle.block_model.specs.Calls.Affinity.{getaffinity_errors, getcpu, getcpu_errors, is_usable, sched_getaffinity, sched_setaffinity, sched_yield, set_at, set_given, setaffinity_errors, written_unless_zero}
 use Rattle.block_model.proofs.AllowedHarts.{harts_in_below}
 use Rattle.block_model.proofs.CallEffects.{CallDeed, Answers, Leaves, MovesOff, Same, Stays, answers_0, by_errors, small_no_error, step_either}

@@ -1,6 +1,5 @@
 -- membarrier(2): its answer is one at once, or its barrier is about other harts of the machine. So it is beside another process.
-use Rattle.std.proofs.Common.{◌≡◌, ◌≢◌, ◌⊎◌, inl, inr, ℕ, ℤ, pos, ◌+◌, ◌-◌, ◌*◌, ◌%◌, ◌^◌, ◌<◌, ◌≤◌, [], Bool, true, false, not, cond, eqb, ltb, ◌&&◌, ◌||◌, Option, Some, None, is_some, refl, sym, ap, ◌∙◌, subst, arith}
-use Rattle.block_model.proofs.Common.{CallDone, EINVAL, EPERM, Errno, Here, IsError, IsGoodHere, Neighbour, Registered, Threads, and_parts, argument, eqb-false, eqb_same, false≢true, for_barriers, has_hart, has_hart-harts_that, int_argument, ltb-true, mod-lt, negative, option_map_or, or_cases, running_on, said}
+use Rattle.block_model.proofs.Common.{◌≡◌, ◌≢◌, ◌⊎◌, inl, inr, ℕ, ℤ, pos, ◌+◌, ◌-◌, ◌*◌, ◌%◌, ◌^◌, ◌<◌, ◌≤◌, [], Bool, true, false, not, cond, eqb, ltb, ◌&&◌, ◌||◌, Option, Some, None, is_some, refl, sym, ap, ◌∙◌, subst, arith, CallDone, EINVAL, EPERM, Errno, Here, IsError, IsGoodHere, Neighbour, Registered, Threads, and_parts, argument, eqb-false, eqb_same, false≢true, for_barriers, has_hart, has_hart-harts_that, int_argument, ltb-true, mod-lt, negative, option_map_or, or_cases, running_on, said}
 use Rattle.std.specs.Int.{w32, cast_unsigned}
 use Rattle.std.specs.Ordering.{int_eq}
 use Rattle.std.specs.Prelude.{neg_ℤ}

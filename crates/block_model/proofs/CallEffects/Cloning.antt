@@ -1,6 +1,5 @@
 -- clone(2).
-use Rattle.std.proofs.Common.{◌≡◌, ℕ, ◌&&◌, [], ◌∷◌, true, arith}
-use Rattle.block_model.proofs.Common.{Here, and_parts, are_writable, argument, has_flag, is_writable, next_number, not-false, word_written}
+use Rattle.block_model.proofs.Common.{◌≡◌, ℕ, ◌&&◌, [], ◌∷◌, true, arith, Here, and_parts, are_writable, argument, has_flag, is_writable, next_number, not-false, word_written}
 use Rattle.block_model.specs.Calls.Cloning.{clone, clone_child_settid, clone_errors, clone_parent_settid, may_write, written_if}
 use Rattle.block_model.proofs.CallEffects.{CallDeed, Bears, by_errors}
 use Rattle.block_model.proofs.WritableBytes.{AllWritable, both_writable, written_where}

@@ -1,6 +1,5 @@
 -- write(2) and writev(2).
-use Rattle.std.proofs.Common.{ℕ, List, [], ◌∷◌, arith, length, length-take, take, eqb}
-use Rattle.block_model.proofs.Common.{CONSOLE_ROOM, Here, argument, leb-false, memory}
+use Rattle.block_model.proofs.Common.{ℕ, List, [], ◌∷◌, arith, length, length-take, take, eqb, CONSOLE_ROOM, Here, argument, leb-false, memory}
 use Rattle.block_model.specs.Calls.Console.{Span, bytes_of, room, span_errors, spans_at, total, write, write_errors, write_spans, writev, writev_errors}
 use Rattle.block_model.proofs.CallEffects.{CallDeed, Answers, Prints, Says, by_errors, either, small_no_error}
 

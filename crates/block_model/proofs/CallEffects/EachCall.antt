@@ -1,6 +1,5 @@
 -- Each call of the table is one of the deeds.
-use Rattle.std.proofs.Common.{◌≡◌, ◌≢◌, ℕ, eqb, refl, sym, subst, true, None}
-use Rattle.block_model.proofs.Common.{CallDone, Here, call_number, called, eqb-true}
+use Rattle.block_model.proofs.Common.{◌≡◌, ◌≢◌, ℕ, eqb, refl, sym, subst, true, None, CallDone, Here, call_number, called, eqb-true}
 use Rattle.block_model.specs.Calls.{call_of, own_call_of}
 use Rattle.block_model.proofs.CallEffects.{Begins, CallDeed, Says, either}
 use Rattle.block_model.proofs.CallEffects.Affinity.{deed_getaffinity, deed_getcpu, deed_setaffinity, deed_yield}

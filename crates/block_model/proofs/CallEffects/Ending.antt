@@ -1,6 +1,5 @@
 -- exit(2) and exit_group(2).
-use Rattle.std.proofs.Common.{◌≡◌, ℕ, Bool, true, false, not, cond, refl, [], ◌∷◌, length, arith, eqb}
-use Rattle.block_model.proofs.Common.{Here, and_parts, are_writable, clear_of, clears, is_writable, leb-false, word_written}
+use Rattle.block_model.proofs.Common.{◌≡◌, ℕ, Bool, true, false, not, cond, refl, [], ◌∷◌, length, arith, eqb, Here, and_parts, are_writable, clear_of, clears, is_writable, leb-false, word_written}
 use Rattle.block_model.specs.Calls.Ending.{clearing, ended_with, exit, exit_group, is_last}
 use Rattle.block_model.proofs.CallEffects.{CallDeed, Ends, Exits, either}
 use Rattle.block_model.proofs.WritableBytes.{AllWritable}

@@ -1,6 +1,5 @@
 -- futex(2).
-use Rattle.std.proofs.Common.{◌≡◌, ℕ, [], arith, eqb}
-use Rattle.block_model.proofs.Common.{Here, argument, int_argument, mod-lt, next_for}
+use Rattle.block_model.proofs.Common.{◌≡◌, ℕ, [], arith, eqb, Here, argument, int_argument, mod-lt, next_for}
 use Rattle.block_model.specs.Calls.Futexes.{futex, futex_errors, futex_wait, operation, wait_errors}
 use Rattle.block_model.proofs.SignalsOfWaiters.{none_left}
 use Rattle.block_model.proofs.CallEffects.{CallDeed, Waits, Wakes, answers_0, by_errors, either}

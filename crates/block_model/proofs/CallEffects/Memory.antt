@@ -1,7 +1,6 @@
 -- brk(2), mmap(2), munmap(2) and mprotect(2): a page that such a call doesn't take can be written after it
 -- where it could before.
-use Rattle.std.proofs.Common.{◌≡◌, ℕ, ◌-◌, ◌/◌, ◌≤◌, inl, inr, List, [], ◌∷◌, refl, sym, subst, arith, Bool, true, false, not, cond, ◌&&◌, eqb, leb, ltb, Option, Some, None, Result, Ok, Err, is_none, is_some}
-use Rattle.block_model.proofs.Common.{Errno, Here, IsError, MAPPING_START, PAGE_SIZE, PageRun, Pages, USER_END, and_parts, argument, can_write, cases_lt, cond_both, each_page-at, false≢true, is_in, is_writable, le-leb, le-ltb, leb-true, lt-ltb, paged, pages_of, permission_of, run, said, taken_by}
+use Rattle.block_model.proofs.Common.{◌≡◌, ℕ, ◌-◌, ◌/◌, ◌≤◌, inl, inr, List, [], ◌∷◌, refl, sym, subst, arith, Bool, true, false, not, cond, ◌&&◌, eqb, leb, ltb, Option, Some, None, Result, Ok, Err, is_none, is_some, Errno, Here, IsError, MAPPING_START, PAGE_SIZE, PageRun, Pages, USER_END, and_parts, argument, can_write, cases_lt, cond_both, each_page-at, false≢true, is_in, is_writable, le-leb, le-ltb, leb-true, lt-ltb, paged, pages_of, permission_of, run, said, taken_by}
 use Rattle.mach_types.specs.Kernel.Pages.{zeros_of}
 use Rattle.mach_types.specs.Kernel.PageCalls.{break_run, free_past, mapped_at, mmap_answer, mprotect_refusal, munmap_refusal, permission_for, protected, unmapped}
 use Rattle.block_model.specs.Calls.Memory.{brk, changed_unless, mapped_or_refused, may_break, mmap, mmap_errors, mprotect, munmap, no_pages, permission_here, unless_refused, zeros_if_mapped}

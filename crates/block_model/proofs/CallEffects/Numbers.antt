@@ -1,6 +1,5 @@
 -- getpid(2), gettid(2) and set_tid_address(2).
-use Rattle.std.proofs.Common.{ℕ, []}
-use Rattle.block_model.proofs.Common.{Here, argument, clear_if, keeps_clear}
+use Rattle.block_model.proofs.Common.{ℕ, [], Here, argument, clear_if, keeps_clear}
 use Rattle.block_model.specs.Calls.Numbers.{getpid, gettid, set_tid_address}
 use Rattle.block_model.proofs.CallEffects.{CallDeed, Answers, ChangesRows, Says, small_no_error}
 

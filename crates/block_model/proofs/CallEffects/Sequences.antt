@@ -1,6 +1,5 @@
 -- rseq(2), which isn't there beside another process.
-use Rattle.std.proofs.Common.{◌≡◌, ℕ, ◌%◌, Bool, cond, eqb, not, true, false, refl, Option, Some, None, Result, Ok, Err}
-use Rattle.block_model.proofs.Common.{Area, EINVAL, Errno, Here, Neighbour, are_words_writable, area_here, argument, id_of, int_argument, is_writable, option_map_or, words_on}
+use Rattle.block_model.proofs.Common.{◌≡◌, ℕ, ◌%◌, Bool, cond, eqb, not, true, false, refl, Option, Some, None, Result, Ok, Err, Area, EINVAL, Errno, Here, Neighbour, are_words_writable, area_here, argument, id_of, int_argument, is_writable, option_map_or, words_on}
 use Rattle.mach_types.specs.Kernel.Areas.{registered_again, registered_first, registration, unregistration, words_unregistered}
 use Rattle.block_model.specs.Calls.Beside.{sequence_call}
 use Rattle.block_model.specs.Calls.Sequences.{registers_or_refused, rseq, unregisters, unregisters_or_refused}

@@ -1,6 +1,5 @@
 -- tkill(2), tgkill(2), sigaction(2), sigprocmask(2) and sigreturn(2).
-use Rattle.std.proofs.Common.{◌≡◌, ◌≢◌, ◌∙◌, ◌≤◌, ◌+◌, arith, ℕ, List, Bool, cond, eqb, false, true, refl, subst, Option, Some, None, is_some, [], ◌∷◌}
-use Rattle.block_model.proofs.Common.{Action, EINVAL, Here, Kernel, Signalling, ThreadState, Threads, Waiting, acted, action_of, and_parts, are_writable, argument, double_written, false≢true, frame_read, int_argument, is_waiting_state, is_writable, mask_of, memory, next_for, not-false, option_map_or, posted, resumed, state_of, waits, with_mask}
+use Rattle.block_model.proofs.Common.{◌≡◌, ◌≢◌, ◌∙◌, ◌≤◌, ◌+◌, arith, ℕ, List, Bool, cond, eqb, false, true, refl, subst, Option, Some, None, is_some, [], ◌∷◌, Action, EINVAL, Here, Kernel, Signalling, ThreadState, Threads, Waiting, acted, action_of, and_parts, are_writable, argument, double_written, false≢true, frame_read, int_argument, is_waiting_state, is_writable, mask_of, memory, next_for, not-false, option_map_or, posted, resumed, state_of, waits, with_mask}
 use Rattle.mach_types.specs.Kernel.Signals.{changed_mask}
 use Rattle.block_model.specs.Calls.Answers.{number_at}
 use Rattle.block_model.specs.Calls.Signals.{action_at, action_given, action_size, action_written, masked, may_write, post, refuses_signal, rt_sigaction, rt_sigprocmask, rt_sigreturn, send, sigaction_errors, sigprocmask_errors, tgkill, tgkill_errors, tkill, tkill_errors, waits_in_vain, with_posted}

@@ -1,6 +1,5 @@
 -- Events other than instructions are fit: what each does where it is not refused keeps what holds at each place of a run.
-use Rattle.std.proofs.Common.{◌≡◌, ℕ, ◌≤◌, List, [], ◌++◌, drop, sym, ap, ◌∙◌, subst, arith, None, ◌∷◌, refl, Bool, true, false, cond, eqb, Option, Some, ◌≢◌}
-use Rattle.block_model.proofs.Common.{AllByRecursion, Done, Here, IsGoodHere, IsTables, MayEnter, NoRequest, NotAllowed, NotReady, Outcome, Pages, Ready, Saved, Scheduling, Store, Targets, Threads, Why, action_of, affinity_of, done_done, done_done_by, done_drain_of, done_killed, done_next, done_preempt_by, done_run, done_running, done_signal, done_signal_by, done_take, done_take_by, eqb-true, file_interrupted, files_interrupted, handled_unless_killed, handler_file, has_hart, interruption_here, is_ready, kills, left, lives_on, ne_eqb, next_for, on, only_took, refusal_delivery, refusal_done_by, refusal_drain_of, refusal_preempt_by, refusal_return, refusal_run, refusal_run_by, refusal_signal, refusal_signal_by, refusal_take, running_on, runs, signals_handled, signals_taken, state_of, took_and_interrupted, unless_in_barrier, unless_waiting, waiting_here, with_register}
+use Rattle.block_model.proofs.Common.{◌≡◌, ℕ, ◌≤◌, List, [], ◌++◌, drop, sym, ap, ◌∙◌, subst, arith, None, ◌∷◌, refl, Bool, true, false, cond, eqb, Option, Some, ◌≢◌, AllByRecursion, Done, Here, IsGoodHere, IsTables, MayEnter, NoRequest, NotAllowed, NotReady, Outcome, Pages, Ready, Saved, Scheduling, Store, Targets, Threads, Why, action_of, affinity_of, done_done, done_done_by, done_drain_of, done_killed, done_next, done_preempt_by, done_run, done_running, done_signal, done_signal_by, done_take, done_take_by, eqb-true, file_interrupted, files_interrupted, handled_unless_killed, handler_file, has_hart, interruption_here, is_ready, kills, left, lives_on, ne_eqb, next_for, on, only_took, refusal_delivery, refusal_done_by, refusal_drain_of, refusal_preempt_by, refusal_return, refusal_run, refusal_run_by, refusal_signal, refusal_signal_by, refusal_take, running_on, runs, signals_handled, signals_taken, state_of, took_and_interrupted, unless_in_barrier, unless_waiting, waiting_here, with_register}
 use Rattle.block_model.proofs.Barriers.Events.{IsFitBarriers, quiet_still, quiet_free}
 use Rattle.block_model.proofs.PlaceInvariant.{IsFit, fit_either}
 use Rattle.block_model.proofs.Invariants.Calls.Conditions.{IsApart, apart_one, apart_none}

@@ -1,6 +1,5 @@
 -- An instruction.
-use Rattle.std.proofs.Common.{◌≡◌, ℕ, ◌+◌, ◌≤◌, List, [], ◌∷◌, refl, sym, ◌∙◌, arith, Bool, true, false, not, cond, ◌&&◌, ◌||◌, leb, ltb, Option, Some, None, length, is_some}
-use Rattle.block_model.proofs.Common.{AllByRecursion, Effect, FullBuffer, Here, IsGoodHere, MayEnter, Neighbour, Others, Pages, Regs, Store, Why, by_call, by_effect, by_outcome, call_number, called, called_here, can_write, done_exec, done_exec_by, each_byte, fault_by, fault_in, fetched, has_handler, instruction_gate, is_call, is_held, is_inside_here, is_reserved, is_storable, killed_in_call, leb-false, lies_waiting_on, lt-ltb, next_effect, next_fault, option_or, or_in_segment, others_gate, outcome, outcome_of, permission_at, reached, refusal_exec, refusal_exec_by, runs, taken_by, unless_allowed, view_of_all, waiting_here, with_pending}
+use Rattle.block_model.proofs.Common.{◌≡◌, ℕ, ◌+◌, ◌≤◌, List, [], ◌∷◌, refl, sym, ◌∙◌, arith, Bool, true, false, not, cond, ◌&&◌, ◌||◌, leb, ltb, Option, Some, None, length, is_some, AllByRecursion, Effect, FullBuffer, Here, IsGoodHere, MayEnter, Neighbour, Others, Pages, Regs, Store, Why, by_call, by_effect, by_outcome, call_number, called, called_here, can_write, done_exec, done_exec_by, each_byte, fault_by, fault_in, fetched, has_handler, instruction_gate, is_call, is_held, is_inside_here, is_reserved, is_storable, killed_in_call, leb-false, lies_waiting_on, lt-ltb, next_effect, next_fault, option_or, or_in_segment, others_gate, outcome, outcome_of, permission_at, reached, refusal_exec, refusal_exec_by, runs, taken_by, unless_allowed, view_of_all, waiting_here, with_pending}
 use Rattle.mach_types.specs.declared.events.Why.TheVariants.{Waiting}
 use Rattle.mach_types.specs.declared.user_memory.TheConstants.{STORE_BUFFER_CAPACITY}
 use Rattle.rv_inst.specs.declared.effects.Effect.TheVariants as effect

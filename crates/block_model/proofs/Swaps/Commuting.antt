@@ -1,6 +1,5 @@
 -- Two plain events of different harts, of which neither touches the other's bytes, may be made in either order.
-use Rattle.std.proofs.Common.{◌≡◌, ◌≢◌, ℕ, ◌+◌, List, ◌++◌, drop, refl, sym, ap, ◌∙◌, Bool, true, false, cond, eqb, ◌&&◌, ◌||◌, Option, Some, inl, inr, ◌⊎◌, suc}
-use Rattle.block_model.proofs.Common.{Here, Kernel, Plain, Saved, Setting, Store, apply, awaits_after, eqb-true, file_among, here_in_plain, lost_after, ne_eqb, requests_after, restart_after, runs, written}
+use Rattle.block_model.proofs.Common.{◌≡◌, ◌≢◌, ℕ, ◌+◌, List, ◌++◌, drop, refl, sym, ap, ◌∙◌, Bool, true, false, cond, eqb, ◌&&◌, ◌||◌, Option, Some, inl, inr, ◌⊎◌, suc, Here, Kernel, Plain, Saved, Setting, Store, apply, awaits_after, eqb-true, file_among, here_in_plain, lost_after, ne_eqb, requests_after, restart_after, runs, written}
 use Rattle.block_model.proofs.Swaps.PlainDone.{PlainDone, as_done}
 use Rattle.block_model.proofs.Swaps.PlainEvents.{Around, IsPassed, with_lost, passed}
 use Rattle.block_model.proofs.Swaps.Untouched.{lost_swaps, untouched}

@@ -1,7 +1,6 @@
 -- Two neighbouring entries of a block run may be exchanged, if they are plain events of different harts of which neither touches the
 -- other's bytes.
-use Rattle.std.proofs.Common.{◌≡◌, ℕ, ◌+◌, ◌<◌, List, [], ◌∷◌, ◌++◌, length, refl, sym, ap, ◌∙◌, subst, append-nil, append_assoc, length-append, None, Ok}
-use Rattle.block_model.proofs.Common.{AreApart, Choice, Entry, IsBlockRun, IsRunHistory, Kernel, Plain, Seen, Setting, choice_of, decide, decide_in, done_of, entry_in, event, final, fold, fold-append, here_in_plain, here_of, history, plain_after, plain_next, plain_over, plain_start, refusal_of, running_on, unless}
+use Rattle.block_model.proofs.Common.{◌≡◌, ℕ, ◌+◌, ◌<◌, List, [], ◌∷◌, ◌++◌, length, refl, sym, ap, ◌∙◌, subst, append-nil, append_assoc, length-append, None, Ok, AreApart, Choice, Entry, IsBlockRun, IsRunHistory, Kernel, Plain, Seen, Setting, choice_of, decide, decide_in, done_of, entry_in, event, final, fold, fold-append, here_in_plain, here_of, history, plain_after, plain_next, plain_over, plain_start, refusal_of, running_on, unless}
 use Rattle.block_model.proofs.Laws.{IsFit, IsNext, at_kind, decided, history-append, next_event, run_before, run_on, same_here, same_state}
 use Rattle.block_model.specs.PlainEvents.{footprint, is_plain}
 use Rattle.block_model.specs.Swaps.{IsEquivalentRun, MaySwap, footprint_after}

@@ -1,7 +1,6 @@
 -- What an instruction does is the same where what it reads and writes wasn't written by others meanwhile; but its hart's reservation
 -- is lost, or not, as it would be after it.
-use Rattle.std.proofs.Common.{◌≡◌, ℕ, ◌+◌, ◌≤◌, ◌%◌, List, [], ◌∷◌, refl, sym, ap, ◌∙◌, arith, Bool, true, false, cond, ◌||◌, eqb, leb, ltb, Option, Some, None, unwrap_or, inl, inr, ◌⊎◌}
-use Rattle.block_model.proofs.Common.{Bytes, Effect, Regs, Store, Write, all_stored, and_parts, bytes, bytes_of_all, cases_eq, cond_both, eqb-true, false≢true, fault_in, has_byte, have_byte, is_reserved, le-leb, leb-true, lost_after, lt-ltb, ltb-true, ne_eqb, or_cases, or_parts, outcome, read_by, unless_allowed}
+use Rattle.block_model.proofs.Common.{◌≡◌, ℕ, ◌+◌, ◌≤◌, ◌%◌, List, [], ◌∷◌, refl, sym, ap, ◌∙◌, arith, Bool, true, false, cond, ◌||◌, eqb, leb, ltb, Option, Some, None, unwrap_or, inl, inr, ◌⊎◌, Bytes, Effect, Regs, Store, Write, all_stored, and_parts, bytes, bytes_of_all, cases_eq, cond_both, eqb-true, false≢true, fault_in, has_byte, have_byte, is_reserved, le-leb, leb-true, lost_after, lt-ltb, ltb-true, ne_eqb, or_cases, or_parts, outcome, read_by, unless_allowed}
 use Rattle.mach_types.specs.Bytes.{IsAccessSize}
 use Rattle.rv_inst.specs.Execution.{Outcome, is_allowed, reserved_at, unless_aligned, word_seen}
 use Rattle.rv_inst.specs.Class.{reserving_read, conditional_write}

@@ -1,6 +1,5 @@
 -- Two plain events of different harts, one after the other, at a state of the plain machine.
-use Rattle.std.proofs.Common.{◌≡◌, ◌≢◌, ℕ, List, [], ◌∷◌, refl, sym, ap, ◌∙◌, subst, true, Option, Some, None, inl, inr, ◌⊎◌}
-use Rattle.block_model.proofs.Common.{AreApart, Choice, Done, Effect, Footprint, Here, Plain, Saved, Setting, Store, Write, apply, bytes_of_all, cases_eq, done_of, entry_in, file_among, have_byte, here_in_plain, ne_eqb, next_effect, refusal_of, runs, waiting_here, written}
+use Rattle.block_model.proofs.Common.{◌≡◌, ◌≢◌, ℕ, List, [], ◌∷◌, refl, sym, ap, ◌∙◌, subst, true, Option, Some, None, inl, inr, ◌⊎◌, AreApart, Choice, Done, Effect, Footprint, Here, Plain, Saved, Setting, Store, Write, apply, bytes_of_all, cases_eq, done_of, entry_in, file_among, have_byte, here_in_plain, ne_eqb, next_effect, refusal_of, runs, waiting_here, written}
 use Rattle.std.proofs.lemmas.Bool.{cases_Bool}
 use Rattle.mach_types.specs.declared.events.Choice.TheVariants as asked
 use Rattle.block_model.specs.PlainEvents.{footprint, is_plain}

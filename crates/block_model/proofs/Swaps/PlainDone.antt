@@ -1,6 +1,6 @@
 -- What a plain event does, by the few things that it can do.
 use Rattle.block_model.proofs.Common.{Choice, Done, Effect, Here, Kernel, List, Saved, Store, Stored, Write, all_stored, next_effect, nothing_with, outcome_of, runs, waiting_here}
-use Rattle.std.specs.Prelude.{ℕ, false, [], ◌∷◌, Option, Some, None}
+use Rattle.std.specs.Prelude.{ℕ, [], ◌∷◌, Option, Some, None}
 use Rattle.mach_types.specs.declared.events.Choice.TheVariants as asked
 use Rattle.rv_inst.specs.Execution.{Outcome}
 

@@ -1,10 +1,8 @@
 -- A plain event is the same after a plain event of another hart that touched nothing which it reads or writes.
-use Rattle.std.proofs.Common.{◌≡◌, ℕ, List, [], ◌∷◌, length, refl, sym, ap, ◌∙◌, subst, Bool, true, false, not, cond, if◌then◌else◌, Option, Some, None, is_none, is_some}
-use Rattle.block_model.proofs.Common.{Choice, Effect, Entry, Footprint, Here, Regs, Saved, Store, Write, and_parts, by_call, by_effect, by_outcome, bytes_of_all, called_here, can_read, done_drain_of, done_exec_by, done_of, entry_in, false≢true, fault_by, fetched, have_byte, instruction_gate, instruction_of, is_call, is_held, is_storable, lost_after, meaning, memory, memory_in, next_effect, next_fault, not-true, option_and_then, option_map, option_or, others_gate, outcome, outcome_of, overlay, pc_in, permission_at, reached, read_by, refusal_drain_of, refusal_exec_by, refusal_of, runs, unless_in_barrier, view, view_of_all, waiting_here, with_segment}
+use Rattle.block_model.proofs.Common.{◌≡◌, ℕ, List, [], ◌∷◌, length, refl, sym, ap, ◌∙◌, subst, Bool, true, false, not, cond, if◌then◌else◌, Option, Some, None, is_none, is_some, Choice, Effect, Entry, Footprint, Here, Regs, Saved, Store, Write, and_parts, by_call, by_effect, by_outcome, bytes_of_all, called_here, can_read, done_drain_of, done_exec_by, done_of, entry_in, false≢true, fault_by, fetched, have_byte, instruction_gate, instruction_of, is_call, is_held, is_storable, lost_after, meaning, memory, memory_in, next_effect, next_fault, not-true, option_and_then, option_map, option_or, others_gate, outcome, outcome_of, overlay, pc_in, permission_at, reached, read_by, refusal_drain_of, refusal_exec_by, refusal_of, runs, unless_in_barrier, view, view_of_all, waiting_here, with_segment, Inst}
 use Rattle.mach_types.specs.declared.events.Choice.TheVariants as asked
 use Rattle.rv_inst.proofs.Laws.{meaning-sized}
 use Rattle.rv_inst.specs.Sizes.{HasAccessSizes}
-use Rattle.rv_inst.specs.declared.instruction.Inst.{Inst}
 use Rattle.block_model.specs.Instruction as instruction
 use Rattle.rv_inst.specs.Accesses.{reserved_by}
 use Rattle.block_model.specs.PlainEvents.{footprint, footprint_drain, footprint_exec, footprint_of, is_plain, is_plain_exec_by, is_plain_exec_of, reserved_exec, reserved_of}

@@ -1,6 +1,5 @@
 -- What isn't touched stays as it is: bytes, words, faults and reservations.
-use Rattle.std.proofs.Common.{◌≡◌, ℕ, ◌+◌, ◌≤◌, ◌<◌, List, [], ◌∷◌, refl, sym, ap, ◌∙◌, arith, Bool, true, false, cond, ◌&&◌, leb, ltb, Option, Some, None, zero, suc, is_some, inl, inr, ◌⊎◌}
-use Rattle.block_model.proofs.Common.{Effect, Kernel, Neighbour, Stored, Write, Zeroed, and_from, and_parts, byte_after, bytes, bytes_of_all, can_read, cases_lt, false≢true, fault_in, has_byte, have_byte, is_in_segment, le-leb, lost_after, lt-ltb, ltb-true, memory_in, option_and_then, option_or, or_parts, or_right, permission_at, with_segment, word_at, written}
+use Rattle.block_model.proofs.Common.{◌≡◌, ℕ, ◌+◌, ◌≤◌, ◌<◌, List, [], ◌∷◌, refl, sym, ap, ◌∙◌, arith, Bool, true, false, cond, ◌&&◌, leb, ltb, Option, Some, None, zero, suc, is_some, inl, inr, ◌⊎◌, Effect, Kernel, Neighbour, Stored, Write, Zeroed, and_from, and_parts, byte_after, bytes, bytes_of_all, can_read, cases_lt, false≢true, fault_in, has_byte, have_byte, is_in_segment, le-leb, lost_after, lt-ltb, ltb-true, memory_in, option_and_then, option_or, or_parts, or_right, permission_at, with_segment, word_at, written}
 use Rattle.mach_types.specs.Bytes.{joined}
 use Rattle.rv_inst.specs.Class.{asks}
 use Rattle.rv_inst.specs.Execution.{access_fault, has_reserved}

@@ -19,7 +19,7 @@ ghost use Rattle.block_model.specs.declared.refusals.Refused.{Refused};
 ghost use Rattle.block_model.specs.Sights.{effect_here, fault_here, is_deliverable_on, sight_in};
 ghost use Rattle.rv_inst.specs.Sizes.{HasAccessSizes};
 ghost use Rattle.process.specs.Foresight.{foreseen_writes};
-ghost use Rattle.process.specs.Harts.{file_on, hart_in};
+ghost use Rattle.process.specs.Harts.{file_of, hart_in};
 ghost use Rattle.process.specs.Sequences.{area_on, looked_at_on};
 ghost use Rattle.machine_core.specs.Free.{goes_freely};
 
@@ -178,20 +178,23 @@ impl Machine {
             (refusal_exec (here_in_history self.now.setting (history self.now.setting self.now.log) hart.0)) }
     {
         let state = self.hart(hart);
-        self.is_enabled(hart, effect_at(&self.code, &state.file, state.pc))
+        self.is_enabled(hart, state, effect_at(&self.code, &state.file, state.pc))
     }
 
-    /// The same, where this is what the instruction at the pc of the hart asks for.
+    /// The same, where this is the state of the hart, and what the instruction at its pc asks for.
     #[inline]
-    fn is_enabled(&self, hart: Hart, effect: Option<Effect>) -> bool
+    fn is_enabled(&self, hart: Hart, state: &HartState, effect: Option<Effect>) -> bool
         requires hart { hart.0 < self.now.setting.limits.harts }
-        requires effect { let here = here_in_history self.now.setting (history self.now.setting self.now.log) hart.0 in
-            effect ≡ next_effect self.now.setting.program.pages (file_on here (runs here)) }
+        requires state { state.now
+            ≡ hart_in (here_in_history self.now.setting (history self.now.setting self.now.log) hart.0)
+            (ran hart.0 (history self.now.setting self.now.log))
+            (events hart.0 (history self.now.setting self.now.log))
+            (credit_at self.now.setting self.now.seed hart.0 (history self.now.setting self.now.log)) }
+        requires effect { effect ≡ next_effect self.now.setting.program.pages (file_of state.now) }
         requires sizes { IfSome effect HasAccessSizes }
         ensures { result ≡ is_none
             (refusal_exec (here_in_history self.now.setting (history self.now.setting self.now.log) hart.0)) }
     {
-        let state = self.hart(hart);
         if is_open(state, effect.as_ref()) {
             return true;
         }
@@ -219,7 +222,7 @@ impl Machine {
             requested: state.requests != 0,
             stores: state.buffer.len(),
             deliverable: self.parts.deliverable(hart).is_some(),
-            exec_enabled: self.is_enabled(hart, effect),
+            exec_enabled: self.is_enabled(hart, state, effect),
             local: !state.is_idle() && is_local(effect.as_ref()),
             ran: state.ran,
             credit: state.credit,

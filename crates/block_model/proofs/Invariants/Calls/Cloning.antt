@@ -1,6 +1,5 @@
 -- clone(2).
-use Rattle.std.proofs.Common.{List, ◌≡◌, ◌≢◌, ℕ, [], ◌∷◌, refl, sym, ap, ◌∙◌, subst, arith, Bool, true, false, cond, Option, Some, None}
-use Rattle.block_model.proofs.Common.{CallDone, Here, IsGoodHere, IsSound, Kernel, PageRun, Saved, Setting, Thread, Write, argument, child_file, clear_if, cleared, clone_child_cleartid, had_child, has_flag, is_full, keeps_clear, ne_eqb, next_is_new, next_number, on, option_map, returned, running_on, runs, state_of, with_new_child}
+use Rattle.block_model.proofs.Common.{List, ◌≡◌, ◌≢◌, ℕ, [], ◌∷◌, refl, sym, ap, ◌∙◌, subst, arith, Bool, true, false, cond, Option, Some, None, CallDone, Here, IsGoodHere, IsSound, Kernel, PageRun, Saved, Setting, Thread, Write, argument, child_file, clear_if, cleared, clone_child_cleartid, had_child, has_flag, is_full, keeps_clear, ne_eqb, next_is_new, next_number, on, option_map, returned, running_on, runs, state_of, with_new_child}
 use Rattle.block_model.proofs.AllowedHarts.{child_allowed, running_live}
 use Rattle.block_model.proofs.KernelTables.{running_is}
 use Rattle.block_model.proofs.KernelCalls.{child_not_held, child_same, tables_child}

@@ -1,7 +1,6 @@
 -- What a call does that is fit, and what makes one fit: a step of the record, beside files that are the caller's own or of threads that
 -- don't run.
-use Rattle.std.proofs.Common.{◌≡◌, ◌≢◌, ℕ, zero, suc, ◌+◌, ◌/◌, ◌≤◌, ◌<◌, inl, inr, List, [], ◌∷◌, ◌++◌, refl, sym, ap, ◌∙◌, subst, arith, Bool, true, false, not, ◌||◌, Option, Some, None}
-use Rattle.block_model.proofs.Common.{AllByRecursion, Barrier, CallDone, Here, IsGoodHere, IsHeld, IsSound, IsTables, MayEnter, Neighbour, PageRun, Pages, Saved, Store, Threads, and_parts, by_call, can_write, cases_eq, cases_lt, each_byte, file_among, is_in, is_in_segment, lies_waiting_on, list_any, ne_eqb, not-false, not-true, or_in_segment, or_parts, permission_at, permission_of, running_on, runs, waiting_here}
+use Rattle.block_model.proofs.Common.{◌≡◌, ◌≢◌, ℕ, zero, suc, ◌+◌, ◌/◌, ◌≤◌, ◌<◌, inl, inr, List, [], ◌∷◌, ◌++◌, refl, sym, ap, ◌∙◌, subst, arith, Bool, true, false, not, ◌||◌, Option, Some, None, AllByRecursion, Barrier, CallDone, Here, IsGoodHere, IsHeld, IsSound, IsTables, MayEnter, Neighbour, PageRun, Pages, Saved, Store, Threads, and_parts, by_call, can_write, cases_eq, cases_lt, each_byte, file_among, is_in, is_in_segment, lies_waiting_on, list_any, ne_eqb, not-false, not-true, or_in_segment, or_parts, permission_at, permission_of, running_on, runs, waiting_here}
 use Rattle.block_model.specs.Calls.Memory.{lies_on}
 use Rattle.block_model.proofs.KernelTables.{running_is, runs_once}
 use Rattle.block_model.proofs.Pages.{IsPaged}

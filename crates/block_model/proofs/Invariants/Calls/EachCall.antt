@@ -1,6 +1,5 @@
 -- Each call of the table is fit.
-use Rattle.std.proofs.Common.{◌≡◌, ℕ, List, [], ◌∷◌, length, map, cond, refl, sym, ap, ◌∙◌, subst, arith, is_some, true, Option, Some, None}
-use Rattle.block_model.proofs.Common.{CallDone, Here, IsGoodHere, Kernel, PageRun, Setting, ThreadState, Write, answered_wait, broken_wait, call_number, called, clear_of, clears, gone, left, ne_eqb, registered, restricted, returned, runs, said, signalled, sum_64, taken_by, unregistered, waits, wake, woken}
+use Rattle.block_model.proofs.Common.{◌≡◌, ℕ, List, [], ◌∷◌, length, map, cond, refl, sym, ap, ◌∙◌, subst, arith, is_some, true, Option, Some, None, CallDone, Here, IsGoodHere, Kernel, PageRun, Setting, ThreadState, Write, answered_wait, broken_wait, call_number, called, clear_of, clears, gone, left, ne_eqb, registered, restricted, returned, runs, said, signalled, sum_64, taken_by, unregistered, waits, wake, woken}
 use Rattle.mach_types.specs.Kernel.SignalFrames as frame
 use Rattle.block_model.proofs.Barriers.Events.{IsAtOthers}
 use Rattle.block_model.proofs.CallEffects.{Answers, Bears, Begins, Breaks, CallDeed, ChangesRows, Ends, EnrolsFor, Exits, Leaves, MovesOff, Prints, Registers, Remaps, Resumes, Same, Says, Signalled, Stays, TableStep, Unregisters, Waits, Wakes}

@@ -1,6 +1,5 @@
 -- futex(2).
-use Rattle.std.proofs.Common.{◌≡◌, ℕ, [], map, refl, ◌∙◌, true, Option, Some, None, zero, suc}
-use Rattle.block_model.proofs.Common.{Here, IsGoodHere, IsSound, Kernel, Saved, Setting, ThreadState, Threads, Waiting, answered_wait, false≢true, file_among, ne_eqb, option_map_or, running_on, state_of, waits, wake, woken}
+use Rattle.block_model.proofs.Common.{◌≡◌, ℕ, [], map, refl, ◌∙◌, true, Option, Some, None, zero, suc, Here, IsGoodHere, IsSound, Kernel, Saved, Setting, ThreadState, Threads, Waiting, answered_wait, false≢true, file_among, ne_eqb, option_map_or, running_on, state_of, waits, wake, woken}
 use Rattle.mach_types.specs.Kernel.Threads.{is_waiting_at, longest_waiter}
 use Rattle.block_model.specs.Calls.Futexes.{Woken, woken_first}
 use Rattle.block_model.proofs.KernelTables.{found_passes, waits_elsewhere}

@@ -1,6 +1,5 @@
 -- Steps of the kernel's record that calls are made of: what each keeps.
-use Rattle.std.proofs.Common.{◌≡◌, ◌≢◌, ℕ, ◌+◌, ◌≤◌, ◌<◌, ◌^◌, List, refl, ◌∙◌, arith, Some, length, length-append, sym, ap, subst}
-use Rattle.block_model.proofs.Common.{CONSOLE_ROOM, IsHeld, IsSound, IsTables, KeepsRows, Kernel, Scheduling, Setting, Signalling, Thread, Threads, gone, left, printed, restricted, rows_changed, running_on, running_on-with_rows, signalled, waited, waits, woken}
+use Rattle.block_model.proofs.Common.{◌≡◌, ◌≢◌, ℕ, ◌+◌, ◌≤◌, ◌<◌, ◌^◌, List, refl, ◌∙◌, arith, Some, length, length-append, sym, ap, subst, CONSOLE_ROOM, IsHeld, IsSound, IsTables, KeepsRows, Kernel, Scheduling, Setting, Signalling, Thread, Threads, gone, left, printed, restricted, rows_changed, running_on, running_on-with_rows, signalled, waited, waits, woken}
 use Rattle.block_model.proofs.AllowedHarts.{kept_allowed, restricted_allowed, ended_allowed}
 use Rattle.block_model.proofs.KernelTables.{tables_rows, tables_left, left_others}
 use Rattle.block_model.proofs.KernelCalls.{tables_allowed, tables_woken, woken_same, tables_waited, waited_others, tables_ended, ended_others}

@@ -22,16 +22,12 @@ returns-clause-bytes c = assembled c.args.parts.now _ _ _ _ _ _ _ _ _ c.new-file
 
 pub returns-clause-frames : goal.returns-clause-frames
 returns-clause-frames c =
-    let entry : c.args.parts.now.entry < 2 ^ 64 = omega arith in
-    let flags : c.args.parts.now.flags < 2 ^ 32 = omega arith in
     let short : length c.push_contents.new.file.items < 2 ^ 63 = omega (arith, c.push_contents.new.file.ok, c.push_contents.new.file.small) in
-    let file : IsWritten c.args.parts.now c.push_contents.new.file.items = written_file c.args.parts.now _ _ _ (returns-clause-taken c) entry flags c.in_ok-headers.ensures.headers c.deref-3.ensures.value c.in_ok-headers.ensures.flags (returns-clause-bytes c) short in
+    let file : IsWritten c.args.parts.now c.push_contents.new.file.items = written_file c.args.parts.now _ _ _ (returns-clause-taken c) (omega arith) (omega arith) c.in_ok-headers.ensures.headers c.deref-3.ensures.value c.in_ok-headers.ensures.flags (returns-clause-bytes c) short in
     λ frames. accepted c.args.parts.now _ frames (are_good c.args.parts.now (returns-clause-taken c)) file
 
 pub returns-clause-image : goal.returns-clause-image
 returns-clause-image c =
-    let entry : c.args.parts.now.entry < 2 ^ 64 = omega arith in
-    let flags : c.args.parts.now.flags < 2 ^ 32 = omega arith in
     let short : length c.push_contents.new.file.items < 2 ^ 63 = omega (arith, c.push_contents.new.file.ok, c.push_contents.new.file.small) in
-    let file : IsWritten c.args.parts.now c.push_contents.new.file.items = written_file c.args.parts.now _ _ _ (returns-clause-taken c) entry flags c.in_ok-headers.ensures.headers c.deref-3.ensures.value c.in_ok-headers.ensures.flags (returns-clause-bytes c) short in
+    let file : IsWritten c.args.parts.now c.push_contents.new.file.items = written_file c.args.parts.now _ _ _ (returns-clause-taken c) (omega arith) (omega arith) c.in_ok-headers.ensures.headers c.deref-3.ensures.value c.in_ok-headers.ensures.flags (returns-clause-bytes c) short in
     λ image is. image_of c.args.parts.now _ image file is

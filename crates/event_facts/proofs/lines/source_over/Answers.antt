@@ -1,8 +1,8 @@
 use Rattle.std.proofs.Common.{◌+◌, ◌∙◌, List, ap, sym, arith, drop}
-use Rattle.std.proofs.lemmas.List.{drop_all}
 use Rattle.event_facts.specs.Sources.{source_over}
 use Rattle.event_facts.specs.declared.lines.Numbered.{Numbered}
 use Rattle.event_facts.proofs.KeptLines.{source_step}
+use Rattle.event_facts.proofs.Lists.{at_end}
 use Rattle.event_facts.proofs.lines.source_over.Goals as goal
 
 pub loop-numbered-preserved : goal.loop-numbered-preserved
@@ -16,6 +16,5 @@ loop-numbered-preserved c =
 
 pub returns : goal.returns
 returns c =
-    let ws = c.args.waiting.now in
-    sym (ap (λ (xs : List Numbered). source_over xs c.args.at c.loop-numbered.source) (drop_all c.loop-numbered.numbered-index ws (omega arith)))
-    ∙ c.loop-numbered.invariant
+    at_end (λ (xs : List Numbered). source_over xs c.args.at c.loop-numbered.source) c.args.waiting.now c.loop-numbered.numbered-index _ (omega arith)
+    c.loop-numbered.invariant

@@ -1,7 +1,8 @@
 use Rattle.std.proofs.Common.{◌+◌, ◌∙◌, List, ap, sym, arith, drop}
-use Rattle.std.proofs.lemmas.List.{drop_all, drop_more}
+use Rattle.std.proofs.lemmas.List.{drop_more}
 use Rattle.event_facts.specs.Written.{last_line}
 use Rattle.event_facts.specs.declared.long_writes.LongWrite.{LongWrite}
+use Rattle.event_facts.proofs.Lists.{at_end}
 use Rattle.event_facts.proofs.long_writes.last_line.Goals as goal
 
 pub loop-write-preserved : goal.loop-write-preserved
@@ -14,6 +15,5 @@ loop-write-preserved c =
 
 pub returns : goal.returns
 returns c =
-    let ws = c.args.writes.now in
-    sym (ap (λ (xs : List LongWrite). last_line xs c.args.at c.loop-write.line) (drop_all c.loop-write.write-index ws (omega arith)))
-    ∙ c.loop-write.invariant
+    at_end (λ (xs : List LongWrite). last_line xs c.args.at c.loop-write.line) c.args.writes.now c.loop-write.write-index _ (omega arith)
+    c.loop-write.invariant

@@ -11,7 +11,7 @@ loop-earlier-preserved c = λ file is.
     range_step (woken_from c.args.waiting.now file c.args.threads.now.threads) _ _ _ c.loop-earlier.earlier (c.loop-earlier.invariant file is)
     (c.in_ok-push_woken.ensures
     ∙ (λ i. c.loop-earlier.facts.items
-    ++ woken_registers (c.loop-earlier.earlier + 1) (c.registers_in-before.ensures i) (c.ready_registers.ensures file is i)))
+    ++ woken_registers (c.loop-earlier.earlier + 1) (c.at_place-before.ensures i) (c.ready_registers.ensures file is i)))
 
 pub returns : goal.returns
 returns c = λ file is.

@@ -13,7 +13,7 @@ use Rattle.event_facts.specs.Requests.{begun_facts}
 use Rattle.event_facts.specs.Telling.{here_on, past_of}
 use Rattle.event_facts.specs.Threads.{thread_facts}
 use Rattle.event_facts.specs.declared.calls.SystemCall.{SystemCall}
-use Rattle.event_facts.proofs.Lists.{eight_pieces}
+use Rattle.event_facts.proofs.Lists.{eight_pieces, piece}
 use Rattle.event_facts.proofs.places.push_after.Goals as goal
 
 pub returns : goal.returns
@@ -21,14 +21,16 @@ returns c = λ here is.
     let m = c.args.machine.now in
     let entry = c.args.entry in
     eight_pieces _ _ _ _ _ _ _ _ _ _ _ _ _ _ _ _ _
-    (c.in_ok-push_answer.ensures ∙ ap (λ (o : Option SystemCall). c.args.facts.now.items ++ answer_facts m.setting (past_of m) entry o) is.call)
-    (c.in_ok-push_begun.ensures ∙ (λ i. c.push_answer.new.facts.items ++ begun_facts (is.call i) (c.hart.ensures i).waits))
-    (c.in_ok-push_interrupted.ensures
-    ∙ ap (λ (o : Option Outcome). c.push_begun.new.facts.items ++ interrupted_facts (here_on m entry.hart.0) entry o) is.came)
-    (c.in_ok-push_delivered.ensures
-    ∙ ap (λ (o : Option ℕ). c.push_interrupted.new.facts.items ++ delivered_facts m.setting (past_of m) entry o) is.delivered)
+    (piece _ _ _ _ c.in_ok-push_if.ensures
+    (c.answered.ensures ∙ ap (λ (o : Option SystemCall). answer_facts m.setting (past_of m) entry o) is.call))
+    (piece _ _ _ _ c.in_ok-push_if-2.ensures
+    (c.begun.ensures ∙ (λ i. begun_facts (is.call i) (c.hart.ensures i).waits)))
+    (piece _ _ _ _ c.in_ok-push_if-3.ensures
+    (c.interrupted.ensures ∙ ap (λ (o : Option Outcome). interrupted_facts (here_on m entry.hart.0) entry o) is.came))
+    (piece _ _ _ _ c.in_ok-push_if-4.ensures
+    (c.delivery.ensures ∙ ap (λ (o : Option ℕ). delivered_facts m.setting (past_of m) entry o) is.delivered))
     (c.in_ok-push_signals.ensures here.kernel.signals (c.deref.ensures.value ∙ is.pending)
-    ∙ (λ i. c.push_delivered.new.facts.items
+    ∙ (λ i. c.push_if-4.new.facts.items
     ++ signal_facts (is.threads.given i) (is.delivered i) entry.tid.0 here.kernel.signals (c.kernel-kernel.ensures.signals i)))
     (c.in_ok-push_threads.ensures here.kernel.threads is.threads
     ∙ ap (λ (ts : Threads). c.push_signals.new.facts.items ++ thread_facts here.kernel.threads ts) c.kernel-kernel.ensures.threads)

@@ -1,7 +1,7 @@
 use Rattle.std.proofs.Common.{◌≡◌, drop, length, take, true}
 use Rattle.percpu_lib.specs.Lines.{AreEmitted}
 use Rattle.guest_programs.specs.Steps.{have_room, lines_of}
-use Rattle.guest_programs.specs.declared.shared.TheConstants.{LABELS}
+use Rattle.guest_programs.specs.declared.labels.TheConstants.{LABELS}
 use Rattle.guest_programs.proofs.emitting.emit_steps.Given as goal
 
 abbrev pub invariant-loop-step : goal.invariant-loop-step

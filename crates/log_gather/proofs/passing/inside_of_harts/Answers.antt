@@ -1,36 +1,25 @@
-use Rattle.std.proofs.Common.{◌≡◌, ◌∙◌, Bool, false, is_some, set, get_or, cond, ltb, ap, arith, refl}
-use Rattle.std.proofs.lemmas.List.{length-set}
+use Rattle.std.proofs.Common.{◌≡◌, ◌∙◌, false, is_some, cond, ltb, ap, arith, refl}
 use Rattle.block_model.specs.Deciding.{history}
 use Rattle.block_model.specs.Here.{runs}
 use Rattle.block_view.proofs.Laws.{seen_inside}
 use Rattle.log_gather.specs.Facts.{inside_on}
 use Rattle.log_gather.specs.Passing.{here_on}
-use Rattle.log_gather.proofs.Passages.{filled_more, filled_none}
+use Rattle.log_gather.proofs.Passages.{filled_none, filled_step}
 use Rattle.log_gather.proofs.passing.inside_of_harts.Goals as goal
 
 pub loop-hart-init : goal.loop-hart-init
 loop-hart-init c = record { eight = refl; filled = filled_none (λ k. inside_on (here_on c.args.machine.now k) (runs (here_on c.args.machine.now k))) false }
 
 pub bounds-inside_of-hart : goal.bounds-inside_of-hart
-bounds-inside_of-hart c =
-    let eight = c.loop-hart.invariant.eight in
-    let most = c.requires.eight_harts in
-    omega arith
+bounds-inside_of-hart c = omega (arith, c.loop-hart.invariant.eight, c.requires.eight_harts)
 
 pub loop-hart-preserved : goal.loop-hart-preserved
 loop-hart-preserved c =
     let m = c.args.machine.now in
-    let xs = c.loop-hart.inside_of in
-    let n = c.loop-hart.hart in
-    let eight = c.loop-hart.invariant.eight in
-    let most = c.requires.eight_harts in
-    let its = c.is_some.ensures ∙ ap is_some c.inside.ensures ∙ seen_inside m.setting n (history m.setting m.log) in
-    record {
-      eight = length-set xs n c.is_some.result ∙ eight;
-      filled = λ k.
-          ap (λ (b : Bool). get_or (set xs n b) k false) its
-          ∙ filled_more (λ j. inside_on (here_on m j) (runs (here_on m j))) false n xs (omega arith) c.loop-hart.invariant.filled k;
-    }
+    let its = c.is_some.ensures ∙ ap is_some c.inside.ensures ∙ seen_inside m.setting c.loop-hart.hart (history m.setting m.log) in
+    let next = filled_step (λ j. inside_on (here_on m j) (runs (here_on m j))) false c.is_some.result c.loop-hart.hart c.loop-hart.inside_of its
+    (omega (arith, c.requires.eight_harts)) c.loop-hart.invariant.eight c.loop-hart.invariant.filled in
+    record { eight = next.0; filled = next.1 }
 
 pub returns : goal.returns
 returns c =

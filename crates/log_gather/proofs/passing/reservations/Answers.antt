@@ -1,32 +1,19 @@
-use Rattle.std.proofs.Common.{◌≡◌, ℕ, ◌∙◌, set, get_or, cond, ltb, ap, arith, refl, Option, None}
-use Rattle.std.proofs.lemmas.List.{length-set}
+use Rattle.std.proofs.Common.{◌≡◌, ◌∙◌, cond, ltb, ap, arith, refl, None}
 use Rattle.log_gather.specs.Passing.{here_on}
-use Rattle.log_gather.proofs.Passages.{filled_more, filled_none}
+use Rattle.log_gather.proofs.Passages.{filled_none, filled_step}
 use Rattle.log_gather.proofs.passing.reservations.Goals as goal
 
 pub loop-hart-init : goal.loop-hart-init
 loop-hart-init c = record { eight = refl; filled = filled_none (λ k. (here_on c.args.machine.now k).reserved) None }
 
 pub bounds-reserved-hart : goal.bounds-reserved-hart
-bounds-reserved-hart c =
-    let eight = c.loop-hart.invariant.eight in
-    let most = c.requires.eight_harts in
-    omega arith
+bounds-reserved-hart c = omega (arith, c.loop-hart.invariant.eight, c.requires.eight_harts)
 
 pub loop-hart-preserved : goal.loop-hart-preserved
 loop-hart-preserved c =
-    let m = c.args.machine.now in
-    let xs = c.loop-hart.reserved in
-    let n = c.loop-hart.hart in
-    let eight = c.loop-hart.invariant.eight in
-    let most = c.requires.eight_harts in
-    let its : c.hart.result.now.reserved ≡ (here_on m n).reserved = λ i. (c.hart.ensures i).reserved in
-    record {
-      eight = length-set xs n c.hart.result.now.reserved ∙ eight;
-      filled = λ k.
-          ap (λ (r : Option ℕ). get_or (set xs n r) k None) its
-          ∙ filled_more (λ j. (here_on m j).reserved) None n xs (omega arith) c.loop-hart.invariant.filled k;
-    }
+    let next = filled_step (λ j. (here_on c.args.machine.now j).reserved) None c.hart.result.now.reserved c.loop-hart.hart c.loop-hart.reserved
+    (λ i. (c.hart.ensures i).reserved) (omega (arith, c.requires.eight_harts)) c.loop-hart.invariant.eight c.loop-hart.invariant.filled in
+    record { eight = next.0; filled = next.1 }
 
 pub returns-clause-each : goal.returns-clause-each
 returns-clause-each c =

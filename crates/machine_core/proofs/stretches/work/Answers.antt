@@ -7,11 +7,10 @@ loop-init c = not_begun c.args.code.now (stretch_of c.args.stretch.now)
 
 pub returns-then-not-go_on : goal.returns-then-not-go_on
 returns-then-not-go_on c =
-    let code = c.args.code.now in
     let now = stretch_of c.loop.stretch in
-    let stops : false ≡ goes_on code now = sym c.if-not-go_on.true ∙ c.go_on.ensures.answer in
-    c.go_on.ensures.stretch ∙ ap (λ b. cond b (stepped code now) now) (sym stops)
-    ∙ stopped code (stretch_of c.args.stretch.now) now c.loop.counter c.loop.invariant stops
+    let stops : false ≡ goes_on c.args.code.now now = sym c.if-not-go_on.true ∙ c.go_on.ensures.answer in
+    c.go_on.ensures.stretch ∙ ap (λ b. cond b (stepped c.args.code.now now) now) (sym stops)
+    ∙ stopped c.args.code.now (stretch_of c.args.stretch.now) now c.loop.counter c.loop.invariant stops
 
 pub loop-preserved : goal.loop-preserved
 loop-preserved c =

@@ -14,7 +14,6 @@ returns-clause-answer c =
     let mine = c.args.mine.now in
     let other = c.args.other.now in
     let flags = c.args.flags in
-    let here = c.args.here.0 in
     let harts = c.args.harts in
     let own = c.args.mine_running in
     let others = c.args.other_running in
@@ -24,14 +23,14 @@ returns-clause-answer c =
     let is_asked : asked c.args.cmd flags ≡ Some command =
     ap (λ (z : ℤ). asked z flags) (sym cmd_is) ∙ sym c.asked.ensures ∙ c.in-Some.is in
     let is_about = λ (h : ℕ). is_concerned command mine other (has_hart own h) (has_hart others h) in
-    let same = targets-same is_about c.concerned-about.result c.concerned-about.ensures flags c.args.cpu here harts in
-    let targets_are = c.targets-targets.ensures ∙ ap (λ (z : ℤ). targets flags z here c.concerned-about.result harts) cpu_is ∙ same in
+    let same = targets-same is_about c.concerned-about.result c.concerned-about.ensures flags c.args.cpu c.args.here.0 harts in
+    let targets_are = c.targets-targets.ensures ∙ ap (λ (z : ℤ). targets flags z c.args.here.0 c.concerned-about.result harts) cpu_is ∙ same in
     c.answer_beside-answer.ensures
     ∙ ap (λ set. answer_beside mine set command) targets_are
     ∙ sym
     (ap
     (λ o. option_map_or
-    (λ (k : BarrierCommand). answer_beside mine (targets flags c.args.cpu here (concerned k mine other own others harts) harts) k)
+    (λ (k : BarrierCommand). answer_beside mine (targets flags c.args.cpu c.args.here.0 (concerned k mine other own others harts) harts) k)
     o
     (refusal EINVAL))
     is_asked)

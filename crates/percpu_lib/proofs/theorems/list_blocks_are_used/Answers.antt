@@ -1,15 +1,12 @@
 use Rattle.std.proofs.Common.{◌≡◌, [], ◌∷◌, Some}
-use Rattle.std.proofs.lemmas.Bool.{eqb-true}
-use Rattle.mach_types.specs.Registers.{register}
-use Rattle.block_model.specs.History.{file}
 use Rattle.percpu_lib.specs.Adds.{cell_seen}
 use Rattle.percpu_lib.specs.Pops.{pop_form}
 use Rattle.percpu_lib.specs.Pushes.{push_form}
 use Rattle.percpu_lib.specs.Uses.{cells_of}
-use Rattle.percpu_lib.proofs.ExampleParts.{is_shown, place_of}
+use Rattle.percpu_lib.proofs.ExampleParts.{is_shown, place_of, value_shown}
 use Rattle.percpu_lib.proofs.FormTests.{pop_tested, push_tested}
 use Rattle.percpu_lib.proofs.ListExample as example
-use Rattle.percpu_lib.proofs.ListExample.{has_popped, is_pushed, log, pop, push, setting}
+use Rattle.percpu_lib.proofs.ListExample.{is_pushed, log, pop, push, setting}
 use Rattle.percpu_lib.proofs.UseTests.{just_is}
 use Rattle.percpu_lib.proofs.theorems.list_blocks_are_used.Goals as goal
 
@@ -20,11 +17,7 @@ returns c = record {
       setting log 36 push.form.slots push.at (place_of pop ∷ []) is_pushed example.push_used
       (λ q is. just_is (cell_seen setting 0 (cells_of setting push.form.slots q.thread q.begun) q.reached) 0x20100 is);
   pop =
-      is_shown pop_form pop_tested (λ s p q. register (file s q.thread q.reached).file p.value ≡ 0x20100) setting log
-      49 pop.form.slots pop.at (place_of push ∷ []) (has_popped 0x20100) example.pop_used
-      (λ q is. eqb-true (register (file setting q.thread q.reached).file 19) 0x20100 is);
+      value_shown pop_form pop_tested setting log 49 pop.form.slots pop.at (place_of push ∷ []) 0x20100 example.pop_used;
   empty =
-      is_shown pop_form pop_tested (λ s p q. register (file s q.thread q.reached).file p.value ≡ 0) setting log
-      61 pop.form.slots pop.at (place_of push ∷ []) (has_popped 0) example.empty_used
-      (λ q is. eqb-true (register (file setting q.thread q.reached).file 19) 0 is);
+      value_shown pop_form pop_tested setting log 61 pop.form.slots pop.at (place_of push ∷ []) 0 example.empty_used;
 }

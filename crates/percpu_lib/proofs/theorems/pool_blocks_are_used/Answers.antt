@@ -7,10 +7,10 @@ use Rattle.percpu_lib.specs.Frees.{free_form}
 use Rattle.percpu_lib.specs.Pools.{count_seen, pool_at, slot_at}
 use Rattle.percpu_lib.specs.Pushes.{word_seen}
 use Rattle.percpu_lib.specs.Uses.{cells_of}
-use Rattle.percpu_lib.proofs.ExampleParts.{is_shown, place_of}
+use Rattle.percpu_lib.proofs.ExampleParts.{is_shown, place_of, value_shown}
 use Rattle.percpu_lib.proofs.FormTests.{alloc_tested, free_tested}
 use Rattle.percpu_lib.proofs.PoolExample as example
-use Rattle.percpu_lib.proofs.PoolExample.{alloc, free, full_setting, has_taken, is_freed, log, setting}
+use Rattle.percpu_lib.proofs.PoolExample.{alloc, free, full_setting, is_freed, log, setting}
 use Rattle.percpu_lib.proofs.UseTests.{just_is}
 use Rattle.percpu_lib.proofs.theorems.pool_blocks_are_used.Goals as goal
 
@@ -23,13 +23,11 @@ returns c = record {
       (λ q is. just_is (word_seen setting 0 (slot_at (pool_at (cells_of setting free.form.slots q.thread q.begun) 0) 0)
       q.reached) 42 is);
   alloc =
-      is_shown alloc_form alloc_tested (λ s p q. register (file s q.thread q.reached).file p.value ≡ 42) setting log
-      68 alloc.form.slots alloc.at (place_of free ∷ []) (has_taken 42) example.alloc_used
-      (λ q is. eqb-true (register (file setting q.thread q.reached).file 19) 42 is);
+      value_shown alloc_form alloc_tested setting log 68 alloc.form.slots alloc.at (place_of free ∷ []) 42
+      example.alloc_used;
   none =
-      is_shown alloc_form alloc_tested (λ s p q. register (file s q.thread q.reached).file p.value ≡ 0) setting log
-      81 alloc.form.slots alloc.at (place_of free ∷ []) (has_taken 0) example.none_used
-      (λ q is. eqb-true (register (file setting q.thread q.reached).file 19) 0 is);
+      value_shown alloc_form alloc_tested setting log 81 alloc.form.slots alloc.at (place_of free ∷ []) 0
+      example.none_used;
   full =
       let its = example.full_used in
       let q = its.sequence in

@@ -3,11 +3,10 @@ use Rattle.process.proofs.starting.rest.Goals as goal
 
 pub loop-hart-preserved : goal.loop-hart-preserved
 loop-hart-preserved c =
-    let harts = c.loop-hart.harts in
     let i = c.loop-hart.hart-index in
     let within : i < length c.args.harts.now = omega arith in
-    ap (λ (x : HartState). set harts i x) c.reset.ensures
-    ∙ map_over_more (λ (_ : HartState). idle_hart) c.args.harts.now harts i c.hart-item.result within c.loop-hart.invariant c.hart-item.is
+    ap (λ (x : HartState). set c.loop-hart.harts i x) c.reset.ensures
+    ∙ map_over_more (λ (_ : HartState). idle_hart) c.args.harts.now c.loop-hart.harts i c.hart-item.result within c.loop-hart.invariant c.hart-item.is
 
 pub returns : goal.returns
 returns c = grind (arith, common_steps, take_all, drop_all, append-nil)

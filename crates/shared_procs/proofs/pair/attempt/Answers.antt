@@ -1,34 +1,37 @@
 -- What is answered is the entry, or the first condition that fails; and the event is the one that is due.
 use Rattle.process.specs.Refinement.{MayMake, answered}
-use Rattle.shared_procs.proofs.Common.{◌≡◌, ℕ, List, Option, None, Ok, sym, ap, ◌∙◌, subst, entry_as, Half, IsActing, IsPlace, refusal_as, stand, Why, MayAct}
-use Rattle.shared_procs.proofs.Refusals.{free_as}
+use Rattle.shared_procs.proofs.Common.{◌≡◌, ℕ, Bool, List, Option, None, Ok, sym, ap, ◌∙◌, subst, Choice, entry_as, Half, IsActing, IsAsked, IsPlace, Pair, PairSetting, refusal_as, stand, Why, MayAct}
+use Rattle.shared_procs.proofs.Refusals.{IsFreeAs, free_as}
 use Rattle.shared_procs.proofs.pair.attempt.Goals as goal
+
+-- where none of its conditions was found to fail, a choice is free
+free_asked : {s : PairSetting} {m : Pair} {p : Bool} {h : ℕ} {x : Choice} {mine other : Half} {segment : List ℕ}
+    {found : Option Why} → IsAsked s m p h x mine other segment → found ≡ refusal_as s m p h x → found ≡ None
+    → IsFreeAs s m p h x
+free_asked {s} {m} {p} {h} {x} asks looks none = free_as s m p h x asks.goes (sym looks ∙ none)
 
 pub entry_of-entry-requires : goal.entry_of-entry-requires
 entry_of-entry-requires c =
-    let s = c.requires.setting in
-    let m = c.requires.pair in
-    let p = c.requires.process in
-    let h = c.args.hart.0 in
-    let asks = c.requires.asked in
-    let free = free_as s m p h c.args.choice asks.goes (sym (c.refusal_beside.ensures.why s m p asks) ∙ c.in_default.is) in
-    let may : MayMake c.args.mine.now.parts h c.args.choice = record { stand = stand s m p; place = (asks.acting free.goes).place; free = free.free } in
-    subst (λ (x : Half). MayMake x.parts h c.args.choice) (sym c.refusal_beside.ensures.mine) may
+    let its = c.requires in
+    let free = free_asked its.asked (c.refusal_beside.ensures.why its.setting its.pair its.process its.asked) c.in_default.is in
+    let may : MayMake c.args.mine.now.parts c.args.hart.0 c.args.choice = record {
+      stand = stand its.setting its.pair its.process;
+      place = (its.asked.acting free.goes).place;
+      free = free.free;
+    } in
+    subst (λ (x : Half). MayMake x.parts c.args.hart.0 c.args.choice) (sym c.refusal_beside.ensures.mine) may
 
 pub make-requires : goal.make-requires
 make-requires c =
-    let s = c.requires.setting in
-    let m = c.requires.pair in
-    let p = c.requires.process in
     let h = c.args.hart.0 in
-    let asks = c.requires.asked in
-    let free = free_as s m p h c.args.choice asks.goes (sym (c.refusal_beside.ensures.why s m p asks) ∙ c.in_default.is) in
+    let its = c.requires in
+    let free = free_asked its.asked (c.refusal_beside.ensures.why its.setting its.pair its.process its.asked) c.in_default.is in
     let may : MayAct h c.args.choice c.args.mine.now c.args.other.now c.args.segment.now = record {
-      setting = s;
-      pair = m;
-      process = p;
-      acting = asks.acting free.goes;
-      beside = asks.beside;
+      setting = its.setting;
+      pair = its.pair;
+      process = its.process;
+      acting = its.asked.acting free.goes;
+      beside = its.asked.beside;
       free = free.free;
     } in
     subst (λ (x : Half). MayAct h c.args.choice x c.args.other.now c.refusal_beside.new.segment) (sym c.refusal_beside.ensures.mine)
@@ -47,7 +50,7 @@ pub returns-clause-made : goal.returns-clause-made
 returns-clause-made c s m asks =
     let p = c.args.is_second in
     let h = c.args.hart.0 in
-    let free = free_as s m p h c.args.choice asks.goes (sym (c.refusal_beside.ensures.why s m p asks) ∙ c.in_default.is) in
+    let free = free_asked asks (c.refusal_beside.ensures.why s m p asks) c.in_default.is in
     let acting =
     subst (λ (x : Half). IsActing s m p h x c.refusal_beside.new.segment) (sym c.refusal_beside.ensures.mine)
     (subst (λ (xs : List ℕ). IsActing s m p h c.args.mine.now xs) (sym c.refusal_beside.ensures.segment) (asks.acting free.goes)) in

@@ -41,16 +41,15 @@ pub returns-clause-answered : goal.returns-clause-answered
 returns-clause-answered c = λ h told read.
     let t = c.args.tid.0 in
     let k = c.args.kernel.now in
-    let at = c.argument-at.result in
     let m' = c.write_double.new.pages in
-    let ws : List Write = double_written at c.from.result ∷ [] in
+    let ws : List Write = double_written c.argument-at.result c.from.result ∷ [] in
     let harts = c.from.ensures ∙ c.affinity-set.ensures ∙ ap (λ (n : ℕ). affinity_of n k.ready) c.named_thread.ensures in
     let is : sched_getaffinity h t ≡ record (said h t 8) { entered = ws } =
-    tests_are h k c.args.pages.now t c.args.saved.now told read c.int_argument-named.result c.int_argument-len.result at
+    tests_are h k c.args.pages.now t c.args.saved.now told read c.int_argument-named.result c.int_argument-len.result c.argument-at.result
     c.int_argument-named.ensures c.int_argument-len.ensures c.argument-at.ensures
     ∙ cond-false _ _ _ (not-true _ (sym c.is_set_size.ensures ∙ c.if-not-is_set_size.false))
     ∙ cond-false _ _ _ (sym c.names_nobody.ensures ∙ c.if-names_nobody.false) ∙ met _ _ (sym c.writable.ensures ∙ c.if-not-writable.false)
-    ∙ ap (λ (n : ℕ). record (said h t 8) { entered = double_written at n ∷ [] }) (sym harts) in
+    ∙ ap (λ (n : ℕ). record (said h t 8) { entered = double_written c.argument-at.result n ∷ [] }) (sym harts) in
     let done = answered_wrote h t k c.args.pages.now m' (Ok 8) ws told c.write_double.ensures.entered in
     subst (λ (w : List Write). IsAnswered h t k c.args.pages.now k m' w (Ok 8) (sched_getaffinity h t)) (sym (c.write_double.ensures.told ∙ ap (λ (w : List Write). w ++ ws) c.requires.fresh))
     (subst (λ (d : CallDone). IsAnswered h t k c.args.pages.now k m' ws (Ok 8) d) (sym is) done)

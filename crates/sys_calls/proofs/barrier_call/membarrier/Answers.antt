@@ -15,16 +15,14 @@ returns c = record {
   made = λ h m hart count busy told has file.
       let t = c.args.caller.tid.0 in
       let k = c.args.kernel.now in
-      let saved = c.args.saved.now in
-      let harts = h.setting.limits.harts in
       let cmd : to_z w32 (of_z w32 c.signed_argument-cmd.result) ≡ signed_32 (argument h t 0) =
-      again c.signed_argument-cmd.result (argument h t 0) (c.signed_argument-cmd.ensures ∙ ap signed_32 (argument_is h t saved file 0)) in
-      let flags : c.int_argument-flags.result ≡ int_argument h t 1 = c.int_argument-flags.ensures ∙ int_argument_is h t saved file 1 in
+      again c.signed_argument-cmd.result (argument h t 0) (c.signed_argument-cmd.ensures ∙ ap signed_32 (argument_is h t c.args.saved.now file 0)) in
+      let flags : c.int_argument-flags.result ≡ int_argument h t 1 = c.int_argument-flags.ensures ∙ int_argument_is h t c.args.saved.now file 1 in
       let cpu : to_z w32 (of_z w32 c.signed_argument-cpu.result) ≡ signed_32 (argument h t 2) =
-      again c.signed_argument-cpu.result (argument h t 2) (c.signed_argument-cpu.ensures ∙ ap signed_32 (argument_is h t saved file 2)) in
+      again c.signed_argument-cpu.result (argument h t 2) (c.signed_argument-cpu.ensures ∙ ap signed_32 (argument_is h t c.args.saved.now file 2)) in
       let here : c.args.caller.here.0 ≡ h.hart = sym hart in
-      let set : c.args.caller.running ≡ running_harts h.kernel.threads harts = sym busy in
-      let many : c.args.caller.harts ≡ harts = sym count in
+      let set : c.args.caller.running ≡ running_harts h.kernel.threads h.setting.limits.harts = sym busy in
+      let many : c.args.caller.harts ≡ h.setting.limits.harts = sym count in
       let is : c.command-outcome.result ≡ answer_asked h t =
       c.command-outcome.ensures.answer ∙ (λ i. command (told.barriers i) (cmd i) (flags i) (cpu i) (here i) (set i) (many i)) in
       let after : c.command-outcome.new.regs ≡ registered_after h.kernel.barriers (signed_32 (argument h t 0)) (int_argument h t 1) =

@@ -74,10 +74,9 @@ returns-in-283-clause-made c = λ h at.
 
 pub returns-in-283-clause-told : goal.returns-in-283-clause-told
 returns-in-283-clause-told c = λ h at.
-    let t = c.args.caller.tid.0 in
     let alone = alone_by h c.args.caller.tid.0 at.file c.call_number.ensures c.in-283.is at.own (λ others. others.0) in
-    told_numbered h t at.file c.call_number.ensures c.in-283.is
-    (c.requires.fresh ∙ sym (silent_membarrier h t) ∙ ap (λ o. (barrier_call o h t).entered) (sym alone))
+    told_numbered h c.args.caller.tid.0 at.file c.call_number.ensures c.in-283.is
+    (c.requires.fresh ∙ sym (silent_membarrier h c.args.caller.tid.0) ∙ ap (λ o. (barrier_call o h c.args.caller.tid.0).entered) (sym alone))
 
 pub returns-in-293-clause-made : goal.returns-in-293-clause-made
 returns-in-293-clause-made c = λ h at.
@@ -88,11 +87,10 @@ returns-in-293-clause-made c = λ h at.
 
 pub returns-in-293-clause-told : goal.returns-in-293-clause-told
 returns-in-293-clause-told c = λ h at.
-    let t = c.args.caller.tid.0 in
     let alone = alone_by h c.args.caller.tid.0 at.file c.call_number.ensures c.in-293.is at.own (λ others. others.1) in
-    told_numbered h t at.file c.call_number.ensures c.in-293.is
-    (c.rseq.ensures.told h at.hart at.tables (c.shows_pages.ensures h t c.args.saved.now at.pages at.file) at.id
-    ∙ ap (λ o. (sequence_call o h t).entered) (sym alone))
+    told_numbered h c.args.caller.tid.0 at.file c.call_number.ensures c.in-293.is
+    (c.rseq.ensures.told h at.hart at.tables (c.shows_pages.ensures h c.args.caller.tid.0 c.args.saved.now at.pages at.file) at.id
+    ∙ ap (λ o. (sequence_call o h c.args.caller.tid.0).entered) (sym alone))
 
 pub returns-in_default-clause-made : goal.returns-in_default-clause-made
 returns-in_default-clause-made c = λ h at.
@@ -113,7 +111,6 @@ returns-in_default-clause-made c = λ h at.
 
 pub returns-in_default-clause-told : goal.returns-in_default-clause-told
 returns-in_default-clause-told c = λ h at.
-    let t = c.args.caller.tid.0 in
     let read = c.shows_pages.ensures h c.args.caller.tid.0 c.args.saved.now at.pages at.file in
     let done = c.answered-outcome.ensures.answered h at.hart at.tables at.pages read in
-    told_numbered h t {i = c.call_number.result} at.file c.call_number.ensures refl done.told
+    told_numbered h c.args.caller.tid.0 {i = c.call_number.result} at.file c.call_number.ensures refl done.told

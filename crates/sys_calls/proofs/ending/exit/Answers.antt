@@ -7,6 +7,7 @@ use Rattle.sys_calls.proofs.KernelWrites.{pages_kept}
 use Rattle.sys_calls.proofs.GuestMemory.{writable_at}
 use Rattle.sys_calls.proofs.CallerTables.{caller_lives}
 use Rattle.sys_calls.proofs.FutexWakes.{wake_pages}
+use Rattle.sys_calls.proofs.ending.exit.Goals.{After-clear_word-is_cleared}
 use Rattle.sys_calls.proofs.ending.exit.Goals as goal
 use Rattle.sys_calls.proofs.CallAnswers.{made_ended}
 
@@ -14,17 +15,6 @@ use Rattle.sys_calls.proofs.CallAnswers.{made_ended}
 clears_is : (h : Here) (m : Map) (t at : ℕ) (r : Bool) (saved : Saved) → IsRead h m t saved → at ≡ clear_of t h.kernel.threads → r ≡ (not (eqb at 0) && each_byte (can_write_in m) at 4) → r ≡ clears h t
 clears_is h m t at r saved read is e =
     e ∙ ap (λ (b : Bool). not (eqb at 0) && b) (writable_at h m t saved read at at 4 refl) ∙ ap (λ (a : ℕ). not (eqb a 0) && are_writable h a 4) is
-
-cleared_by : (h : Here) (t at : ℕ) (r : Bool) (ws : List Write) → at ≡ clear_of t h.kernel.threads → r ≡ clears h t → ws ≡ cond r (word_written at 0 ∷ []) [] → ws ≡ clearing h t
-cleared_by h t at r ws is clear e =
-    e ∙ ap (λ (b : Bool). cond b (word_written at 0 ∷ []) []) clear ∙ ap (λ (a : ℕ). cond (clears h t) (word_written a 0 ∷ []) []) is
-
-clearing_is : (h : Here) (k : Kernel) (m : Map) (t at : ℕ) (r : Bool) (saved : Saved) (ws : List Write) → HoldsTables k h.kernel → IsRead h m t saved
-    → at ≡ clear_of t k.threads.threads → r ≡ (not (eqb at 0) && each_byte (can_write_in m) at 4) → ws ≡ cond r (word_written at 0 ∷ []) []
-    → ws ≡ clearing h t
-clearing_is h k m t at r saved ws told read is tests writes =
-    let here = is ∙ ap (clear_of t) told.threads in
-    cleared_by h t at r ws here (clears_is h m t at r saved read here tests) writes
 
 -- whether the thread is the last one
 last_is : (h : Here) (k : Kernel) (n : ℕ) (b : Bool) → HoldsTables k h.kernel → n ≡ length k.threads.threads.live → leb n 1 ≡ b → is_last h ≡ b
@@ -55,14 +45,24 @@ byte_is : (b : Bool) → from_bool b ≡ how_many b
 byte_is true = refl
 byte_is false = refl
 
+-- the word is the thread's, and so are the writes
+word_is : (c : After-clear_word-is_cleared) (h : Here) → HoldsTables c.args.kernel.now h.kernel → c.clear_at-at.result ≡ clear_of c.args.tid.0 h.kernel.threads
+word_is c h told = c.clear_at-at.ensures ∙ ap (clear_of c.args.tid.0) told.threads
+
+writes_are : (c : After-clear_word-is_cleared) (h : Here) → HoldsTables c.args.kernel.now h.kernel → IsRead h c.args.pages.now c.args.tid.0 c.args.saved.now
+    → c.clear_word-is_cleared.new.written.items ≡ clearing h c.args.tid.0
+writes_are c h told read =
+    c.clear_word-is_cleared.ensures.told ∙ ap (λ (b : Bool). cond b (word_written c.clear_at-at.result 0 ∷ []) [])
+    (clears_is h c.args.pages.now c.args.tid.0 c.clear_at-at.result c.clear_word-is_cleared.result c.args.saved.now read (word_is c h told) c.clear_word-is_cleared.ensures.clears)
+    ∙ ap (λ (a : ℕ). cond (clears h c.args.tid.0) (word_written a 0 ∷ []) []) (word_is c h told)
+
 pub clear_at-at-requires : goal.clear_at-at-requires
 clear_at-at-requires c = caller_lives c.args.kernel.now c.args.here.0 c.args.tid.0 c.requires.caller
 
 pub returns-then-live-le1-clause-told : goal.returns-then-live-le1-clause-told
 returns-then-live-le1-clause-told c = λ h told read.
     let last = last_is h c.args.kernel.now c.live.result true told c.live.ensures.count (le-leb c.live.result 1 c.if-live-le1.true) in
-    clearing_is h c.args.kernel.now c.args.pages.now c.args.tid.0 c.clear_at-at.result c.clear_word-is_cleared.result c.args.saved.now c.clear_word-is_cleared.new.written.items
-    told read c.clear_at-at.ensures c.clear_word-is_cleared.ensures.clears c.clear_word-is_cleared.ensures.told
+    writes_are (goal.at.returns-then-live-le1-clause-told c).After-clear_word-is_cleared h told read
     ∙ sym (ap (λ (d : CallDone). d.entered) (cond-true (is_last h) (last_exits h c.args.tid.0) (one_exits h c.args.tid.0) last))
 
 pub returns-then-live-le1-clause-made : goal.returns-then-live-le1-clause-made
@@ -70,8 +70,7 @@ returns-then-live-le1-clause-made c = λ h hart told has read.
     let t = c.args.tid.0 in
     let k = c.args.kernel.now in
     let m' = c.clear_word-is_cleared.new.pages in
-    let writes = clearing_is h c.args.kernel.now c.args.pages.now c.args.tid.0 c.clear_at-at.result c.clear_word-is_cleared.result c.args.saved.now c.clear_word-is_cleared.new.written.items
-    told read c.clear_at-at.ensures c.clear_word-is_cleared.ensures.clears c.clear_word-is_cleared.ensures.told in
+    let writes = writes_are (goal.at.returns-then-live-le1-clause-made c).After-clear_word-is_cleared h told read in
     let last = last_is h k c.live.result true told c.live.ensures.count (le-leb c.live.result 1 c.if-live-le1.true) in
     subst (IsMade h t k c.args.pages.now k m' c.args.saved.now (over.ProcessEnd c.end_of.result)) (sym (cond-true (is_last h) (last_exits h t) (one_exits h t) last))
     (made_ended h t c.args.here.0 k c.args.pages.now m' c.args.saved.now c.clear_word-is_cleared.new.written.items (clearing h t) c.end_of.result (ended_with h t)
@@ -80,8 +79,7 @@ returns-then-live-le1-clause-made c = λ h hart told has read.
 pub returns-clause-told : goal.returns-clause-told
 returns-clause-told c = λ h told read.
     let last = last_is h c.args.kernel.now c.live.result false told c.live.ensures.count (lt-leb c.live.result 1 c.if-live-le1.false) in
-    clearing_is h c.args.kernel.now c.args.pages.now c.args.tid.0 c.clear_at-at.result c.clear_word-is_cleared.result c.args.saved.now c.clear_word-is_cleared.new.written.items
-    told read c.clear_at-at.ensures c.clear_word-is_cleared.ensures.clears c.clear_word-is_cleared.ensures.told
+    writes_are (goal.at.returns-clause-told c).After-clear_word-is_cleared h told read
     ∙ sym (ap (λ (d : CallDone). d.entered) (cond-false (is_last h) (last_exits h c.args.tid.0) (one_exits h c.args.tid.0) last))
 
 pub returns-clause-made : goal.returns-clause-made
@@ -89,12 +87,12 @@ returns-clause-made c = λ h hart told has read.
     let t = c.args.tid.0 in
     let k = c.args.kernel.now in
     let m' = c.clear_word-is_cleared.new.pages in
-    let at : c.clear_at-at.result ≡ clear_of t h.kernel.threads = c.clear_at-at.ensures ∙ ap (clear_of t) told.threads in
+    let is = (goal.at.returns-clause-made c).After-clear_word-is_cleared in
+    let at = word_is is h told in
     let clear = clears_is h c.args.pages.now t c.clear_at-at.result c.clear_word-is_cleared.result c.args.saved.now read at c.clear_word-is_cleared.ensures.clears in
-    let writes = cleared_by h t c.clear_at-at.result c.clear_word-is_cleared.result c.clear_word-is_cleared.new.written.items at clear c.clear_word-is_cleared.ensures.told in
     let last = last_is h k c.live.result false told c.live.ensures.count (lt-leb c.live.result 1 c.if-live-le1.false) in
     let most : c.from.result ≡ cond (clears h t) 1 0 = c.from.ensures ∙ byte_is c.clear_word-is_cleared.result ∙ ap (λ (b : Bool). how_many b) clear in
     let gone = subst (λ (x : ℕ × ℕ). IsGone h k c.go.new.kernel t x.0 x.1 c.args.here.0) (λ i. (most i, at i)) (c.go.ensures.gone h told) in
     subst (IsMade h t k c.args.pages.now c.go.new.kernel m' c.args.saved.now over.ThreadEnd) (sym (cond-false (is_last h) (last_exits h t) (one_exits h t) last))
     (made_one h t c.args.here.0 k c.go.new.kernel c.args.pages.now m' c.args.saved.now c.clear_word-is_cleared.new.written.items
-    hart read.file has c.clear_word-is_cleared.ensures.entered writes gone)
+    hart read.file has c.clear_word-is_cleared.ensures.entered (writes_are is h told read) gone)

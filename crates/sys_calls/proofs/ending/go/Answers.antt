@@ -32,11 +32,10 @@ pub returns : goal.returns
 returns c = record {
   gone = λ h told.
       let t = c.args.tid.0 in
-      let k = c.args.kernel.now in
       let k1 = c.wake.new.kernel in
       let woken = c.wake.ensures.woken h told in
-      let caller : IsCaller k1 c.args.here.0 t = still k k1 c.args.here.0 t c.wake.ensures.onward c.requires in
-      let tables = subst (λ (ts : Threads). IsTables c.requires.tables.0 ts k.ready) told.threads c.requires.tables.1 in
+      let caller : IsCaller k1 c.args.here.0 t = still c.args.kernel.now k1 c.args.here.0 t c.wake.ensures.onward c.requires in
+      let tables = subst (λ (ts : Threads). IsTables c.requires.tables.0 ts c.args.kernel.now.ready) told.threads c.requires.tables.1 in
       let sound = subst (λ (sc : Scheduling). IsTables c.requires.tables.0 h.kernel.threads sc) told.scheduling tables in
       record {
         tables = holds_gone woken.tables t c.exit.new.self c.remove-2.new.self c.remove.new.self c.remove_area.new.registered

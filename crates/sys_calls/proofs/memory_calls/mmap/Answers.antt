@@ -9,13 +9,12 @@ returns-in_err-at-clause-remapped c = λ h t has file.
     let len : c.argument-len.result ≡ argument h t 1 = c.argument-len.ensures ∙ argument_is h t c.args.saved.now file 1 in
     let flags : c.argument.result ≡ argument h t 3 = c.argument.ensures ∙ argument_is h t c.args.saved.now file 3 in
     let prot : c.argument-prot.result ≡ argument h t 2 = c.argument-prot.ensures ∙ argument_is h t c.args.saved.now file 2 in
-    let is = c.in_err-at.ensures in
     subst (λ (x : Result ℕ Errno). IsRemapped h t c.args.pages.now c.map.new.self c.args.written.now.items x (mmap h t)) (sym (passed_on c.from_residual.result c.in_err-at.field-0.0 c.from_residual.ensures))
     (mmap_past_flags h t c.args.pages.now c.map.new.self c.args.written.now.items (Err c.in_err-at.field-0.0) c.argument.result flags
     (sym c.are_mapping_flags.ensures ∙ c.if-not-are_mapping_flags.false)
     (mmap_refused h t c.args.pages.now c.map.new.self has c.argument-len.result c.prot_of.result (argument h t 1) (argument h t 2) len
     (prot_from c.prot_of.result c.argument-prot.result (argument h t 2) prot c.prot_of.ensures.same c.prot_of.ensures.above)
-    c.in_err-at.field-0.0 c.args.written.now.items c.requires.fresh is.answer is.refused))
+    c.in_err-at.field-0.0 c.args.written.now.items c.requires.fresh c.in_err-at.ensures.answer c.in_err-at.ensures.refused))
 
 pub returns-clause-remapped : goal.returns-clause-remapped
 returns-clause-remapped c = λ h t has file.

@@ -35,7 +35,6 @@ returns-clause-answered c = λ h told read.
     let t = c.args.tid.0 in
     let k = c.args.kernel.now in
     let m = c.args.pages.now in
-    let m' = c.write_words.new.pages in
     let area = c.in-Some.area in
     let saved = c.args.saved.now in
     let call = unregisters_or_refused h t (unregistration_asked saved (area_of t h.kernel.areas)) in
@@ -49,7 +48,7 @@ returns-clause-answered c = λ h told read.
     not_refused h t k saved area c.in_ok-may_unregister.field-0 told (sym c.may_unregister.ensures.answer ∙ c.in_ok-may_unregister.was) (sym c.area_of.ensures ∙ c.in-Some.is)
     ∙ unregisters_made h t area can in
     let areas = without_area t h.kernel.areas in
-    let done = answered_changed h t k k' m m' ws c.write_words.new.written.items (Ok 0) (record h.kernel { areas = areas })
+    let done = answered_changed h t k k' m c.write_words.new.pages ws c.write_words.new.written.items (Ok 0) (record h.kernel { areas = areas })
     (holds_areas told c.remove_area.new.registered areas (c.remove_area.ensures ∙ ap (without_area t) told.areas)) refl refl refl
-    (subst (IsEntered m m') writes c.write_words.ensures.entered) writes refl in
-    subst (λ (d : CallDone). IsAnswered h t k m k' m' c.write_words.new.written.items (Ok 0) d) (sym is) done
+    (subst (IsEntered m c.write_words.new.pages) writes c.write_words.ensures.entered) writes refl in
+    subst (λ (d : CallDone). IsAnswered h t k m k' c.write_words.new.pages c.write_words.new.written.items (Ok 0) d) (sym is) done

@@ -22,10 +22,9 @@ returns-clause-told c =
 pub returns-clause-entered : goal.returns-clause-entered
 returns-clause-entered c =
     let m = c.args.pages.now in
-    let m' = c.set_cpu.new.mem in
     let area = c.args.area.now in
     let words : Words = record { cpu_id_start = c.args.start; cpu_id = c.args.id; node_id = 0; mm_cid = c.args.cid } in
     let all : are_words_writable (can_write_in m) area ≡ true = sym c.set_cpu.ensures.answer ∙ c.if-not-set_cpu.false in
-    let bytes : (a : ℕ) → byte_in m' a ≡ after_writes (words_written area words) (byte_in m) a = λ a.
+    let bytes : (a : ℕ) → byte_in c.set_cpu.new.mem a ≡ after_writes (words_written area words) (byte_in m) a = λ a.
     c.set_cpu.ensures.bytes a ∙ ap (λ b. after_writes (words_entered b area words) (byte_in m) a) c.if-not-set_cpu.false in
-    subst (IsEntered m m') (sym (returns-clause-told c)) (words_enter m m' area words all c.set_cpu.ensures.alike bytes)
+    subst (IsEntered m c.set_cpu.new.mem) (sym (returns-clause-told c)) (words_enter m c.set_cpu.new.mem area words all c.set_cpu.ensures.alike bytes)

@@ -16,9 +16,8 @@ overflow_add-at-2 c =
 
 pub returns : goal.returns
 returns c = λ h t saved read.
-    let m = c.args.pages.now in
     let at = c.args.at in
     let made : ℕ → ℕ → ℕ → Action = λ x y z. record { at = x; flags = y; mask = z } in
-    ap (λ (x : ℕ). made x c.number_at-2.result c.number_at-3.result) (c.number_at.ensures ∙ number_is h m t saved read at 8)
-    ∙ ap (λ (y : ℕ). made (number_at h at 8) y c.number_at-3.result) (c.number_at-2.ensures ∙ number_is h m t saved read (at + 8) 8)
-    ∙ ap (λ (z : ℕ). made (number_at h at 8) (number_at h (at + 8) 8) z) (c.number_at-3.ensures ∙ number_is h m t saved read (at + 16) 8)
+    ap (λ (x : ℕ). made x c.number_at-2.result c.number_at-3.result) (c.number_at.ensures ∙ number_is h c.args.pages.now t saved read at 8)
+    ∙ ap (λ (y : ℕ). made (number_at h at 8) y c.number_at-3.result) (c.number_at-2.ensures ∙ number_is h c.args.pages.now t saved read (at + 8) 8)
+    ∙ ap (λ (z : ℕ). made (number_at h at 8) (number_at h (at + 8) 8) z) (c.number_at-3.ensures ∙ number_is h c.args.pages.now t saved read (at + 16) 8)

@@ -5,6 +5,5 @@ use Rattle.sys_calls.proofs.signal_calls.change_mask.Goals as goal
 pub returns-in-Ok : goal.returns-in-Ok
 returns-in-Ok c =
     let g = c.args.signals.now in
-    let t = c.args.tid.0 in
-    c.in-Ok.ensures.ok ∙ ap (λ (n : ℕ). with_mask t (changed_mask c.args.how n (mask_of t g)) g) c.number_at-set.ensures
+    c.in-Ok.ensures.ok ∙ ap (λ (n : ℕ). with_mask c.args.tid.0 (changed_mask c.args.how n (mask_of c.args.tid.0 g)) g) c.number_at-set.ensures
     ∙ sym (cond-false (eqb c.args.at 0) _ _ (ne_eqb c.args.at 0 c.if-at-ne0.true))

@@ -1,5 +1,5 @@
 -- The action is set, and the old one is written where it is asked for.
-use Rattle.sys_calls.proofs.Common.{◌≡◌, ℕ, ◌≤◌, Bool, true, false, ◌||◌, cond, eqb, List, [], Option, refl, sym, ap, subst, ◌∙◌, inl, inr, Ok, nat_lt, cases_lt, false≢true, lt-ltb, Signalling, action_of, refuses_action, Action, CallDone, Here, IsAnswered, IsEntered, Kernel, Write, argument, can_write_in, int_argument, pass_action, signalled, acted, action_written}
+use Rattle.sys_calls.proofs.Common.{◌≡◌, ℕ, ◌≤◌, Bool, true, false, ◌||◌, cond, eqb, List, [], Option, refl, sym, ap, subst, ◌∙◌, inl, inr, Ok, nat_lt, cases_lt, false≢true, lt-ltb, action_of, refuses_action, Action, CallDone, IsAnswered, IsEntered, Kernel, Write, argument, can_write_in, int_argument, pass_action, signalled, acted, action_written}
 use Rattle.sys_calls.proofs.GuestMemory.{argument_is, int_argument_is}
 use Rattle.sys_calls.proofs.signal_calls.rt_sigaction.Goals as goal
 use Rattle.sys_calls.proofs.CallAnswers.{answered_changed}
@@ -15,12 +15,6 @@ in_range n new accepted = elim (cases_lt 31 n) [
     past : nat_lt 31 n ≡ true → (b : Bool) → eqb n 0 ≡ b → refuses_action n new ≡ true
     past high true zero = rw zero refl
     past high false zero = rw (zero, high) refl
-
--- the writes of the old action
-writes_are : (h : Here) (t at sig : ℕ) (old : Action) (g : Signalling) → at ≡ argument h t 2 → sig ≡ int_argument h t 0 → old ≡ action_of sig g → g ≡ h.kernel.signals
-    → cond (eqb at 0) [] (action_written at old) ≡ cond (eqb (argument h t 2) 0) [] (action_written (argument h t 2) (action_of (int_argument h t 0) h.kernel.signals))
-writes_are h t at sig old g p q r s =
-    (λ i. cond (eqb (p i) 0) [] (action_written (p i) ((r ∙ (λ j. action_of (q j) (s j))) i)))
 
 pub signal_number-sig-requires : goal.signal_number-sig-requires
 signal_number-sig-requires c =
@@ -42,7 +36,7 @@ returns-clause-answered c = λ h t told read.
     let old : c.argument.result ≡ argument h t 2 = c.argument.ensures ∙ argument_is h t c.args.saved.now read.file 2 in
     let ws : List Write = cond (eqb (argument h t 2) 0) [] (action_written (argument h t 2) (action_of (int_argument h t 0) g)) in
     let same : cond (eqb c.argument.result 0) [] (action_written c.argument.result c.in-Ok.old) ≡ ws =
-    writes_are h t c.argument.result c.signal_number-sig.result c.in-Ok.old k.signals old sig c.in-Ok.ensures.old told.signals in
+    (λ i. cond (eqb (old i) 0) [] (action_written (old i) ((c.in-Ok.ensures.old ∙ (λ j. action_of (sig j) (told.signals j))) i))) in
     let signals : k'.signals ≡ acted (int_argument h t 0) new g =
     c.in-Ok.ensures.ok ∙ ap (λ (n : ℕ). acted n new k.signals) sig ∙ ap (acted (int_argument h t 0) new) told.signals in
     let done = answered_changed h t k k' m m' ws c.write_action_unless_zero.new.written.items (Ok 0) (signalled (acted (int_argument h t 0) new g) h.kernel)

@@ -1,21 +1,9 @@
 -- The mask is changed, and the old one is written where it is asked for.
-use Rattle.sys_calls.proofs.Common.{◌≡◌, ℕ, not, ◌&&◌, ◌||◌, cond, eqb, List, [], ◌∷◌, unwrap_or, sym, ap, subst, ◌∙◌, refl, Ok, Here, IsAnswered, IsEntered, Kernel, Write, byte_in, can_write_in, each_byte, int_in, word_at, Signalling, mask_of, refuses_how, CallDone, argument, double_written, int_argument, number_at, signalled, masked, mask_changed}
+use Rattle.sys_calls.proofs.Common.{◌≡◌, ℕ, not, ◌&&◌, ◌||◌, cond, eqb, List, [], ◌∷◌, unwrap_or, sym, ap, subst, ◌∙◌, refl, Ok, IsAnswered, IsEntered, Kernel, Write, byte_in, can_write_in, each_byte, int_in, word_at, mask_of, refuses_how, CallDone, argument, double_written, int_argument, number_at, signalled, masked, mask_changed}
 use Rattle.sys_calls.proofs.GuestMemory.{argument_is, int_argument_is, number_there}
 use Rattle.sys_calls.proofs.signal_calls.rt_sigprocmask.Goals as goal
 use Rattle.sys_calls.proofs.CallAnswers.{answered_changed}
 use Rattle.sys_calls.proofs.Laws.{holds_signals}
-
--- the write of the old mask
-writes_are : (h : Here) (t at old : ℕ) (g : Signalling) → at ≡ argument h t 2 → old ≡ mask_of t g → g ≡ h.kernel.signals
-    → cond (eqb at 0) [] (double_written at old ∷ []) ≡ cond (eqb (argument h t 2) 0) [] (double_written (argument h t 2) (mask_of t h.kernel.signals) ∷ [])
-writes_are h t at old g p q r =
-    (λ i. cond (eqb (p i) 0) [] (double_written (p i) ((q ∙ ap (mask_of t) r) i) ∷ []))
-
--- the new mask
-changed_is : (h : Here) (t how at set : ℕ) (g : Signalling) → how ≡ int_argument h t 0 → at ≡ argument h t 1 → set ≡ number_at h (argument h t 1) 8 → g ≡ h.kernel.signals
-    → mask_changed t how at set g ≡ masked h t (int_argument h t 0) (argument h t 1)
-changed_is h t how at set g o p q r =
-    (λ i. mask_changed t (o i) (p i) (q i) (r i))
 
 pub change_mask-requires-clause-how : goal.change_mask-requires-clause-how
 change_mask-requires-clause-how c =
@@ -39,10 +27,10 @@ returns-clause-answered c = λ h told read.
     let set = unwrap_or (word_at (byte_in m) c.argument.result 8) 0 in
     let given : set ≡ number_at h (argument h t 1) 8 = number_there h m t c.args.saved.now read c.argument.result (argument h t 1) 8 at in
     let signals : k'.signals ≡ masked h t (int_argument h t 0) (argument h t 1) =
-    c.change_mask.ensures ∙ changed_is h t c.int_argument-how.result c.argument.result set k.signals how at given told.signals in
+    c.change_mask.ensures ∙ (λ i. mask_changed t (how i) (at i) (given i) (told.signals i)) in
     let ws : List Write = cond (eqb (argument h t 2) 0) [] (double_written (argument h t 2) (mask_of t h.kernel.signals) ∷ []) in
     let same : cond (eqb c.argument-2.result 0) [] (double_written c.argument-2.result c.mask_of-old.result ∷ []) ≡ ws =
-    writes_are h t c.argument-2.result c.mask_of-old.result k.signals old c.mask_of-old.ensures told.signals in
+    (λ i. cond (eqb (old i) 0) [] (double_written (old i) ((c.mask_of-old.ensures ∙ ap (mask_of t) told.signals) i) ∷ [])) in
     let done = answered_changed h t k k' m m' ws c.write_set_unless_zero.new.written.items (Ok 0) (signalled (masked h t (int_argument h t 0) (argument h t 1)) h.kernel)
     (holds_signals told c.change_mask.new.signals (masked h t (int_argument h t 0) (argument h t 1)) signals) refl refl refl
     (subst (IsEntered m m') same c.write_set_unless_zero.ensures.entered) (c.write_set_unless_zero.ensures.told ∙ same) refl in

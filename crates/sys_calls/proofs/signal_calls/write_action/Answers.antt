@@ -7,13 +7,11 @@ use Rattle.sys_calls.proofs.signal_calls.write_action.Goals as goal
 
 pub overflow_add-at : goal.overflow_add-at
 overflow_add-at c =
-    let m = c.args.pages.now in
-    record { fits = writable_below m (c.args.at + 8) 7 (pass_three (can_write_in m) c.args.at c.requires.writable).second }
+    record { fits = writable_below c.args.pages.now (c.args.at + 8) 7 (pass_three (can_write_in c.args.pages.now) c.args.at c.requires.writable).second }
 
 pub overflow_add-at-2 : goal.overflow_add-at-2
 overflow_add-at-2 c =
-    let m = c.args.pages.now in
-    record { fits = writable_below m (c.args.at + 16) 7 (pass_three (can_write_in m) c.args.at c.requires.writable).third }
+    record { fits = writable_below c.args.pages.now (c.args.at + 16) 7 (pass_three (can_write_in c.args.pages.now) c.args.at c.requires.writable).third }
 
 pub write_double-requires-clause-writable : goal.write_double-requires-clause-writable
 write_double-requires-clause-writable c = (pass_three (can_write_in c.args.pages.now) c.args.at c.requires.writable).first
@@ -25,9 +23,8 @@ write_double-requires-2-clause-writable c =
 
 pub write_double-requires-3-clause-writable : goal.write_double-requires-3-clause-writable
 write_double-requires-3-clause-writable c =
-    let m = c.args.pages.now in
-    still_writable m c.write_double-2.new.pages (c.args.at + 16) 8 (λ a. c.write_double-2.ensures.same a ∙ c.write_double.ensures.same a)
-    (pass_three (can_write_in m) c.args.at c.requires.writable).third
+    still_writable c.args.pages.now c.write_double-2.new.pages (c.args.at + 16) 8 (λ a. c.write_double-2.ensures.same a ∙ c.write_double.ensures.same a)
+    (pass_three (can_write_in c.args.pages.now) c.args.at c.requires.writable).third
 
 pub returns-clause-entered : goal.returns-clause-entered
 returns-clause-entered c =

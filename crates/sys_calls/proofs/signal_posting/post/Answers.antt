@@ -10,10 +10,8 @@ post-requires-clause-held c = signals_held c.args.to.0 c.args.kernel.now c.requi
 
 pub waits_in_vain-requires : goal.waits_in_vain-requires
 waits_in_vain-requires c =
-    let k = c.args.kernel.now in
-    let u = c.args.to.0 in
-    let alike = ap tids c.post.ensures ∙ tids_posted u c.args.sig k.signals ∙ c.requires.signals in
-    record { held = held_as_live u k.threads.threads c.post.new.self alike ∙ c.requires.live }
+    let alike = ap tids c.post.ensures ∙ tids_posted c.args.to.0 c.args.sig c.args.kernel.now.signals ∙ c.requires.signals in
+    record { held = held_as_live c.args.to.0 c.args.kernel.now.threads.threads c.post.new.self alike ∙ c.requires.live }
 
 pub push-requires-clause-not_ready : goal.push-requires-clause-not_ready
 push-requires-clause-not_ready c =
@@ -25,10 +23,9 @@ returns-then-waits_in_vain c = record {
   answered = λ h t m told.
       let k = c.args.kernel.now in
       let u = c.args.to.0 in
-      let sig = c.args.sig in
       let waiting : waits k.threads.threads u = OnTrue_at c.if-waits_in_vain.true c.waits_in_vain.ensures.waits in
-      let vain = vain_as h u sig k c.post.new.self c.waits_in_vain.result told c.post.ensures c.waits_in_vain.ensures.answer ∙ c.if-waits_in_vain.true in
-      answered_broken h t u sig k c.break_wait.new.self c.post.new.self c.push.new.self m told c.requires.tables waiting
+      let vain = vain_as h u c.args.sig k c.post.new.self c.waits_in_vain.result told c.post.ensures c.waits_in_vain.ensures.answer ∙ c.if-waits_in_vain.true in
+      answered_broken h t u c.args.sig k c.break_wait.new.self c.post.new.self c.push.new.self m told c.requires.tables waiting
       c.break_wait.ensures.threads c.break_wait.ensures.saved c.post.ensures c.push.ensures vain;
 }
 

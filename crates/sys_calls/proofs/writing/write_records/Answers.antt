@@ -9,8 +9,7 @@ returns-clause-answered c = λ h t told same.
     let k = c.args.kernel.now in
     let spans : List Span = spans_at h c.args.records.at c.args.records.count in
     let len : c.in-Some.length ≡ total spans = c.in-Some.ensures.some h same in
-    let small = c.in-Some.ensures.small in
-    let few : leb (2 ^ 31) (total spans) ≡ false = lt-leb (2 ^ 31) (total spans) (omega (arith, len, small)) in
+    let few : leb (2 ^ 31) (total spans) ≡ false = lt-leb (2 ^ 31) (total spans) (omega (arith, len, c.in-Some.ensures.small)) in
     let can : all_readable h spans ≡ true = sym (c.are_readable.ensures h same) ∙ c.if-not-are_readable.false in
     let held = ap (λ (bs : List ℕ). length bs) told.console in
     let free : length h.kernel.console < CONSOLE_ROOM = let ne = c.if-room-eq0.false in omega (arith, held, ne) in

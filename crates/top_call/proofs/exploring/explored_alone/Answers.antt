@@ -4,7 +4,5 @@ use Rattle.top_call.proofs.exploring.explored_alone.Goals as goal
 
 pub returns-clause-output : goal.returns-clause-output
 returns-clause-output g c =
-    output_of_exploration (g.S.Shelf.file c.args.shelf.now) c.args.asked.now.program.now c.args.asked.now.settings
-    c.in_ok-image.image c.exploration_of-exploration.result c.in_ok-explored.explored c.whole.result
-    c.in_ok-image.ensures.taken c.exploration_of-exploration.ensures c.in_ok-explored.ensures
-    (c.whole.ensures ∙ c.in_ok-explored_text.ensures)
+    output_of_exploration c.args.asked.now.settings c.in_ok-explored.explored c.in_ok-image.ensures.taken
+    c.exploration_of-exploration.ensures c.in_ok-explored.ensures (c.whole.ensures ∙ c.in_ok-explored_text.ensures)

@@ -1,42 +1,20 @@
-use Rattle.top_call.proofs.Causes.{passed_up, program_beside, unplayed, unread_script}
+use Rattle.std.proofs.Common.{refl}
+use Rattle.top_call.proofs.Causes.{passed_up, unplayed}
 use Rattle.top_call.proofs.Wholes.{run_by_script}
 use Rattle.top_call.proofs.texts.script_run.Goals as goal
 
-pub returns-in_err-image-clause-cause : goal.returns-in_err-image-clause-cause
-returns-in_err-image-clause-cause g c =
-    passed_up c.from_residual.result c.in_err-image.field-0.0 _ c.from_residual.ensures.1
-    (program_beside (g.S.Shelf.file c.args.shelf.now) c.args.program.now c.args.script.now c.args.limits
-    (g.S.Shelf.faults c.args.shelf.now) (g.S.Shelf.faults c.taken.new.shelf)
-    (g.S.Shelf.last_trouble c.taken.new.shelf) c.in_err-image.field-0.0
-    c.in_err-image.ensures.cause)
-
-pub returns-in_err-lines-clause-cause : goal.returns-in_err-lines-clause-cause
-returns-in_err-lines-clause-cause g c =
-    passed_up c.from_residual-in_err-lines.result c.in_err-lines.field-0.0 _
-    c.from_residual-in_err-lines.ensures.1
-    (unread_script (g.S.Shelf.file c.args.shelf.now) (g.S.Shelf.file c.taken.new.shelf) c.args.program.now
-    c.args.script.now c.args.limits c.in_ok-image.image (g.S.Shelf.faults c.args.shelf.now)
-    (g.S.Shelf.faults c.taken.new.shelf) (g.S.Shelf.faults c.read_file.new.shelf)
-    (g.S.Shelf.last_trouble c.read_file.new.shelf) c.in_err-lines.field-0.0
-    c.taken.ensures.files c.in_ok-image.ensures.taken c.taken.ensures.counts c.read_file.ensures.counts
-    c.in_err-lines.ensures.cause)
-
 pub returns-in_err-machine-clause-cause : goal.returns-in_err-machine-clause-cause
 returns-in_err-machine-clause-cause g c =
-    passed_up c.from_residual-in_err-machine.result c.in_err-machine.field-0.0 _
-    c.from_residual-in_err-machine.ensures.1
-    (unplayed (g.S.Shelf.file c.args.shelf.now) (g.S.Shelf.file c.taken.new.shelf) c.args.program.now
-    c.args.script.now c.in_ok-lines.lines.items c.deref.result.now c.args.limits c.in_ok-image.image
-    (g.S.Shelf.faults c.args.shelf.now) (g.S.Shelf.faults c.read_file.new.shelf)
-    (g.S.Shelf.last_trouble c.read_file.new.shelf) c.in_err-machine.field-0.0
-    c.taken.ensures.files c.deref.ensures.value c.in_ok-image.ensures.taken
-    (record { read = c.in_ok-lines.ensures.read; fits = c.in_ok-lines.ensures.fits })
-    c.in_err-machine.ensures.cause)
+    let files = g.S.Shelf.file c.args.shelf.now in
+    passed_up c.from_residual-in_err-machine.result c.in_err-machine.field-0.0 _ c.from_residual-in_err-machine.ensures.1
+    (unplayed files files c.args.program.now c.args.script.now c.in_ok-files.files.lines.items c.deref.result.now
+    c.args.limits c.in_ok-files.files.image (g.S.Shelf.faults c.args.shelf.now) (g.S.Shelf.faults c.scripted.new.shelf)
+    (g.S.Shelf.last_trouble c.scripted.new.shelf) c.in_err-machine.field-0.0 refl c.deref.ensures.value
+    c.in_ok-files.ensures.taken c.in_ok-files.ensures.read c.in_err-machine.ensures.cause)
 
 pub returns-clause-run : goal.returns-clause-run
 returns-clause-run g c =
-    run_by_script (g.S.Shelf.file c.args.shelf.now) (g.S.Shelf.file c.taken.new.shelf) c.args.program.now
-    c.args.script.now c.in_ok-lines.lines.items c.deref.result.now c.args.limits c.in_ok-image.image
-    c.in_ok-machine.machine c.taken.ensures.files c.deref.ensures.value c.in_ok-image.ensures.taken
-    (record { read = c.in_ok-lines.ensures.read; fits = c.in_ok-lines.ensures.fits })
-    c.in_ok-machine.ensures.whole
+    let files = g.S.Shelf.file c.args.shelf.now in
+    run_by_script files files c.args.program.now c.args.script.now c.in_ok-files.files.lines.items c.deref.result.now
+    c.args.limits c.in_ok-files.files.image c.in_ok-machine.machine refl c.deref.ensures.value
+    c.in_ok-files.ensures.taken c.in_ok-files.ensures.read c.in_ok-machine.ensures.whole

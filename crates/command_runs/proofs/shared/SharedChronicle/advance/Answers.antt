@@ -10,14 +10,12 @@ use Rattle.command_runs.proofs.shared.SharedChronicle.advance.Goals as goal
 
 pub invariant_of-self : goal.invariant_of-self
 unfolding IsChosen
-invariant_of-self c =
-    let m = c.advance.new.self in
-    record {
-      few = within_limit m.setting m.log c.advance.ensures.block_run;
-      small = subst (λ (v : Seen). v.setting.limits.steps < 2 ^ 32) (sym c.advance.ensures.log)
-          (subst (λ (v : Seen). v.setting.limits.steps < 2 ^ 32) (sym c.deref_mut.ensures.value) c.args.self.now.small);
-      chosen = c.advance.ensures.chosen;
-    }
+invariant_of-self c = record {
+  few = within_limit c.advance.new.self.setting c.advance.new.self.log c.advance.ensures.block_run;
+  small = subst (λ (v : Seen). v.setting.limits.steps < 2 ^ 32) (sym c.advance.ensures.log)
+      (subst (λ (v : Seen). v.setting.limits.steps < 2 ^ 32) (sym c.deref_mut.ensures.value) c.args.self.now.small);
+  chosen = c.advance.ensures.chosen;
+}
 
 pub returns-clause-advanced : goal.returns-clause-advanced
 returns-clause-advanced c =

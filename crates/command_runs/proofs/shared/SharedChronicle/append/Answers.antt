@@ -9,14 +9,12 @@ use Rattle.command_runs.proofs.shared.SharedChronicle.append.Goals as goal
 
 pub invariant_of-self : goal.invariant_of-self
 unfolding IsChosen
-invariant_of-self c =
-    let m = c.append_local.new.self in
-    record {
-      few = within_limit m.setting m.log c.append_local.ensures.block_run;
-      small = subst (λ (s : Setting). s.limits.steps < 2 ^ 32) (sym c.append_local.ensures.setting)
-          (subst (λ (v : Seen). v.setting.limits.steps < 2 ^ 32) (sym c.deref_mut.ensures.value) c.args.self.now.small);
-      chosen = c.append_local.ensures.chosen;
-    }
+invariant_of-self c = record {
+  few = within_limit c.append_local.new.self.setting c.append_local.new.self.log c.append_local.ensures.block_run;
+  small = subst (λ (s : Setting). s.limits.steps < 2 ^ 32) (sym c.append_local.ensures.setting)
+      (subst (λ (v : Seen). v.setting.limits.steps < 2 ^ 32) (sym c.deref_mut.ensures.value) c.args.self.now.small);
+  chosen = c.append_local.ensures.chosen;
+}
 
 pub returns-clause-appended : goal.returns-clause-appended
 returns-clause-appended c =

@@ -45,37 +45,20 @@ waiting_on-requires c =
     c.draw_event-made.ensures.made c.draw_event-made.ensures.drawn c.events.invariant.way in
     hart_there c.events.self.machine c.draw_event-made.new.machine c.draw_event-made.result.entry next
 
-pub count-requires-clause-hart : goal.count-requires-clause-hart
-count-requires-clause-hart c =
+pub count-requires : goal.count-requires
+count-requires c =
     let next = next_on c.args.manner.now c.args.self.now.machine.setting c.events.self.machine c.draw_event-made.new.machine
     c.events.drawing c.draw_event-made.new.drawing c.draw_event-made.result.entry c.events.invariant.setting c.requires.limits
     c.draw_event-made.ensures.made c.draw_event-made.ensures.drawn c.events.invariant.way in
-    (countable c.events.self.machine c.draw_event-made.new.machine c.draw_event-made.result.entry c.events.waits.clocks
-    c.events.waits.counts c.waiting_on.result next c.events.invariant.waits c.waiting_on.ensures.count).hart
-
-pub count-requires-clause-instructions : goal.count-requires-clause-instructions
-count-requires-clause-instructions c =
-    let next = next_on c.args.manner.now c.args.self.now.machine.setting c.events.self.machine c.draw_event-made.new.machine
-    c.events.drawing c.draw_event-made.new.drawing c.draw_event-made.result.entry c.events.invariant.setting c.requires.limits
-    c.draw_event-made.ensures.made c.draw_event-made.ensures.drawn c.events.invariant.way in
-    (countable c.events.self.machine c.draw_event-made.new.machine c.draw_event-made.result.entry c.events.waits.clocks
-    c.events.waits.counts c.waiting_on.result next c.events.invariant.waits c.waiting_on.ensures.count).instructions
-
-pub count-requires-clause-one : goal.count-requires-clause-one
-count-requires-clause-one c =
-    let next = next_on c.args.manner.now c.args.self.now.machine.setting c.events.self.machine c.draw_event-made.new.machine
-    c.events.drawing c.draw_event-made.new.drawing c.draw_event-made.result.entry c.events.invariant.setting c.requires.limits
-    c.draw_event-made.ensures.made c.draw_event-made.ensures.drawn c.events.invariant.way in
-    (countable c.events.self.machine c.draw_event-made.new.machine c.draw_event-made.result.entry c.events.waits.clocks
-    c.events.waits.counts c.waiting_on.result next c.events.invariant.waits c.waiting_on.ensures.count).one
-
-pub count-requires-clause-few : goal.count-requires-clause-few
-count-requires-clause-few c =
-    let next = next_on c.args.manner.now c.args.self.now.machine.setting c.events.self.machine c.draw_event-made.new.machine
-    c.events.drawing c.draw_event-made.new.drawing c.draw_event-made.result.entry c.events.invariant.setting c.requires.limits
-    c.draw_event-made.ensures.made c.draw_event-made.ensures.drawn c.events.invariant.way in
-    (countable c.events.self.machine c.draw_event-made.new.machine c.draw_event-made.result.entry c.events.waits.clocks
-    c.events.waits.counts c.waiting_on.result next c.events.invariant.waits c.waiting_on.ensures.count).few
+    let fine = countable c.events.self.machine c.draw_event-made.new.machine c.draw_event-made.result.entry c.events.waits.clocks
+    c.events.waits.counts c.waiting_on.result next c.events.invariant.waits c.waiting_on.ensures.count in
+    record {
+      hart = fine.hart;
+      instructions = fine.instructions;
+      waiting = c.waiting_on.ensures.few;
+      one = fine.one;
+      few = fine.few;
+    }
 
 pub events-preserved : goal.events-preserved
 events-preserved c =

@@ -19,7 +19,7 @@ pub returns-else-hart-opened : goal.returns-else-hart-opened
 returns-else-hart-opened c =
     let m = c.args.self.now.machine.now in
     let listed = (kernel m.setting (history m.setting m.log)).scheduling in
-    c.has_only_for-2.ensures
+    c.has_only_for-else-hart-opened.ensures
     ∙ ap (λ (s : Scheduling). list_any (λ t. has_hart (affinity_of t s) c.args.hart.0 && eqb (affinity_of t s % 2 ^ c.args.opened) 0) s.order) c.kernel.ensures.scheduling
     ∙ (λ i. list_any (λ t. shut_bar c.args.opened c.args.hart.0 (affinity_of t listed) (omega arith) i) listed.order)
     ∙ sym (c.args.self.now.listed c.args.opened c.args.hart.0)

@@ -1,4 +1,4 @@
-use Rattle.std.proofs.Common.{ℕ, ◌≡◌, Bool, true, false, cond, eqb, refl}
+use Rattle.std.proofs.Common.{ℕ, ◌≡◌, true, false, cond, eqb, refl}
 use Rattle.mach_types.proofs.Laws.{keeps_clear}
 use Rattle.mach_types.specs.Kernel.Threads.{clear_if}
 use Rattle.kernel_threads.specs.Rows.{clear_row_if, saved_in, thread_in}

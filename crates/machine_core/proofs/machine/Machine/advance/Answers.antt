@@ -14,8 +14,7 @@ returns-then-hart-self-clause-answer c =
 
 pub returns-in-Some-clause-answer : goal.returns-in-Some-clause-answer
 returns-in-Some-clause-answer c =
-    let m = c.self.inside in
-    rw (← c.self.view_is) (answers_next (setting_of m) m.seed c.args.hart.0 (past_of m) c.in-Some.entry
+    rw (← c.self.view_is) (answers_next (setting_of c.self.inside) c.self.inside.seed c.args.hart.0 (past_of c.self.inside) c.in-Some.entry
     (rw (← c.self.view_is) at (sym c.has_ended.ensures.answer ∙ c.if-has_ended.false)) (rw (← c.self.view_is) at c.in-Some.ensures.next))
 
 pub returns-in-Some-clause-chosen : goal.returns-in-Some-clause-chosen

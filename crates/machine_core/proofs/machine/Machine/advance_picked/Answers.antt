@@ -22,9 +22,7 @@ step_seen-requires-clause-sight c =
 
 pub unreachable-requires : goal.unreachable-requires
 unreachable-requires c =
-    let m = c.self.inside in
-    let h = c.args.hart.0 in
-    let is = turn_picks m h c.sight-sight.result c.in-Some.pick c.self.invariant (rw (← c.self.view_is) at c.requires.chosen)
+    let is = turn_picks c.self.inside c.args.hart.0 c.sight-sight.result c.in-Some.pick c.self.invariant (rw (← c.self.view_is) at c.requires.chosen)
     (rw (← c.self.view_is) at c.requires.goes) (rw (← c.self.view_is) at c.requires.hart)
     (rw (← c.self.view_is) at c.sight-sight.ensures) (sym c.in-Some.is ∙ c.peek.ensures) in
     never_err _ _ (sym c.in-Err.is ∙ ((rw (← c.self.view_is) at c.step_seen.ensures.answer) ∙ is.decided))

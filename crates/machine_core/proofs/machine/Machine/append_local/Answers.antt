@@ -7,16 +7,13 @@ hart-requires c = (is_lent c.args.self.now.setting c.args.self.now.seed c.args.h
 
 pub overflow_cast-room : goal.overflow_cast-room
 overflow_cast-room c =
-    let m = c.self.inside in
-    let room = has_room m (rw (← c.self.view_is) at (sym c.has_ended.ensures.answer ∙ c.if-has_ended.false)) in
-    let steps = c.self.invariant.limits.most_steps in
-    omega (arith, room, steps, c.len.ensures, m.log.ok.0)
+    let room = has_room c.self.inside (rw (← c.self.view_is) at (sym c.has_ended.ensures.answer ∙ c.if-has_ended.false)) in
+    omega (arith, room, c.self.invariant.limits.most_steps, c.len.ensures, c.self.inside.log.ok.0)
 
 pub overflow_sub-room : goal.overflow_sub-room
 overflow_sub-room c =
-    let m = c.self.inside in
-    let room = has_room m (rw (← c.self.view_is) at (sym c.has_ended.ensures.answer ∙ c.if-has_ended.false)) in
-    omega (arith, room, c.len.ensures, m.log.ok.0)
+    let room = has_room c.self.inside (rw (← c.self.view_is) at (sym c.has_ended.ensures.answer ∙ c.if-has_ended.false)) in
+    omega (arith, room, c.len.ensures, c.self.inside.log.ok.0)
 
 pub advance_often-requires-clause-makes : goal.advance_often-requires-clause-makes
 advance_often-requires-clause-makes c =
@@ -30,20 +27,18 @@ advance_often-requires-clause-makes c =
 pub returns-then-room-count-clause-count : goal.returns-then-room-count-clause-count
 returns-then-room-count-clause-count c =
     let m = c.self.inside in
-    let h = c.args.hart.0 in
     let goes = rw (← c.self.view_is) at (sym c.has_ended.ensures.answer ∙ c.if-has_ended.false) in
     let same = sym (ap (λ (y : HartState). y.events) (rw (← c.self.view_is) at c.hart.ensures)) ∙ c.if-hart-stretch.false in
     let room = has_room m goes in
     let long = length-history (setting_of m) m.log.items in
     rw (← c.self.view_is) (omega (arith, c.if-room-count.true, c.len-count.ensures.value, c.len.ensures, m.log.ok.0, long)
-    ∙ sym (appended_is (setting_of m) h (past_of m) (stretch_of c.args.stretch) (sym c.is_empty.ensures ∙ c.if-is_empty.false) goes same))
+    ∙ sym (appended_is (setting_of m) c.args.hart.0 (past_of m) (stretch_of c.args.stretch) (sym c.is_empty.ensures ∙ c.if-is_empty.false) goes same))
 
 pub returns-else-room-count-clause-count : goal.returns-else-room-count-clause-count
 returns-else-room-count-clause-count c =
     let m = c.self.inside in
-    let h = c.args.hart.0 in
     let goes = rw (← c.self.view_is) at (sym c.has_ended.ensures.answer ∙ c.if-has_ended.false) in
     let same = sym (ap (λ (y : HartState). y.events) (rw (← c.self.view_is) at c.hart.ensures)) ∙ c.if-hart-stretch.false in
     let long = length-history (setting_of m) m.log.items in
     rw (← c.self.view_is) (omega (arith, c.if-room-count.false, c.len-count.ensures.value, c.len.ensures, m.log.ok.0, long)
-    ∙ sym (appended_is (setting_of m) h (past_of m) (stretch_of c.args.stretch) (sym c.is_empty.ensures ∙ c.if-is_empty.false) goes same))
+    ∙ sym (appended_is (setting_of m) c.args.hart.0 (past_of m) (stretch_of c.args.stretch) (sym c.is_empty.ensures ∙ c.if-is_empty.false) goes same))

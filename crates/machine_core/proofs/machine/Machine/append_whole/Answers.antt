@@ -6,10 +6,8 @@ use Rattle.machine_core.proofs.machine.Machine.append_whole.Goals as goal
 
 pub index_mut-state-requires : goal.index_mut-state-requires
 index_mut-state-requires c =
-    let m = c.self.inside in
-    let lt = of_machine m c.args.hart (stretch_of c.args.stretch) (rw (← c.self.view_is) at c.requires.fits) in
-    let all = c.self.invariant.tied.all_harts in
-    omega (arith, all, lt, m.parts.harts.ok.0)
+    let lt = of_machine c.self.inside c.args.hart (stretch_of c.args.stretch) (rw (← c.self.view_is) at c.requires.fits) in
+    omega (arith, c.self.invariant.tied.all_harts, lt, c.self.inside.parts.harts.ok.0)
 
 pub unreachable-requires : goal.unreachable-requires
 unreachable-requires c =

@@ -16,9 +16,8 @@ go_on_credit-requires-clause-events c =
 
 pub append-requires : goal.append-requires
 append-requires c =
-    let m = c.self.inside in
-    let room = has_room m (rw (← c.self.view_is) at c.requires.goes) in
-    omega (arith, room, c.self.invariant.room, m.log.ok.0)
+    let room = has_room c.self.inside (rw (← c.self.view_is) at c.requires.goes) in
+    omega (arith, room, c.self.invariant.room, c.self.inside.log.ok.0)
 
 pub invariant_of-self : goal.invariant_of-self
 invariant_of-self c =

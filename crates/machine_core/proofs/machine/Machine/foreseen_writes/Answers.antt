@@ -1,19 +1,15 @@
 -- What the kernel would write.
-use Rattle.machine_core.proofs.Common.{◌≡◌, sym, ap, ◌∙◌, Ok, past_of, seen, setting_of, decide, stand_of, same_here}
+use Rattle.machine_core.proofs.Common.{sym, ap, ◌∙◌, seen, stand_of, same_here}
 use Rattle.process.specs.Foresight.{foreseen_writes}
 use Rattle.machine_core.proofs.AllowedPlaces.{allowed_place, may_make}
 use Rattle.machine_core.proofs.machine.Machine.foreseen_writes.Goals as goal
 
 pub foreseen_writes-requires : goal.foreseen_writes-requires
 foreseen_writes-requires c =
-    let m = c.self.inside in
-    let is : decide (setting_of m) (past_of m) c.args.hart.0 c.args.choice ≡ Ok c.in-Ok.field-0 = rw (← c.self.view_is) at (sym c.answer.ensures ∙ c.in-Ok.is) in
-    may_make m c.args.hart.0 c.args.choice (allowed_place m c.args.hart.0 c.args.choice _ c.self.invariant is)
+    may_make c.self.inside c.args.hart.0 c.args.choice c.in-Ok.field-0 c.self.invariant (rw (← c.self.view_is) at (sym c.answer.ensures ∙ c.in-Ok.is))
 
 pub returns-in-Ok-clause-allowed : goal.returns-in-Ok-clause-allowed
 returns-in-Ok-clause-allowed c e is =
-    let m = c.self.inside in
-    let h = c.args.hart.0 in
-    let at = allowed_place m h c.args.choice e c.self.invariant (rw (← c.self.view_is) at is) in
-    rw (← c.self.view_is) (c.foreseen_writes.ensures (stand_of (seen m)) at.place.at at.free
-    ∙ ap (foreseen_writes c.args.choice) (same_here (seen m) h c.self.invariant.run))
+    let at = allowed_place c.self.inside c.args.hart.0 c.args.choice e c.self.invariant (rw (← c.self.view_is) at is) in
+    rw (← c.self.view_is) (c.foreseen_writes.ensures (stand_of (seen c.self.inside)) at.place.at at.free
+    ∙ ap (foreseen_writes c.args.choice) (same_here (seen c.self.inside) c.args.hart.0 c.self.invariant.run))

@@ -4,8 +4,7 @@ use Rattle.machine_core.proofs.machine.Machine.has_ended.Goals as goal
 
 pub returns-then-is_some-clause-answer : goal.returns-then-is_some-clause-answer
 returns-then-is_some-clause-answer c =
-    let m = c.self.inside in
-    rw (← c.self.view_is) (c.if-is_some.true ∙ sym (over_ended m c.self.invariant (sym c.is_some.ensures ∙ c.if-is_some.true)))
+    rw (← c.self.view_is) (c.if-is_some.true ∙ sym (over_ended c.self.inside c.self.invariant (sym c.is_some.ensures ∙ c.if-is_some.true)))
 
 pub returns-else-is_some-clause-answer : goal.returns-else-is_some-clause-answer
 returns-else-is_some-clause-answer c =

@@ -15,10 +15,9 @@ reset-requires-clause-harts c = c.self.invariant.tied.all_harts
 
 pub invariant_of-self-2 : goal.invariant_of-self-2
 invariant_of-self-2 c =
-    let m = c.self.inside in
-    let s = setting_of m in
-    let same : s ≡ setting_by c.args.image.now m.limits =
-    ap (λ (p : Program). let q : Setting = record { program = p; limits = m.limits } in q) (rw (← c.self.view_is) at c.requires.program) in
+    let s = setting_of c.self.inside in
+    let same : s ≡ setting_by c.args.image.now c.self.inside.limits =
+    ap (λ (p : Program). let q : Setting = record { program = p; limits = c.self.inside.limits } in q) (rw (← c.self.view_is) at c.requires.program) in
     let tied = c.reset.ensures.tied in
     record {
       run = rw c.clear.ensures.items (start_run s);

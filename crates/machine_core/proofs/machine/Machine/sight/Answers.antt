@@ -1,5 +1,5 @@
 -- What a scheduler sees of a hart.
-use Rattle.machine_core.proofs.Common.{◌≡◌, ◌<◌, ◌∙◌, ◌&&◌, ap, length, is_some, is_none, not, eqb, false, Option, option_map, option_map_or, Scheduling, HartState, Here, events, hart_in, here_of, plain_seen, ran, runs, seen, sets_register, setting_of, Effect, credit_at, is_deliverable_on, thread, stand_of, same_here, standing, has_signals, first_for, file_of, next_effect, refusal_exec, is_all_taken}
+use Rattle.machine_core.proofs.Common.{◌≡◌, ◌<◌, ◌∙◌, ◌&&◌, ap, length, is_some, is_none, not, eqb, false, Option, option_map, option_map_or, Scheduling, HartState, Here, events, hart_in, here_of, plain_seen, ran, runs, seen, sets_register, setting_of, Effect, credit_at, is_deliverable_on, thread, stand_of, same_here, standing, has_signals, first_for, refusal_exec, is_all_taken}
 use Rattle.machine_core.proofs.Readings.{here_read, history_of, scheduling_read}
 use Rattle.machine_core.proofs.Sights.{deliverable_read, idle_read, local_read, numbered, tested, untested}
 use Rattle.machine_core.proofs.machine.Machine.sight.Goals.{then-not-is_idle, else-not-is_idle}
@@ -10,12 +10,7 @@ deliverable-requires-clause-held c =
     has_signals (stand_of (seen c.self.inside)) c.self.inside.parts c.args.hart.0 (standing (seen c.self.inside) c.self.invariant.run) c.self.invariant.tied (rw (← c.self.view_is) at c.requires)
 
 pub is_enabled-requires-clause-effect : goal.is_enabled-requires-clause-effect
-is_enabled-requires-clause-effect c =
-    let m = c.self.inside in
-    let h = c.args.hart.0 in
-    let x = c.hart-state.result.now in
-    let here : x ≡ hart_in (here_read m h) (ran h (history_of m)) (events h (history_of m)) (credit_at (setting_of m) m.seed h (history_of m)) = rw (← c.self.view_is) at c.hart-state.ensures in
-    rw (← c.self.view_is) (c.effect_at-effect.ensures.effect ∙ ap (λ (y : HartState). next_effect m.code (file_of y)) here)
+is_enabled-requires-clause-effect c = rw (← c.self.view_is) c.effect_at-effect.ensures.effect
 
 pub returns : goal.returns
 returns c =

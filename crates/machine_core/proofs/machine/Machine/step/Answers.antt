@@ -4,8 +4,7 @@ use Rattle.machine_core.proofs.machine.Machine.step.Goals as goal
 
 pub step_chosen-requires-clause-chosen : goal.step_chosen-requires-clause-chosen
 step_chosen-requires-clause-chosen c =
-    let v = c.args.self.now in
-    chosen_of v.setting v.seed v.log (sym c.if-is_chosen.true ∙ c.is_chosen.ensures)
+    chosen_of c.args.self.now.setting c.args.self.now.seed c.args.self.now.log (sym c.if-is_chosen.true ∙ c.is_chosen.ensures)
 
 pub step_seen-requires-clause-sight : goal.step_seen-requires-clause-sight
 step_seen-requires-clause-sight c =

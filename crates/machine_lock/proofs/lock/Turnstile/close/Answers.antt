@@ -8,6 +8,7 @@ use Rattle.machine_lock.specs.Steps.{Got}
 use Rattle.machine_lock.proofs.Keeps.{closes}
 use Rattle.machine_lock.specs.Turnstiles.{turnstile_of}
 use Rattle.machine_lock.proofs.PassLemmas.{whose, idle}
+use Rattle.machine_lock.proofs.lock.Turnstile.close.Given as given
 use Rattle.machine_lock.proofs.lock.Turnstile.close.Goals as goal
 
 pub close_with-closed-requires : goal.close_with-closed-requires
@@ -25,25 +26,25 @@ unreachable-requires g c =
     let t = closes g.M.Meaning.setting g.M.Meaning.log g.M.Meaning.next table.key _ _ _ _ of.1 at.0 (search rules) c.close_with-closed.ensures.values.2 in
     c.in_default.not-Some t.0 (opt.some-injective _ _ (sym c.take-last.ensures.value ∙ t.1))
 
+-- what is known of the machine that is taken out
+known : (g : given.Over) (c : goal.In-Some g)
+    → Got g.M.Meaning.setting g.M.Meaning.log g.M.Meaning.next c.args.self.table.shared.key c.pass.inside.seat.me.0.seen c.in-Some.machine
+    × Owns c.pass.inside.seat.me.0.mine (length (g.M.Meaning.log c.in-Some.machine))
+known g c =
+    let s = c.pass.inside.seat in
+    let table = c.args.self.table.shared in
+    let of = whose (turnstile_of c.args.self) s c.args.pass c.pass.invariant c.pass.view_is c.requires.own in
+    let at = idle s c.args.pass c.pass.invariant c.pass.view_is c.requires.idle in
+    let t = closes g.M.Meaning.setting g.M.Meaning.log g.M.Meaning.next table.key _ _ _ _ of.1 at.0 (search rules) c.close_with-closed.ensures.values.2 in
+    let is : Some t.0 ≡ Some c.in-Some.machine = sym (opt.some-injective _ _ (sym c.take-last.ensures.value ∙ t.1)) ∙ c.in-Some.is in
+    let same : t.0 ≡ c.in-Some.machine = ap (λ o. unwrap_or o t.0) is in (
+      subst (λ (m : g.row.M.Denot). Got g.M.Meaning.setting g.M.Meaning.log g.M.Meaning.next table.key s.me.0.seen m) same t.2,
+      subst (λ (m : g.row.M.Denot). Owns s.me.0.mine (length (g.M.Meaning.log m))) same t.3,
+    )
+
 pub returns-clause-got : goal.returns-clause-got
 returns-clause-got g c =
-    let s = c.pass.inside.seat in
-    let table = c.args.self.table.shared in
-    let of = whose (turnstile_of c.args.self) s c.args.pass c.pass.invariant c.pass.view_is c.requires.own in
-    let at = idle s c.args.pass c.pass.invariant c.pass.view_is c.requires.idle in
-    let t = closes g.M.Meaning.setting g.M.Meaning.log g.M.Meaning.next table.key _ _ _ _ of.1 at.0 (search rules) c.close_with-closed.ensures.values.2 in
-    let is : Some t.0 ≡ Some c.in-Some.machine = sym (opt.some-injective _ _ (sym c.take-last.ensures.value ∙ t.1)) ∙ c.in-Some.is in
-    let same : t.0 ≡ c.in-Some.machine = ap (λ o. unwrap_or o t.0) is in
-    subst (λ (p : PassView g.row.M.Denot). Got g.M.Meaning.setting g.M.Meaning.log g.M.Meaning.next table.key p.seen c.in-Some.machine) c.pass.view_is
-    (subst (λ (m : g.row.M.Denot). Got g.M.Meaning.setting g.M.Meaning.log g.M.Meaning.next table.key s.me.0.seen m) same t.2)
+    subst (λ (p : PassView g.row.M.Denot). Got g.M.Meaning.setting g.M.Meaning.log g.M.Meaning.next c.args.self.table.shared.key p.seen c.in-Some.machine) c.pass.view_is (known g c).0
 
 pub returns-clause-mine : goal.returns-clause-mine
-returns-clause-mine g c =
-    let s = c.pass.inside.seat in
-    let table = c.args.self.table.shared in
-    let of = whose (turnstile_of c.args.self) s c.args.pass c.pass.invariant c.pass.view_is c.requires.own in
-    let at = idle s c.args.pass c.pass.invariant c.pass.view_is c.requires.idle in
-    let t = closes g.M.Meaning.setting g.M.Meaning.log g.M.Meaning.next table.key _ _ _ _ of.1 at.0 (search rules) c.close_with-closed.ensures.values.2 in
-    let is : Some t.0 ≡ Some c.in-Some.machine = sym (opt.some-injective _ _ (sym c.take-last.ensures.value ∙ t.1)) ∙ c.in-Some.is in
-    let same : t.0 ≡ c.in-Some.machine = ap (λ o. unwrap_or o t.0) is in
-    subst (λ (p : PassView g.row.M.Denot). Owns p.mine (length (g.M.Meaning.log c.in-Some.machine))) c.pass.view_is (subst (λ (m : g.row.M.Denot). Owns s.me.0.mine (length (g.M.Meaning.log m))) same t.3)
+returns-clause-mine g c = subst (λ (p : PassView g.row.M.Denot). Owns p.mine (length (g.M.Meaning.log c.in-Some.machine))) c.pass.view_is (known g c).1

@@ -19,9 +19,9 @@ loop-k-preserved c =
     let m = c.args.self.now in
     let k = c.loop-k.k in
     let was = c.loop-k.invariant in
-    let set = c.set_in_page.ensures in
+    let set = c.set_in_page.ensures.stored in
     let next : c.args.at + c.from.result ≡ c.args.at + k = ap (λ j. c.args.at + j) c.from.ensures in
-    let done = writes_one m c.loop-k.self c.args.at k c.args.size (c.args.at + c.from.result) c.set_in_page.result next c.loop-k-test.true (sym all) was.permissions set.answer in
+    let done = writes_one m c.loop-k.self c.args.at k c.args.size (c.args.at + c.from.result) c.set_in_page.result next c.loop-k-test.true (sym all) was.permissions c.set_in_page.ensures.answer in
     record {
       rest = next_rest c.args.value k c.loop-k.rest was.rest;
       bytes = step_across (byte_in m) (byte_in c.loop-k.self) (byte_in c.set_in_page.new.self) c.args.at k c.args.value c.loop-k.rest (c.args.at + c.from.result) c.set_in_page.result next done was.rest was.bytes set.bytes;

@@ -1,19 +1,18 @@
-use Rattle.std.proofs.Common.{sym}
+use Rattle.std.proofs.Common.{rules, sym}
 use Rattle.page_map.proofs.Writings.{made-bytes, made-code, made-held}
 use Rattle.page_map.proofs.map.PageMap.set_in_page.Goals as goal
 
-pub returns-clause-bytes : goal.returns-clause-bytes
-returns-clause-bytes c =
+pub returns-clause-stored : goal.returns-clause-stored
+returns-clause-stored c =
+    let m = c.args.self.now in
+    let m' = c.write_in_page.new.self in
     let done = c.write_in_page.ensures in
-    made-bytes c.args.self.now c.write_in_page.new.self c.args.at c.args.size c.args.value done.pages 4 c.requires.page done.size
-
-pub returns-clause-code : goal.returns-clause-code
-returns-clause-code c =
-    let done = c.write_in_page.ensures in
-    let can = c.if-not-can_write.ensures in
-    made-code c.args.self.now c.write_in_page.new.self c.args.at c.args.size c.args.value done.pages (sym can) done.permission
-
-pub returns-clause-held : goal.returns-clause-held
-returns-clause-held c =
-    let done = c.write_in_page.ensures in
-    made-held c.args.self.now c.write_in_page.new.self c.args.at c.args.size c.args.value done.pages c.requires.page done.size
+    record {
+      bytes = made-bytes m m' c.args.at c.args.size c.args.value done.pages 4 c.requires.page done.size;
+      held = made-held m m' c.args.at c.args.size c.args.value done.pages c.requires.page done.size;
+      permissions = search rules;
+      code = made-code m m' c.args.at c.args.size c.args.value done.pages (sym c.if-not-can_write.ensures) done.permission;
+      free = done.free;
+      break_at = done.break_at;
+      break_start = done.break_start;
+    }

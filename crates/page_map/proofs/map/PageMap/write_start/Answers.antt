@@ -6,24 +6,23 @@ use Rattle.page_map.specs.Map.{byte_in, held_in, may_write}
 use Rattle.page_map.proofs.Starts.{booted, laid-byte, laid-held, stack-writable}
 use Rattle.page_map.proofs.map.PageMap.write_start.Goals as goal
 
-pub returns-clause-bytes : goal.returns-clause-bytes
-returns-clause-bytes c a =
-    let pages = c.args.image.now.pages.items in
-    booted (byte_in c.args.self.now a) (byte_in c.write_words.new.self a) (byte_in c.write_words-2.new.self a)
-    (can_read (permission_of (start_runs pages) (a / 4096))) (program_of c.args.image.now) c.stack_words-words.result a c.stack_words-words.ensures
-    (laid-byte 4 c.args.self.now pages a (c.requires (a / 4096))) (c.write_words.ensures.bytes a) (c.write_words-2.ensures.bytes a)
-
-pub returns-clause-held : goal.returns-clause-held
-returns-clause-held c a =
-    let pages = c.args.image.now.pages.items in
-    booted (held_in c.args.self.now a) (held_in c.write_words.new.self a) (held_in c.write_words-2.new.self a)
-    (is_some (permission_of (start_runs pages) (a / 4096))) (program_of c.args.image.now) c.stack_words-words.result a c.stack_words-words.ensures
-    (laid-held c.args.self.now pages a (c.requires (a / 4096))) (c.write_words.ensures.held a) (c.write_words-2.ensures.held a)
-
-pub returns-clause-code : goal.returns-clause-code
-returns-clause-code c a =
-    c.write_words-2.ensures.code a ∙ c.write_words.ensures.code a
-    ∙ laid-byte 1 c.args.self.now c.args.image.now.pages.items a (c.requires (a / 4096))
+pub returns-clause-started : goal.returns-clause-started
+returns-clause-started c =
+    let image = c.args.image.now in
+    let pages = image.pages.items in
+    let first = c.write_words.ensures in
+    let second = c.write_words-2.ensures in
+    let words = c.stack_words-words in
+    record {
+      permissions = λ n. second.permissions n ∙ first.permissions n ∙ (c.requires n).permission;
+      bytes = λ a. booted (byte_in c.args.self.now a) (byte_in c.write_words.new.self a) (byte_in c.write_words-2.new.self a)
+          (can_read (permission_of (start_runs pages) (a / 4096))) (program_of image) words.result a words.ensures
+          (laid-byte 4 c.args.self.now pages a (c.requires (a / 4096))) (first.bytes a) (second.bytes a);
+      held = λ a. booted (held_in c.args.self.now a) (held_in c.write_words.new.self a) (held_in c.write_words-2.new.self a)
+          (is_some (permission_of (start_runs pages) (a / 4096))) (program_of image) words.result a words.ensures
+          (laid-held c.args.self.now pages a (c.requires (a / 4096))) (first.held a) (second.held a);
+      code = λ a. second.code a ∙ first.code a ∙ laid-byte 1 c.args.self.now pages a (c.requires (a / 4096));
+    }
 
 pub write_words-requires-clause-writable : goal.write_words-requires-clause-writable
 write_words-requires-clause-writable c = stack-writable c.args.self.now c.args.image.now.pages.items START_SP c.requires (omega arith) (omega arith)

@@ -4,6 +4,5 @@ use Rattle.process.proofs.code_pages.CodePages.executable.Goals as goal
 
 pub numbered-requires : goal.numbered-requires
 numbered-requires c =
-    let pages = c.self.inside.pages.items in
-    let is : c.in_ok-executable_pages.field-0.items ≡ code_of pages = c.in_ok-executable_pages.ensures ∙ ap code_of c.deref.ensures.value in
-    rw is (code_rises pages c.self.invariant.1)
+    let is : c.in_ok-executable_pages.field-0.items ≡ code_of c.self.inside.pages.items = c.in_ok-executable_pages.ensures ∙ ap code_of c.deref.ensures.value in
+    rw is (code_rises c.self.inside.pages.items c.self.invariant.1)

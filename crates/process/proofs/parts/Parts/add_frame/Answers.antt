@@ -29,9 +29,8 @@ returns c =
     let m = c.args.self.now in
     let g = m.kernel.signals in
     let x = c.args.saved.now in
-    let old = c.args.writes.now.items in
     let mask = mask_of c.args.tid.0 g in
     let handler : is_handler (action_of c.args.signal g) ≡ true = ap is_handler (sym c.action.ensures) ∙ sym c.is_handler.ensures ∙ c.if-not-is_handler.false in
     let is = frame_there (can_write_frame (can_write_in m.pages) x) (frame_writes x mask) c.in-Some.frame (sym c.in-Some.is ∙ c.frame_writes.ensures) in
-    c.add.ensures ∙ ap (λ (ws : List Write). old ++ ws) is.1
-    ∙ ap (λ k. old ++ frame_unless k x mask) (sym (killer_handler (can_write_in m.pages) c.args.signal x g true handler is.0))
+    c.add.ensures ∙ ap (λ (ws : List Write). c.args.writes.now.items ++ ws) is.1
+    ∙ ap (λ k. c.args.writes.now.items ++ frame_unless k x mask) (sym (killer_handler (can_write_in m.pages) c.args.signal x g true handler is.0))

@@ -12,11 +12,9 @@ overflow_add-state c = let plan = c.requires.plan in let few = ran_fits plan.sta
 pub returns : goal.returns
 returns c v place plan =
     let h = c.args.hart.0 in
-    let m = c.args.self.now in
     let x = c.index_mut-state.result.now in
-    let here = here_at v h in
     let t = plan.thread in
     let z : HartState = record x { reserved = None; ran = x.ran + 1 } in
-    killed_as v h asked.Exec (by_call here (killed_in_call here)) m _ z place plan.free
-    (done_inside here t plan.at (sym plan.fault) (sym plan.effect) (c.requires.inside v t place plan.at)) (record { none_begun = refl; none_taken = refl }) refl refl refl refl refl
-    (inside_own _ v.setting v.plain h t x (counted z) (hart_is v m h x place c.index_mut-state.ensures.value) plan.at refl)
+    killed_as v h asked.Exec (by_call (here_at v h) (killed_in_call (here_at v h))) c.args.self.now _ z place plan.free
+    (done_inside (here_at v h) t plan.at (sym plan.fault) (sym plan.effect) (c.requires.inside v t place plan.at)) (record { none_begun = refl; none_taken = refl }) refl refl refl refl refl
+    (inside_own _ v.setting v.plain h t x (counted z) (hart_is v c.args.self.now h x place c.index_mut-state.ensures.value) plan.at refl)

@@ -22,10 +22,9 @@ handled-killer-requires-clause-held c =
 pub unreachable-requires : goal.unreachable-requires
 unreachable-requires c =
     let v = c.requires.stand in
-    let place = c.requires.place in
     let is = receiving (here_at v c.args.hart.0) c.requires.free in
-    some_signal v c.args.self.now c.args.hart place c.requires.free is c.deliverable.result
-    (c.deliverable.ensures v.setting v.plain place.tied place.lt) c.in_default.is
+    some_signal v c.args.self.now c.args.hart c.requires.place c.requires.free is c.deliverable.result
+    (c.deliverable.ensures v.setting v.plain c.requires.place.tied c.requires.place.lt) c.in_default.is
 
 pub go_on-requires : goal.go_on-requires
 go_on-requires c =

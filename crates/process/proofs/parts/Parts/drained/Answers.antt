@@ -17,18 +17,17 @@ returns c v place free =
     let h = c.args.hart.0 in
     let m = c.args.self.now in
     let x = c.index_mut-state.result.now in
-    let here = here_at v h in
     let p = v.plain in
     let m' = c.enter_made.new.self in
     let own = hart_is v m h x place c.index_mut-state.ensures.value in
-    let first = oldest here free in
+    let first = oldest (here_at v h) free in
     let w = first.0 in
     let made : stores c.pop-oldest.result ≡ w ∷ [] = ap stores (c.pop-oldest.ensures.oldest ∙ ap (λ (z : HartState). slice_get z.buffer 0) own ∙ ap (λ (ws : List Store). slice_get ws 0) first.1.1) in
     let wrote : IsWritten (Stored w ∷ []) m.pages m'.pages = subst (λ (ws : List Store). IsWritten (all_stored ws) m.pages m'.pages) made c.enter_made.ensures.pages in
     let y : HartState = record x { buffer = c.pop-oldest.new.self } in
-    uncounted_as v h asked.Drain (done_drain_of here (w ∷ first.1.0)) m m' y place free (ap (done_drain_of here) first.1.1) (record {
+    uncounted_as v h asked.Drain (done_drain_of (here_at v h) (w ∷ first.1.0)) m m' y place free (ap (done_drain_of (here_at v h)) first.1.1) (record {
       own = drain_own _ v.setting p h w first.1.0 x (counted y) own (ap (λ (ws : List Store). let z : HartState = record x { buffer = ws; events = x.events + 1 } in z) c.pop-oldest.ensures.rest);
-      harts = quietly h (done_drain_of here (w ∷ first.1.0)) (set m.harts.items h y) m'.harts.items (record { none_begun = refl; none_taken = refl })
+      harts = quietly h (done_drain_of (here_at v h) (w ∷ first.1.0)) (set m.harts.items h y) m'.harts.items (record { none_begun = refl; none_taken = refl })
           (λ k. c.enter_made.ensures.harts k ∙ ap (λ (ws : List Store). option_map (lost_unless (eqb k h) (all_stored ws)) (slice_get (set m.harts.items h y) k)) made);
       pages = pages_written p.kernel.pages v.setting.program.break_at p.byte (Stored w ∷ []) m.pages m'.pages place.tied.pages wrote;
       readable = readable_written (Stored w ∷ []) m.pages m'.pages place.tied.readable wrote;

@@ -1,4 +1,6 @@
-use Rattle.process.proofs.Common.{◌+◌, ◌≡◌, true, false, not, arith, refl, sym, ap, ◌∙◌, and_parts, action_of, is_handler, mask_of, with_pending, HartState, counted, here_at, has_handler, signalled, holds_signals, has_signal, has_handler_in}
+use Rattle.process.proofs.Common.{◌+◌, ◌≡◌, ◌≤◌, true, false, not, arith, refl, sym, ap, ◌∙◌, and_parts, action_of, is_handler, mask_of, with_pending, HartState, counted, here_at, has_handler, signalled, holds_signals, has_signal, has_handler_in}
+use Rattle.mach_types.specs.Kernel.Signals.{is_held}
+use Rattle.mach_types.specs.declared.signals.TheConstants.{LAST_SIGNAL}
 use Rattle.mach_types.specs.declared.events.Choice.TheVariants as asked
 use Rattle.mach_types.specs.declared.events.Kind.TheVariants as kind
 use Rattle.process.proofs.Entries.{killed_as, uncounted_as}
@@ -7,24 +9,24 @@ use Rattle.process.proofs.ExecEvent.{done_killing, done_pending, fault_killing, 
 use Rattle.process.proofs.HartEvents.{killing_own, pending_own}
 use Rattle.process.proofs.Places.{goes_on, hart_is, ran_fits, was_not_stuck}
 use Rattle.process.proofs.SignalsOfHarts.{entry_runs, held_named, planned_fault, posted_handler}
+use Rattle.process.proofs.parts.Parts.fault.Goals.{After-entry_of-entry}
 use Rattle.process.proofs.parts.Parts.fault.Goals as goal
 
 pub overflow_add-state : goal.overflow_add-state
 overflow_add-state c = let plan = c.requires.1 in let few = ran_fits plan.stand c.args.self.now c.args.hart.0 c.index_mut-state.result.now plan.place c.index_mut-state.ensures.value in omega (arith, few)
 
-pub has_handler-requires : goal.has_handler-requires
-has_handler-requires c =
+-- the thread has signals, and this is one
+named : (c : After-entry_of-entry) → (is_held c.entry_of-entry.result.tid.0 c.args.self.now.kernel.signals ≡ true) × (1 ≤ c.args.signal) × (c.args.signal ≤ LAST_SIGNAL)
+named c =
     let plan = c.requires.1 in
     let signal = planned_fault plan.stand c.args.hart.0 _ plan.plan in
-    let held = held_named plan.stand c.args.self.now c.args.hart kind.Exec plan.plan.thread c.index_mut-state.result.now c.entry_of-entry.result plan.place plan.plan.at c.index_mut-state.ensures.value c.entry_of-entry.ensures in
-    record { held = held; lowest = signal.0; highest = signal.1 }
+    (held_named plan.stand c.args.self.now c.args.hart kind.Exec plan.plan.thread c.index_mut-state.result.now c.entry_of-entry.result plan.place plan.plan.at c.index_mut-state.ensures.value c.entry_of-entry.ensures, signal.0, signal.1)
+
+pub has_handler-requires : goal.has_handler-requires
+has_handler-requires c = let is = named (goal.at.has_handler-requires c).After-entry_of-entry in record { held = is.0; lowest = is.1; highest = is.2 }
 
 pub post-requires : goal.post-requires
-post-requires c =
-    let plan = c.requires.1 in
-    let signal = planned_fault plan.stand c.args.hart.0 _ plan.plan in
-    let held = held_named plan.stand c.args.self.now c.args.hart kind.Exec plan.plan.thread c.index_mut-state.result.now c.entry_of-entry.result plan.place plan.plan.at c.index_mut-state.ensures.value c.entry_of-entry.ensures in
-    record { held = held; lowest = signal.0; highest = signal.1 }
+post-requires c = let is = named (goal.at.post-requires c).After-entry_of-entry in record { held = is.0; lowest = is.1; highest = is.2 }
 
 pub returns-then-has_handler : goal.returns-then-has_handler
 returns-then-has_handler c effect v place plan =

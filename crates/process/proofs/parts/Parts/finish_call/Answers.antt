@@ -18,18 +18,16 @@ ask-requires c = eighth c.requires.stand c.requires.before c.args.hart.0 c.requi
 
 pub overflow_add-state : goal.overflow_add-state
 overflow_add-state c =
-    let h = c.args.hart.0 in
     let x = c.index_mut-state.result.now in
-    let value : x ≡ get_or c.requires.before.harts.items h x =
-    c.index_mut-state.ensures.value ∙ ap (λ (xs : List HartState). get_or xs h x) c.requires.called.harts in
-    let few = ran_fits c.requires.stand c.requires.before h x c.requires.called.place value in
+    let value : x ≡ get_or c.requires.before.harts.items c.args.hart.0 x =
+    c.index_mut-state.ensures.value ∙ ap (λ (xs : List HartState). get_or xs c.args.hart.0 x) c.requires.called.harts in
+    let few = ran_fits c.requires.stand c.requires.before c.args.hart.0 x c.requires.called.place value in
     let same : c.end_call.new.state.ran ≡ x.ran = ap (λ (z : HartState). z.ran) c.end_call.ensures ∙ same_ran c.args.end c.args.saved x in
     omega (arith, few, same)
 
 pub returns : goal.returns
 returns c v m d called =
     let h = c.args.hart.0 in
-    let m1 = c.args.self.now in
     let x = c.index_mut-state.result.now in
     let here = here_at v h in
     let t = called.thread in
@@ -37,7 +35,7 @@ returns c v m d called =
     let made = called.made in
     let value : x ≡ get_or m.harts.items h x = c.index_mut-state.ensures.value ∙ ap (λ (xs : List HartState). get_or xs h x) called.harts in
     let y : HartState = record c.end_call.new.state { ran = c.end_call.new.state.ran + 1 } in
-    let same : c.ask.new.self.kernel ≡ m1.kernel = c.ask.ensures.kernel ∙ c.lose.ensures.kernel in
+    let same : c.ask.new.self.kernel ≡ c.args.self.now.kernel = c.ask.ensures.kernel ∙ c.lose.ensures.kernel in
     let m' : Parts = record c.ask.new.self { ended = c.end_after-self.result } in
     let barrier : HartState → HartState = asked_by h h d.barrier in
     uncounted_as v h asked.Exec (by_call here d) m m' (barrier y) place called.free called.done (record {
@@ -45,7 +43,7 @@ returns c v m d called =
       harts = call_beside here h d m.harts.items c.ask.new.self.harts.items (hart_at v.setting v.plain h (credit_of m.harts.items h)) y (place.tied.harts h place.lt)
           (λ k. c.ask.ensures.harts k ∙ ap (λ b. option_map (asked_by k h b) (slice_get c.lose.new.self.harts.items k)) made.barrier
           ∙ ap (option_map (asked_by k h d.barrier)) (c.lose.ensures.harts k
-          ∙ ap (λ ws. option_map (lost_unless (eqb k h) ws) (slice_get (set m1.harts.items h y) k)) called.written
+          ∙ ap (λ ws. option_map (lost_unless (eqb k h) ws) (slice_get (set c.args.self.now.harts.items h y) k)) called.written
           ∙ ap (λ (xs : List HartState). option_map (lost_unless (eqb k h) d.entered) (slice_get (set xs h y) k)) called.harts));
       pages = rw (c.ask.ensures.pages, c.lose.ensures.pages) made.pages;
       readable = rw (c.ask.ensures.pages, c.lose.ensures.pages) (λ n may. (c.keeps.ensures.writable n may).0);

@@ -21,11 +21,9 @@ returns-in_default c v place free =
 
 pub pointer_writes-cleared-requires : goal.pointer_writes-cleared-requires
 pointer_writes-cleared-requires c =
-    let v = c.requires.stand in
-    let area = c.area_of-area.result in
-    let is = there (goal.at.pointer_writes-cleared-requires c).After-area_of-area v c.requires.place c.requires.free in
-    (clearing c.args.self.now.pages area ((here_at v c.args.hart.0).file is.thread).pc c.in-Some.outcome
-    (comes_there v c.args.self.now c.args.hart c.args.choice c.requires.place area c.in-Some.outcome is)).fits
+    let is = there (goal.at.pointer_writes-cleared-requires c).After-area_of-area c.requires.stand c.requires.place c.requires.free in
+    (clearing c.args.self.now.pages c.area_of-area.result ((here_at c.requires.stand c.args.hart.0).file is.thread).pc c.in-Some.outcome
+    (comes_there c.requires.stand c.args.self.now c.args.hart c.args.choice c.requires.place c.area_of-area.result c.in-Some.outcome is)).fits
 
 pub returns-then-is_killed : goal.returns-then-is_killed
 returns-then-is_killed c v place free =

@@ -5,11 +5,9 @@ use Rattle.process.proofs.parts.Parts.is_inside.Goals as goal
 
 pub returns-in-Good : goal.returns-in-Good
 returns-in-Good c s p t tied lt at =
-    let h = c.args.hart.0 in
-    let here = here_in_plain s p h in
-    let x = c.index.result.now in
+    let here = here_in_plain s p c.args.hart.0 in
     let sequence = c.in-Good.sequence in
-    let own = hart_tied s p c.args.self.now h x tied lt c.index.ensures in
-    let pc : x.pc ≡ (here.file t).pc = ap (λ (y : HartState). y.pc) own ∙ ap (λ o. (file_on here o).pc) at in
+    let own = hart_tied s p c.args.self.now c.args.hart.0 c.index.result.now tied lt c.index.ensures in
+    let pc : c.index.result.now.pc ≡ (here.file t).pc = ap (λ (y : HartState). y.pc) own ∙ ap (λ o. (file_on here o).pc) at in
     let is : names.Good sequence ≡ named_here here t = sym c.in-Good.is ∙ c.named.ensures s p tied lt ∙ ap (λ o. option_map_or (named_here here) o names.Nothing) at in
     c.is_inside.ensures ∙ ap (is_inside sequence) pc ∙ ap (λ n. is_inside_named n (here.file t).pc) is

@@ -8,11 +8,9 @@ pub returns : goal.returns
 returns c s p tied lt =
     let h = c.args.hart.0 in
     let here = here_in_plain s p h in
-    let x = c.index-state.result.now in
-    let area = c.in_ok-area.area in
-    let own = hart_tied s p c.args.self.now h x tied lt c.index-state.ensures in
-    let has : area_on here ≡ Some area = sym (c.area.ensures s p tied lt) ∙ c.in_ok-area.was in
-    ap Some (c.looked_at.ensures ∙ ap (λ byte. looked_at byte area) (view_is s p c.args.self.now h _ x tied own))
+    let own = hart_tied s p c.args.self.now h c.index-state.result.now tied lt c.index-state.ensures in
+    let has : area_on here ≡ Some c.in_ok-area.area = sym (c.area.ensures s p tied lt) ∙ c.in_ok-area.was in
+    ap Some (c.looked_at.ensures ∙ ap (λ byte. looked_at byte c.in_ok-area.area) (view_is s p c.args.self.now h _ c.index-state.result.now tied own))
     ∙ ap (option_map (looked_at (view here))) (sym has)
 
 pub returns-in_err-area : goal.returns-in_err-area

@@ -1,9 +1,8 @@
 use Rattle.std.proofs.Common.{rules, sym, subst, ◌∙◌}
-use Rattle.std.specs.Prelude.{◌≡◌, IfSome, Ok}
 use Rattle.std.proofs.lemmas.Result.{IfOk-at_ok}
 use Rattle.process.proofs.Common.{IsPlace, IsUncounted, Parts, done_of, here_at}
 use Rattle.mach_types.specs.declared.events.Choice.TheVariants as asked
-use Rattle.process.specs.Refinement.{HasCode, answer_to}
+use Rattle.process.specs.Refinement.{HasCode}
 use Rattle.process.proofs.parts.Parts.make_exec.Goals as goal
 
 pub exec_any-requires : goal.exec_any-requires
@@ -13,23 +12,8 @@ pub count-requires : goal.count-requires
 count-requires c =
     let v = c.requires.stand in
     let h = c.args.hart.0 in
-    (subst (λ r. IfSome r (λ e. IsUncounted v h (done_of asked.Exec (here_at v h)) c.args.self.now c.exec_plain.new.self)) c.in-Some.is (c.exec_plain.ensures.made v c.requires.place c.requires.alone)).room
-
-pub returns-in-Some-clause-answer : goal.returns-in-Some-clause-answer
-returns-in-Some-clause-answer c v place alone =
-    subst (λ r. IfSome r (λ e. Ok e ≡ answer_to v c.args.hart.0 asked.Exec)) c.in-Some.is (c.exec_plain.ensures.answer v place alone)
-
-pub returns-in-Some-clause-after : goal.returns-in-Some-clause-after
-returns-in-Some-clause-after c v place alone =
-    let h = c.args.hart.0 in
-    (subst (λ r. IfSome r (λ e. IsUncounted v h (done_of asked.Exec (here_at v h)) c.args.self.now c.exec_plain.new.self)) c.in-Some.is (c.exec_plain.ensures.made v place alone)).after c.count.new.self (search rules)
-
-pub count-requires-in-Ok : goal.count-requires-in-Ok
-count-requires-in-Ok c =
-    let v = c.requires.stand in
-    let h = c.args.hart.0 in
     let place = subst (λ (m : Parts). IsPlace v m h) (sym c.in-None.ensures.none) c.requires.place in
-    (IfOk-at_ok (λ e. IsUncounted v h (done_of asked.Exec (here_at v h)) c.exec_plain.new.self c.exec_any.new.self) c.in-Ok.is (c.exec_any.ensures.made v place c.requires.alone)).room
+    (IfOk-at_ok (λ e. IsUncounted v h (done_of asked.Exec (here_at v h)) c.make_plain.new.self c.exec_any.new.self) c.in-Ok.is (c.exec_any.ensures.made v place c.requires.alone)).room
 
 pub returns-in-Ok-clause-answer : goal.returns-in-Ok-clause-answer
 returns-in-Ok-clause-answer c v place alone =
@@ -40,8 +24,8 @@ returns-in-Ok-clause-after c v place alone =
     let h = c.args.hart.0 in
     let there = subst (λ (m : Parts). IsPlace v m h) (sym c.in-None.ensures.none) place in
     let made = subst (λ (m : Parts). IsUncounted v h (done_of asked.Exec (here_at v h)) m c.exec_any.new.self) c.in-None.ensures.none
-    (IfOk-at_ok (λ e. IsUncounted v h (done_of asked.Exec (here_at v h)) c.exec_plain.new.self c.exec_any.new.self) c.in-Ok.is (c.exec_any.ensures.made v there alone)) in
-    made.after c.count-in-Ok.new.self (search rules)
+    (IfOk-at_ok (λ e. IsUncounted v h (done_of asked.Exec (here_at v h)) c.make_plain.new.self c.exec_any.new.self) c.in-Ok.is (c.exec_any.ensures.made v there alone)) in
+    made.after c.count.new.self (search rules)
 
 pub returns-in-Err-clause-answer : goal.returns-in-Err-clause-answer
 returns-in-Err-clause-answer c v place alone =

@@ -5,9 +5,8 @@ use Rattle.process.proofs.parts.Parts.named.Goals as goal
 
 pub returns : goal.returns
 returns c s p tied lt =
-    let h = c.args.hart.0 in
-    let here = here_in_plain s p h in
+    let here = here_in_plain s p c.args.hart.0 in
     let x = c.index-state.result.now in
-    let own = hart_tied s p c.args.self.now h x tied lt c.index-state.ensures in
+    let own = hart_tied s p c.args.self.now c.args.hart.0 x tied lt c.index-state.ensures in
     let has = sym (c.area.ensures s p tied lt) ∙ c.in-Some.is in
-    c.named.ensures ∙ named_by here _ (file_of x) c.in-Some.area (runs here) (view_is s p c.args.self.now h _ x tied own) (ap file_of own) has
+    c.named.ensures ∙ named_by here _ (file_of x) c.in-Some.area (runs here) (view_is s p c.args.self.now c.args.hart.0 _ x tied own) (ap file_of own) has

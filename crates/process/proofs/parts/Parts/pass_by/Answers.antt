@@ -16,11 +16,9 @@ returns-then-took c s p d tied took barrier =
 
 pub returns-else-took : goal.returns-else-took
 returns-else-took c s p d tied took barrier =
-    let h = c.args.hart.0 in
-    let m = c.args.self.now in
     let begun = barrier_of c.args.end in
-    tied_passed s p h d false begun c.args.writes.now m c.ask.new.self tied (took ∙ c.if-took.false) barrier
-    (passed_untaken h begun c.args.writes.now m.harts.items c.lose_all.new.self.harts.items c.ask.new.self.harts.items
+    tied_passed s p c.args.hart.0 d false begun c.args.writes.now c.args.self.now c.ask.new.self tied (took ∙ c.if-took.false) barrier
+    (passed_untaken c.args.hart.0 begun c.args.writes.now c.args.self.now.harts.items c.lose_all.new.self.harts.items c.ask.new.self.harts.items
     c.lose_all.ensures.harts c.ask.ensures.harts)
     (c.ask.ensures.pages ∙ c.lose_all.ensures.pages)
     (c.ask.ensures.kernel ∙ c.lose_all.ensures.kernel)

@@ -39,8 +39,7 @@ returns-clause-pages c h same =
 pub returns-clause-harts : goal.returns-clause-harts
 returns-clause-harts c h k same =
     let m = c.args.self.now.pages in
-    let xs = c.args.self.now.harts.items in
     c.lose.ensures.harts k
-    ∙ ap (λ (ws : List Write). option_map (lost_unless (eqb k c.args.hart.0) ws) (slice_get xs k))
+    ∙ ap (λ (ws : List Write). option_map (lost_unless (eqb k c.args.hart.0) ws) (slice_get c.args.self.now.harts.items k))
     (c.words_written.ensures ∙ ap (words_written c.in-Some.area) (λ i. words_on (c.from-cpu.ensures i) (c.from-cid.ensures i))
     ∙ told_all h m c.args.area c.in-Some.area (words_on c.args.hart.0 c.args.id) c.in-Some.is same (sym c.set_cpu.ensures.answer ∙ c.if-not-set_cpu.false))

@@ -22,10 +22,9 @@ add_frame-requires-clause-held c =
 pub unreachable-requires : goal.unreachable-requires
 unreachable-requires c =
     let v = c.requires.allowed.stand in
-    let place = c.requires.allowed.place in
     let is = receiving (here_at v c.args.hart.0) c.requires.allowed.free in
-    some_signal v c.args.self.now c.args.hart place c.requires.allowed.free is c.deliverable.result
-    (c.deliverable.ensures v.setting v.plain place.tied place.lt) c.in_default.is
+    some_signal v c.args.self.now c.args.hart c.requires.allowed.place c.requires.allowed.free is c.deliverable.result
+    (c.deliverable.ensures v.setting v.plain c.requires.allowed.place.tied c.requires.allowed.place.lt) c.in_default.is
 
 pub returns : goal.returns
 returns c v place free comes lives cleared =

@@ -21,8 +21,7 @@ returns-then-span-length-clause-none c = λ h same.
     let more = total_more h c.args.self.at c.args.self.count c.loop-index.index c.loop-index-test.true in
     let rest = c.loop-index.invariant.rest h same in
     let len = c.get-span.ensures.len h same in
-    let small = c.loop-index.invariant.small in
-    omega (arith, more, rest, len, small)
+    omega (arith, more, rest, len, c.loop-index.invariant.small)
 
 pub loop-index-preserved : goal.loop-index-preserved
 loop-index-preserved c = record {
