@@ -1,5 +1,5 @@
 -- Lines whose fields come in parts.
-use Rattle.std.proofs.Common.{◌≡◌, ℕ, List, [], ◌∷◌, ◌++◌, ap, sym, ◌∙◌, append_assoc}
+use Rattle.std.proofs.Common.{◌≡◌, ℕ, List, ◌∷◌, ◌++◌, ap, sym, ◌∙◌, append_assoc}
 use Rattle.std.proofs.lemmas.Grind.{flat_map-append}
 use Rattle.place_text.specs.Fields.{behind}
 use Rattle.step_log.specs.Text.{space}
@@ -20,12 +20,3 @@ three_parts start first end one two three four five xs ys zs p q r s t =
     ∙ ap (λ (l : List ℕ). l ++ end) (s ∙ ap (λ (l : List ℕ). l ++ behind zs) (r ∙ ap (λ (l : List ℕ). l ++ behind ys) (q ∙ ap (λ (l : List ℕ). l ++ behind xs) p)))
     ∙ regroup start first (behind xs) (behind ys) (behind zs) end
     ∙ ap (λ (l : List ℕ). start ++ ((first ++ l) ++ end)) (sym (parts xs ys zs))
-
--- an entry's line and number, and the line of a register below them, put together from the end
-pub told_together : (entry word number fields facts : List ℕ) (newline : ℕ) → facts ≡ fields ++ newline ∷ []
-    → ((entry ++ word) ++ number) ++ (newline ∷ (fields ++ newline ∷ [])) ≡ (entry ++ ((word ++ number) ++ newline ∷ [])) ++ facts
-told_together entry word number fields facts newline is =
-    regroup_told entry word number (fields ++ newline ∷ []) newline ∙ ap (λ (l : List ℕ). (entry ++ ((word ++ number) ++ newline ∷ [])) ++ l) (sym is)
-  where
-    regroup_told : (e w n f : List ℕ) (x : ℕ) → ((e ++ w) ++ n) ++ (x ∷ f) ≡ (e ++ ((w ++ n) ++ x ∷ [])) ++ f
-    regroup_told e w n f x = simp append_assoc
