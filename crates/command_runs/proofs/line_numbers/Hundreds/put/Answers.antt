@@ -1,0 +1,18 @@
+use Rattle.std.proofs.Common.{ℕ, List, [], ◌∷◌, ◌++◌, ◌+◌, ◌/◌, ◌%◌, ap, sym, ◌∙◌, append_assoc}
+use Rattle.std.specs.Fmt.{decimal}
+use Rattle.step_log.specs.Text.{space}
+use Rattle.command_runs.proofs.Hundreds.{two_more}
+use Rattle.command_runs.proofs.line_numbers.Hundreds.put.Goals as goal
+
+pub returns : goal.returns
+returns c =
+    let n = c.args.number in
+    let line = c.args.line.now in
+    let kept = c.turn_to.new.self.kept ∙ ap decimal c.turn_to.ensures in
+    let two = two_more n c.if-number-lt100.false c.ranges.number.fits in
+    c.put-3.ensures.text
+    ∙ ap (λ (l : List ℕ). space ∷ l)
+    (c.put-2.ensures.text
+    ∙ (λ i. kept i ++ c.put.ensures.text i)
+    ∙ sym (append_assoc (decimal (n / 100)) ((48 + n % 100 / 10) ∷ (48 + n % 100 % 10) ∷ []) line)
+    ∙ ap (λ (ds : List ℕ). ds ++ line) (sym two))
