@@ -43,9 +43,10 @@ fn append(facts: &mut Vec<Fact>, fact: Fact) -> Result<(), AllocError>
 {
     if facts.len() < facts.capacity() {
         facts.push_reserved(fact);
-        return Ok(());
+    } else {
+        facts.push(fact)?;
     }
-    facts.push(fact)
+    Ok(())
 }
 
 /// Appends that register `number` of a thread has this value, where it had another one before.
