@@ -14,8 +14,8 @@ plain_event-requires c = (due c.args.machine.now c.args.entry c.requires.run c.r
 pub tell_register-requires-clause-hart : goal.tell_register-requires-clause-hart
 tell_register-requires-clause-hart c = (due c.args.machine.now c.args.entry c.requires.run c.requires.decided).lt
 
-pub returns-in_ok-tell_register-clause-facts : goal.returns-in_ok-tell_register-clause-facts
-returns-in_ok-tell_register-clause-facts c =
+pub returns-in-Instruction-Next-clause-facts : goal.returns-in-Instruction-Next-clause-facts
+returns-in-Instruction-Next-clause-facts c =
     let m = c.args.machine.now in
     let x = c.in-Instruction-Next in
     let effect_is : x.field-0 ≡ effect.Next x.rd x.field-0-1 x.field-0-2 = rw x.is at x.field-0-is in
@@ -26,8 +26,8 @@ returns-in_ok-tell_register-clause-facts c =
     ∙ local_facts m c.tell_register.new.machine c.args.entry c.requires.run c.requires.decided c.tell_register.ensures.machine
     x.rd x.field-0-1 x.field-0-2 (due_is ∙ ap Some (x.is ∙ ap Instruction effect_is)) c.tell_register.ensures.run))
 
-pub returns-in_ok-tell_register-clause-lines : goal.returns-in_ok-tell_register-clause-lines
-returns-in_ok-tell_register-clause-lines c =
+pub returns-in-Instruction-Next-clause-lines : goal.returns-in-Instruction-Next-clause-lines
+returns-in-Instruction-Next-clause-lines c =
     let x = c.in-Instruction-Next in
     let effect_is : x.field-0 ≡ effect.Next x.rd x.field-0-1 x.field-0-2 = rw x.is at x.field-0-is in
     local_lines c.args.machine.now c.tell_register.new.machine c.args.entry c.requires.run c.requires.decided c.tell_register.ensures.machine
