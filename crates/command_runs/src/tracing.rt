@@ -31,13 +31,13 @@ ghost use Rattle.outcomes.specs.Traces.{ends_line, event_text, events_text, open
 use crate::line_numbers::Hundreds;
 use crate::scripts::is_as_said;
 use crate::sequences::{push_ends, push_turn};
-use block_view::{Ledger, Turn, seen_after, seen_ahead};
+use block_view::{Ahead, Ledger, Turn, ahead_of, seen_after, seen_ahead};
 use command_words::LineSpan;
 use elf_load::Image;
-use event_facts::{Fact, Lines, trace};
+use event_facts::{Fact, Lines, trace, trace_freely};
 use fact_text::{push_facts, put_changed};
 use log_lines::push_lines;
-use mach_types::{End, Entry, Kind, Limits, ThreadState, Tid};
+use mach_types::{Choice, End, Entry, Kind, Limits, ThreadState, Tid};
 use machine_core::Machine;
 use outcomes::{LineFault, Reason};
 use place_text::fields::{begin_line, push_named_value};
@@ -233,6 +233,23 @@ fn push_within(
     Ok(())
 }
 
+/// Appends what is told of an entry that a machine has made last, where its line is told, and follows it.
+fn push_made(
+    text: &mut Vec<u8>,
+    span: &LineSpan,
+    machine: &Machine,
+    followed: &mut Followed,
+    entry: Entry,
+    ahead: Ahead,
+    facts: &[Fact],
+) -> Result<(), AllocError> {
+    let passed = seen_after(machine, entry, ahead);
+    let turn = followed.ledger.follow(&passed)?;
+    let number = machine.log().len();
+    push_within(text, span, entry, &mut followed.numbers, number, facts, turn)?;
+    Ok(())
+}
+
 /// Makes the next entry of a log again, and appends what is told of it, where its line is told.
 fn push_next(
     alloc: Global,
@@ -258,18 +275,7 @@ fn push_next(
     facts.clear();
     let ahead = seen_ahead(machine, entry);
     trace(alloc, facts, machine, &mut followed.lines, entry)?;
-    let passed = seen_after(machine, entry, ahead);
-    let turn = followed.ledger.follow(&passed)?;
-    let number = machine.log().len();
-    push_within(
-        text,
-        span,
-        entry,
-        &mut followed.numbers,
-        number,
-        facts,
-        turn,
-    )?;
+    push_made(text, span, machine, followed, entry, ahead, facts)?;
     Ok(())
 }
 
@@ -461,6 +467,52 @@ pub fn play_traced(
     Ok(TracedRun { machine, text })
 }
 
+/// What became of a line whose event may be an instruction that sets a register and the pc alone.
+enum Freed {
+    /// It is one, and was told.
+    Told,
+    /// It is one, but not as the line says.
+    Differs(Entry),
+    /// It isn't one.
+    Other,
+}
+
+/// Whether the event of a line is an instruction of a hart of the machine, and the run goes on.
+#[inline(always)]
+fn may_go(machine: &Machine, line: &Line) -> bool {
+    matches!(line.choice, Choice::Exec)
+        && line.hart.0 < machine.harts()
+        && matches!(machine.end(), End::Unended)
+}
+
+/// Plays a line, and appends what is told of its event, where that is an instruction that sets a register and the pc alone.
+#[inline(always)]
+fn tell_freely(
+    text: &mut Vec<u8>,
+    span: &LineSpan,
+    machine: &mut Machine,
+    followed: &mut Followed,
+    line: &Line,
+) -> Result<Freed, AllocError> {
+    if !may_go(machine, line) {
+        return Ok(Freed::Other);
+    }
+    let ahead = ahead_of(machine, line.hart, Kind::Exec);
+    let Some(made) = trace_freely(machine, line.hart) else {
+        return Ok(Freed::Other);
+    };
+    if !is_as_said(line.check, made.entry) {
+        return Ok(Freed::Differs(made.entry));
+    }
+    let fact = [Fact::Register {
+        number: made.register,
+        value: made.value,
+    }];
+    let told = usize::from(made.before != made.value);
+    push_made(text, span, machine, followed, made.entry, ahead, &fact[..told])?;
+    Ok(Freed::Told)
+}
+
 /// Plays the next line of a script, and appends what is told of its event, where its line is told; false where
 /// none is left.
 fn tell_next(
@@ -487,16 +539,28 @@ fn tell_next(
     let number = machine.log().len() as u64 + 1;
     match reader.next_line() {
         Ok(None) => Ok(false),
-        Ok(Some(line)) => match due_entry(machine, &line) {
-            Ok(entry) => {
-                push_next(alloc, text, span, machine, followed, facts, entry)?;
-                Ok(true)
+        Ok(Some(line)) => {
+            match tell_freely(text, span, machine, followed, &line)? {
+                Freed::Told => return Ok(true),
+                Freed::Differs(entry) => {
+                    return Err(Reason::Script {
+                        line: number,
+                        fault: LineFault::Differs(entry),
+                    });
+                }
+                Freed::Other => {}
             }
-            Err(fault) => Err(Reason::Script {
-                line: number,
-                fault,
-            }),
-        },
+            match due_entry(machine, &line) {
+                Ok(entry) => {
+                    push_next(alloc, text, span, machine, followed, facts, entry)?;
+                    Ok(true)
+                }
+                Err(fault) => Err(Reason::Script {
+                    line: number,
+                    fault,
+                }),
+            }
+        }
         Err(_) => Err(Reason::Script {
             line: number,
             fault: LineFault::Malformed,

@@ -10,9 +10,9 @@ ghost use Rattle.event_facts.specs.Trace.{trace_of};
 use crate::facts::Fact;
 use crate::kernel_events::tell_kernel;
 use crate::lines::Lines;
-use crate::telling::{PlainEvent, plain_event, tell, tell_register};
+use crate::telling::{PlainEvent, plain_event, register_on, tell, tell_register};
 use crate::theorems::plain_events_are_told_by_their_facts;
-use mach_types::Entry;
+use mach_types::{Entry, Hart};
 use machine_core::Machine;
 use rv_inst::Effect;
 use std::alloc::{AllocError, Global};
@@ -50,4 +50,35 @@ pub fn trace(
     }
     tell(facts, machine, lines, entry, &event)?;
     Ok(())
+}
+
+/// An instruction that set this register and the pc alone.
+#[derive(Clone, Copy, Drop)]
+pub struct Freely {
+    /// Its entry.
+    pub entry: Entry,
+    /// The register.
+    pub register: u8,
+    /// What stood in it before.
+    pub before: u64,
+    /// What stands in it then.
+    pub value: u64,
+}
+
+/// Makes the next instruction of a hart, where that sets a register and the pc alone ([`Machine::goes_freely`]). None
+/// where it doesn't; then nothing changes.
+#[inline(always)]
+pub fn trace_freely(machine: &mut Machine, hart: Hart) -> Option<Freely> {
+    let Some(Effect::Next { rd, .. }) = machine.next_effect(hart) else {
+        return None;
+    };
+    let before = register_on(machine, hart, rd);
+    let entry = machine.step_freely(hart)?;
+    let value = register_on(machine, hart, rd);
+    Some(Freely {
+        entry,
+        register: rd,
+        before,
+        value,
+    })
 }
