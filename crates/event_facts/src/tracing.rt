@@ -1,8 +1,10 @@
 //! An event is made, and all that came of it is told.
 
-ghost use Rattle.std.specs.Prelude.{◌≡◌, ◌++◌, ◌∷◌, [], OnOk};
+ghost use Rattle.std.specs.Prelude.{◌≡◌, ◌<◌, ◌++◌, ◌∷◌, [], false, IfNone, IfOk, IfSome, OnOk};
 ghost use Rattle.mach_types.specs.Limits.{InRange};
+ghost use Rattle.block_model.specs.Choosing.{has_ended};
 ghost use Rattle.block_model.specs.Run.{IsBlockRun};
+ghost use Rattle.event_facts.specs.Freely.{IsMadeFreely};
 ghost use Rattle.event_facts.specs.Telling.{IsDecided, past_of};
 ghost use Rattle.event_facts.specs.Tied.{AreLinesOf};
 ghost use Rattle.event_facts.specs.Trace.{trace_of};
@@ -10,6 +12,7 @@ ghost use Rattle.event_facts.specs.Trace.{trace_of};
 use crate::facts::Fact;
 use crate::kernel_events::tell_kernel;
 use crate::lines::Lines;
+use crate::registers::push_if_other;
 use crate::telling::{PlainEvent, plain_event, register_on, tell, tell_register};
 use crate::theorems::plain_events_are_told_by_their_facts;
 use mach_types::{Entry, Hart};
@@ -52,33 +55,32 @@ pub fn trace(
     Ok(())
 }
 
-/// An instruction that set this register and the pc alone.
-#[derive(Clone, Copy, Drop)]
-pub struct Freely {
-    /// Its entry.
-    pub entry: Entry,
-    /// The register.
-    pub register: u8,
-    /// What stood in it before.
-    pub before: u64,
-    /// What stands in it then.
-    pub value: u64,
-}
-
-/// Makes the next instruction of a hart, where that sets a register and the pc alone ([`Machine::goes_freely`]). None
-/// where it doesn't; then nothing changes.
+/// Makes the next instruction of a hart, where that sets a register and the pc alone ([`Machine::goes_freely`]), and
+/// appends all that is told of it: its entry. None where it doesn't; then nothing is made. The run must go on.
+///
+/// It errs only for want of memory.
 #[inline(always)]
-pub fn trace_freely(machine: &mut Machine, hart: Hart) -> Option<Freely> {
+pub fn trace_freely(
+    facts: &mut Vec<Fact>,
+    machine: &mut Machine,
+    hart: Hart,
+) -> Result<Option<Entry>, AllocError>
+    requires run { IsBlockRun machine.old.setting machine.old.log }
+    requires goes { has_ended machine.old.setting (past_of machine.old) ≡ false }
+    requires hart { hart.0 < machine.old.setting.limits.harts }
+    ensures told { IfOk result (λ made. IfSome made
+        (IsMadeFreely machine.old machine.new hart.0 facts.old.items facts.new.items)) }
+    ensures none { IfOk result (λ made. IfNone made (machine.new ≡ machine.old)) }
+{
+    plain_events_are_told_by_their_facts();
     let Some(Effect::Next { rd, .. }) = machine.next_effect(hart) else {
-        return None;
+        return Ok(None);
     };
     let before = register_on(machine, hart, rd);
-    let entry = machine.step_freely(hart)?;
+    let Some(entry) = machine.step_freely(hart) else {
+        return Ok(None);
+    };
     let value = register_on(machine, hart, rd);
-    Some(Freely {
-        entry,
-        register: rd,
-        before,
-        value,
-    })
+    push_if_other(facts, rd, before, value)?;
+    Ok(Some(entry))
 }
