@@ -36,7 +36,21 @@ pub(crate) fn register_set(effect: &Effect) -> u8
     }
 }
 
+/// Appends a fact. Mostly there is room for it.
+#[inline(always)]
+fn append(facts: &mut Vec<Fact>, fact: Fact) -> Result<(), AllocError>
+    ensures { OnOk result (facts.new.items ≡ facts.old.items ++ fact ∷ []) }
+{
+    if facts.len() < facts.capacity() {
+        facts.push_reserved(fact);
+    } else {
+        facts.push(fact)?;
+    }
+    Ok(())
+}
+
 /// Appends that register `number` of a thread has this value, where it had another one before.
+#[inline(always)]
 pub(crate) fn push_if_other(
     facts: &mut Vec<Fact>,
     number: u8,
@@ -47,7 +61,7 @@ pub(crate) fn push_if_other(
         ≡ facts.old.items ++ (if before == value then [] else Fact.Register number value ∷ [])) }
 {
     if before != value {
-        facts.push(Fact::Register { number, value })?;
+        append(facts, Fact::Register { number, value })?;
     }
     Ok(())
 }
