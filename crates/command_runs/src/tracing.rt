@@ -28,7 +28,6 @@ ghost use Rattle.outcomes.specs.Runs.{IsWholePlay};
 ghost use Rattle.outcomes.specs.Traces as spec;
 ghost use Rattle.outcomes.specs.Traces.{ends_line, event_text, events_text, open_text, stuck_text, trace_tail, waiting_line, waiting_text};
 
-use crate::line_numbers::Hundreds;
 use crate::scripts::is_as_said;
 use crate::sequences::{push_ends, push_turn};
 use block_view::{Ledger, Turn, seen_after, seen_ahead};
@@ -59,13 +58,11 @@ fn is_within(span: &LineSpan, number: usize) -> bool
     span.from as usize <= number && ends
 }
 
-/// What is followed of a log: which of its lines did what to memory, its restartable sequences, and the digits of its
-/// lines' numbers.
+/// What is followed of a log: which of its lines did what to memory, and its restartable sequences.
 #[derive(Drop)]
 struct Followed {
     lines: Lines,
     ledger: Ledger,
-    numbers: Hundreds,
 }
 
 impl Followed {
@@ -76,11 +73,7 @@ impl Followed {
     {
         let lines = Lines::new(alloc, harts)?;
         let ledger = Ledger::new(alloc, harts)?;
-        Ok(Followed {
-            lines,
-            ledger,
-            numbers: Hundreds::of(0),
-        })
+        Ok(Followed { lines, ledger })
     }
 }
 
@@ -95,32 +88,27 @@ fn is_short(entry: Entry) -> bool
 
 /// Puts the line of such an entry, and that of its number but for the newline, before the end of a line or of several.
 #[inline(always)]
-fn put_head(line: &mut LineEnd, entry: Entry, numbers: &mut Hundreds, number: usize)
+fn put_head(line: &mut LineEnd, entry: Entry, number: usize)
     requires room { length line.old ≤ 60 }
     requires hart { entry.hart.0 < 8 }
     requires exec { entry.kind ≡ Kind.Exec }
     requires digit { entry.tid.0 < 10 }
     ensures { line.new ≡ entry_text entry ++ codes "  line" ++ space ∷ decimal number ++ line.old }
 {
-    numbers.put(line, number as u64);
+    line.put_number(number as u64);
     line.put(b"  line");
     line.put(&exec_line(entry.hart, entry.tid, entry.pc));
 }
 
 /// Appends the line of an entry, and the number of that.
-fn push_head(
-    text: &mut Vec<u8>,
-    entry: Entry,
-    numbers: &mut Hundreds,
-    number: usize,
-) -> Result<(), AllocError>
+fn push_head(text: &mut Vec<u8>, entry: Entry, number: usize) -> Result<(), AllocError>
     requires { entry.hart.0 < 8 }
     ensures { OnOk result (text.new.items ≡ text.old.items ++ (entry_text entry
         ++ number_line (codes "  line") number)) }
 {
     if is_short(entry) {
         let mut line = LineEnd::newline();
-        put_head(&mut line, entry, numbers, number);
+        put_head(&mut line, entry, number);
         return line.append_to(text);
     }
     push_lines(text, &[entry])?;
@@ -154,7 +142,6 @@ fn changed_alone(facts: &[Fact]) -> Option<Changed>
 fn push_short(
     text: &mut Vec<u8>,
     entry: Entry,
-    numbers: &mut Hundreds,
     number: usize,
     changed: Changed,
 ) -> Result<(), AllocError>
@@ -167,7 +154,7 @@ fn push_short(
     let mut line = LineEnd::newline();
     put_changed(&mut line, changed.number, changed.value);
     line.put(b"\n");
-    put_head(&mut line, entry, numbers, number);
+    put_head(&mut line, entry, number);
     line.append_to(text)
 }
 
@@ -175,7 +162,6 @@ fn push_short(
 fn push_told(
     text: &mut Vec<u8>,
     entry: Entry,
-    numbers: &mut Hundreds,
     number: usize,
     facts: &[Fact],
 ) -> Result<(), AllocError>
@@ -185,10 +171,10 @@ fn push_told(
 {
     if is_short(entry) {
         if let Some(changed) = changed_alone(facts) {
-            return push_short(text, entry, numbers, number, changed);
+            return push_short(text, entry, number, changed);
         }
     }
-    push_head(text, entry, numbers, number)?;
+    push_head(text, entry, number)?;
     push_facts(text, facts)
 }
 
@@ -197,7 +183,6 @@ fn push_told(
 fn push_event(
     text: &mut Vec<u8>,
     entry: Entry,
-    numbers: &mut Hundreds,
     number: usize,
     facts: &[Fact],
     turn: Option<Turn>,
@@ -206,7 +191,7 @@ fn push_event(
     ensures { OnOk result (text.new.items ≡ text.old.items ++ (entry_text entry
         ++ number_line (codes "  line") number ++ facts_text facts.now ++ turn_text turn)) }
 {
-    push_told(text, entry, numbers, number, facts)?;
+    push_told(text, entry, number, facts)?;
     push_turn(text, turn)?;
     Ok(())
 }
@@ -216,7 +201,6 @@ fn push_within(
     text: &mut Vec<u8>,
     span: &LineSpan,
     entry: Entry,
-    numbers: &mut Hundreds,
     number: usize,
     facts: &[Fact],
     turn: Option<Turn>,
@@ -229,7 +213,7 @@ fn push_within(
     if !is_within(span, number) {
         return Ok(());
     }
-    push_event(text, entry, numbers, number, facts, turn)?;
+    push_event(text, entry, number, facts, turn)?;
     Ok(())
 }
 
@@ -260,16 +244,7 @@ fn push_next(
     trace(alloc, facts, machine, &mut followed.lines, entry)?;
     let passed = seen_after(machine, entry, ahead);
     let turn = followed.ledger.follow(&passed)?;
-    let number = machine.log().len();
-    push_within(
-        text,
-        span,
-        entry,
-        &mut followed.numbers,
-        number,
-        facts,
-        turn,
-    )?;
+    push_within(text, span, entry, machine.log().len(), facts, turn)?;
     Ok(())
 }
 
