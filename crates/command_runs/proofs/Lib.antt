@@ -1,5 +1,4 @@
 mod Chosen
-mod Hundreds
 mod LineParts
 mod NextLines
 mod OutputTexts

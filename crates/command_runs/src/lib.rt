@@ -4,7 +4,6 @@
 mod acts;
 mod gather;
 mod inspecting;
-mod line_numbers;
 mod output;
 mod pairs;
 mod rounds;

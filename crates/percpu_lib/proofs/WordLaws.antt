@@ -67,15 +67,15 @@ module _ (may : ℕ → Bool) where
   -- each plain one
   pub straight_of : (i : Inst) → IsPlain may i → IsStraight may i
   unfolding meaning
-  straight_of (inst.Lw rd rs imm) is = writes rd is (λ f pc. refl) (λ seen f pc r. (_, (refl, refl)))
-  straight_of (inst.Ld rd rs imm) is = writes rd is (λ f pc. refl) (λ seen f pc r. (_, (refl, refl)))
-  straight_of (inst.Lui rd imm) is = writes rd is (λ f pc. refl) (λ seen f pc r. (_, (refl, refl)))
-  straight_of (inst.Addi rd rs imm) is = writes rd is (λ f pc. refl) (λ seen f pc r. (_, (refl, refl)))
-  straight_of (inst.Slli rd rs shamt) is = writes rd is (λ f pc. refl) (λ seen f pc r. (_, (refl, refl)))
-  straight_of (inst.Add rd rs1 rs2) is = writes rd is (λ f pc. refl) (λ seen f pc r. (_, (refl, refl)))
-  straight_of (inst.Sub rd rs1 rs2) is = writes rd is (λ f pc. refl) (λ seen f pc r. (_, (refl, refl)))
-  straight_of (inst.Sltiu rd rs imm) is = writes rd is (λ f pc. refl) (λ seen f pc r. (_, (refl, refl)))
-  straight_of (inst.Andi rd rs imm) is = writes rd is (λ f pc. refl) (λ seen f pc r. (_, (refl, refl)))
+  straight_of (inst.Lw rd rs imm) is = writes rd is (λ f pc. refl) (λ seen f pc r. (_, refl, refl))
+  straight_of (inst.Ld rd rs imm) is = writes rd is (λ f pc. refl) (λ seen f pc r. (_, refl, refl))
+  straight_of (inst.Lui rd imm) is = writes rd is (λ f pc. refl) (λ seen f pc r. (_, refl, refl))
+  straight_of (inst.Addi rd rs imm) is = writes rd is (λ f pc. refl) (λ seen f pc r. (_, refl, refl))
+  straight_of (inst.Slli rd rs shamt) is = writes rd is (λ f pc. refl) (λ seen f pc r. (_, refl, refl))
+  straight_of (inst.Add rd rs1 rs2) is = writes rd is (λ f pc. refl) (λ seen f pc r. (_, refl, refl))
+  straight_of (inst.Sub rd rs1 rs2) is = writes rd is (λ f pc. refl) (λ seen f pc r. (_, refl, refl))
+  straight_of (inst.Sltiu rd rs imm) is = writes rd is (λ f pc. refl) (λ seen f pc r. (_, refl, refl))
+  straight_of (inst.Andi rd rs imm) is = writes rd is (λ f pc. refl) (λ seen f pc r. (_, refl, refl))
   straight_of (inst.Sd rs1 rs2 imm) is = record {
     tame = record { plain = λ f pc. refl; keeps = λ seen f pc r x other. refl };
     on = λ seen f pc r. refl;

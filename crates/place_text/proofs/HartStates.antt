@@ -1,12 +1,11 @@
 -- The state that a machine keeps of a hart has all that the lines of the hart say.
-use Rattle.std.proofs.Common.{◌≡◌, ℕ, List, ◌++◌, Option, Some, None, refl, sym, ap, ◌∙◌}
+use Rattle.std.proofs.Common.{◌≡◌, ℕ, List, ◌++◌, Option, Some, None, refl, sym, ap, ◌∙◌, append_assoc}
 use Rattle.std.specs.Option.{option_and_then, option_map, option_map_or}
 use Rattle.hart_state.specs.declared.hart.HartState.{HartState}
 use Rattle.mach_types.specs.declared.events.Tid.{Tid}
-use Rattle.mach_types.specs.declared.sequences.Area.{Area}
-use Rattle.mach_types.specs.declared.sequences.Named.{Named}
 use Rattle.mach_types.specs.declared.sequences.Named.TheVariants as names
 use Rattle.block_model.specs.Here.{Here, runs, waiting_here}
+use Rattle.block_model.specs.Ids.{id_of}
 use Rattle.block_model.specs.Sequences.{area_here, named_here}
 use Rattle.block_model.specs.Sights.{thread}
 use Rattle.process.specs.Harts.{file_on, hart_in, id_on}
@@ -15,32 +14,30 @@ use Rattle.place_text.specs.Harts.{barrier_line, hart_text, idle_line, idle_text
 use Rattle.place_text.specs.Registers.{register_lines}
 use Rattle.place_text.specs.Sequences.{area_line, names_line}
 
--- the lines of a state in which thread t runs, with this area, which names this
-abbrev pub running_lines : Here → HartState → ℕ → Option Area → Named → List ℕ
-running_lines here x t area named =
-    thread_line here.hart t x.pc x.cid
-    ++ register_lines here.hart x.file
-    ++ store_lines here.hart x.buffer
+-- the lines of a state in which thread t runs, with what its area names
+abbrev pub running_lines : Here → HartState → ℕ → List ℕ
+running_lines here x t =
+    (thread_line here.hart t x.pc x.cid ++ register_lines here.hart x.file ++ store_lines here.hart x.buffer)
     ++ kept_lines here.hart x.reserved x.requests x.restart
     ++ barrier_line here.hart x.waits
-    ++ area_line here.hart area
-    ++ names_line here.hart named x.pc
+    ++ (area_line here.hart (area_on here) ++ names_line here.hart (named_on here) x.pc)
 
 -- they are the lines of the hart
-pub running_shown : (here : Here) (x : HartState) (t : ℕ) (area : Option Area) (named : Named) → area ≡ area_on here → named ≡ named_on here
-    → (ran events credit : ℕ) → x ≡ hart_in here ran events credit → runs here ≡ Some t → running_lines here x t area named ≡ running_text here t
+pub running_shown : (here : Here) (x : HartState) (t ran events credit : ℕ) → x ≡ hart_in here ran events credit → runs here ≡ Some t
+    → running_lines here x t ≡ running_text here t
 unfolding running_text
-running_shown here x t area named area_is named_is ran events credit is on =
+running_shown here x t ran events credit is on =
     let lines : Option ℕ → List ℕ = λ o.
-    thread_line here.hart t (file_on here o).pc (id_on here o)
-    ++ register_lines here.hart (file_on here o).file
-    ++ store_lines here.hart (waiting_here here)
+    (thread_line here.hart t (file_on here o).pc (id_on here o) ++ register_lines here.hart (file_on here o).file ++ store_lines here.hart (waiting_here here))
     ++ kept_here here
     ++ barrier_line here.hart here.awaits
-    ++ area_line here.hart (option_and_then (area_here here) o)
-    ++ names_line here.hart (option_map_or (named_here here) o names.Nothing) (file_on here o).pc
+    ++ (area_line here.hart (option_and_then (area_here here) o) ++ names_line here.hart (option_map_or (named_here here) o names.Nothing) (file_on here o).pc)
     in
-    (λ i. running_lines here x t (area_is i) (named_is i)) ∙ ap (λ y. running_lines here y t (area_on here) (named_on here)) is ∙ ap lines on
+    let earlier = (thread_line here.hart t (here.file t).pc (id_of t here.kernel.ids) ++ register_lines here.hart (here.file t).file ++ store_lines here.hart (waiting_here here))
+    ++ kept_here here ++ barrier_line here.hart here.awaits
+    in
+    ap (λ y. running_lines here y t) is ∙ ap lines on
+    ∙ sym (append_assoc earlier (area_line here.hart (area_here here t)) (names_line here.hart (named_here here t) (here.file t).pc))
 
 -- the thread that a state names runs there; and where it names none, none does
 tid_of : (o : Option ℕ) (tid : Tid) → option_map thread o ≡ Some tid → o ≡ Some tid.0

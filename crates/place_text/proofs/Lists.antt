@@ -57,14 +57,12 @@ index_step f start line new xs i d lt before after =
     after ∙ ap (λ l. l ++ f (get_or xs i d)) before ∙ flat_map_more f start (take i xs) (get_or xs i d)
     ∙ ap (λ ys. start ++ flat_map f ys) (sym (take_more xs i d lt))
 
--- a text that has six pieces, before a seventh
-pub seven_pieces : (start first second third fourth fifth sixth a b c d e f g whole : List ℕ) → first ≡ start ++ a → second ≡ first ++ b
-    → third ≡ second ++ c → fourth ≡ third ++ d → fifth ≡ fourth ++ e → sixth ≡ fifth ++ f → a ++ b ++ c ++ d ++ e ++ f ++ g ≡ whole
-    → sixth ++ g ≡ start ++ whole
-seven_pieces start first second third fourth fifth sixth a b c d e f g whole one two three four five six all =
-    let regroup : start ++ a ++ b ++ c ++ d ++ e ++ f ++ g ≡ start ++ (a ++ b ++ c ++ d ++ e ++ f ++ g) = simp append_assoc in
-    let three_of : third ≡ start ++ a ++ b ++ c = three ∙ ap (λ l. l ++ c) (two ∙ ap (λ l. l ++ b) one) in
-    ap (λ l. l ++ g) (six ∙ ap (λ l. l ++ f) (five ∙ ap (λ l. l ++ e) (four ∙ ap (λ l. l ++ d) three_of))) ∙ regroup ∙ ap (λ l. start ++ l) all
+-- a text that has three pieces, before a fourth
+pub four_pieces : (start first second third a b c d whole : List ℕ) → first ≡ start ++ a → second ≡ first ++ b → third ≡ second ++ c
+    → a ++ b ++ c ++ d ≡ whole → third ++ d ≡ start ++ whole
+four_pieces start first second third a b c d whole one two three all =
+    let regroup : ((start ++ a) ++ b) ++ c ++ d ≡ start ++ (a ++ b ++ c ++ d) = simp append_assoc in
+    ap (λ l. l ++ d) (three ∙ ap (λ l. l ++ c) (two ∙ ap (λ l. l ++ b) one)) ∙ regroup ∙ ap (λ l. start ++ l) all
 
 -- a text that has five pieces
 pub five_pieces : (start first second third fourth fifth a b c d e : List ℕ) → start ≡ [] → first ≡ start ++ a → second ≡ first ++ b

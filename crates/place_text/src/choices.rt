@@ -2,13 +2,14 @@
 
 ghost use Rattle.std.specs.Prelude.{◌≡◌, ◌++◌, map, OnOk};
 ghost use Rattle.mach_types.specs.Events.{own_choices};
+ghost use Rattle.block_model.specs.Deciding.{decide};
 ghost use Rattle.step_log.specs.Grammar.{run_field};
 ghost use Rattle.place_text.specs.Choices as spec;
 ghost use Rattle.place_text.specs.Fields.{behind};
 ghost use Rattle.place_text.specs.Live.{run_of};
 ghost use Rattle.place_text.specs.Seen.{past_of};
 
-use crate::fields::{begin_line, end_line, push_number, push_value, push_word};
+use crate::fields::{begin_line, push_number, push_value, push_word};
 use crate::threads::LiveThread;
 use block_model::Refused;
 use mach_types::{Choice, Entry, Hart, OWN_CHOICES, Why};
@@ -67,6 +68,22 @@ fn push_choice_fields(text: &mut Vec<u8>, choice: Choice) -> Result<(), AllocErr
     push_run_field(text, choice)
 }
 
+/// Appends the line of a choice that is refused.
+fn push_refused(
+    text: &mut Vec<u8>,
+    hart: Hart,
+    choice: Choice,
+    refused: Refused,
+) -> Result<(), AllocError>
+    ensures { OnOk result (text.new.items ≡ text.old.items ++ spec.refused_line hart.0 choice refused) }
+{
+    begin_line(text, b"not", u64::from(hart.0))?;
+    push_choice_fields(text, choice)?;
+    push_word(text, refusal_word(refused))?;
+    text.push(b'\n')?;
+    Ok(())
+}
+
 /// Appends the line of a choice that is allowed, which makes this entry.
 fn push_allowed(text: &mut Vec<u8>, entry: Entry) -> Result<(), AllocError>
     ensures { OnOk result (text.new.items ≡ text.old.items ++ spec.allowed_line entry) }
@@ -75,7 +92,8 @@ fn push_allowed(text: &mut Vec<u8>, entry: Entry) -> Result<(), AllocError>
     push_word(text, kind_word(entry.kind))?;
     push_number(text, u64::from(entry.tid.0))?;
     push_value(text, entry.pc)?;
-    end_line(text)
+    text.push(b'\n')?;
+    Ok(())
 }
 
 /// Appends the line of a choice that is answered so.
@@ -89,13 +107,21 @@ fn push_answered(
 {
     match answer {
         Ok(entry) => push_allowed(text, entry),
-        Err(refused) => {
-            begin_line(text, b"not", u64::from(hart.0))?;
-            push_choice_fields(text, choice)?;
-            push_word(text, refusal_word(refused))?;
-            end_line(text)
-        }
+        Err(refused) => push_refused(text, hart, choice, refused),
     }
+}
+
+/// Appends the line of a choice of a hart.
+fn push_choice(
+    text: &mut Vec<u8>,
+    machine: &Machine,
+    hart: Hart,
+    choice: Choice,
+) -> Result<(), AllocError>
+    ensures { OnOk result (text.new.items ≡ text.old.items ++ spec.choice_line hart.0 choice
+        (decide machine.now.setting (past_of machine.now) hart.0 choice)) }
+{
+    push_answered(text, hart, choice, machine.answer(hart, choice))
 }
 
 /// Appends the lines of a hart's own choices.
@@ -105,7 +131,24 @@ fn push_own_choices(text: &mut Vec<u8>, machine: &Machine, hart: Hart) -> Result
         ++ spec.choice_lines machine.now.setting (past_of machine.now) hart.0 own_choices) }
 {
     for choice in OWN_CHOICES {
-        push_answered(text, hart, choice, machine.answer(hart, choice))?;
+        push_choice(text, machine, hart, choice)?;
+    }
+    Ok(())
+}
+
+/// Appends the lines of a hart's choices to run one of these threads.
+fn push_run_choices(
+    text: &mut Vec<u8>,
+    machine: &Machine,
+    hart: Hart,
+    live: &[LiveThread],
+) -> Result<(), AllocError>
+    ensures { OnOk result
+        (text.new.items ≡ text.old.items
+        ++ spec.choice_lines machine.now.setting (past_of machine.now) hart.0 (map run_of live.now)) }
+{
+    for thread in live {
+        push_choice(text, machine, hart, Choice::Run(thread.tid))?;
     }
     Ok(())
 }
@@ -123,9 +166,5 @@ pub fn push_choices(
         ++ spec.choices_text machine.now.setting (past_of machine.now) (map run_of live.now) hart.0) }
 {
     push_own_choices(text, machine, hart)?;
-    for thread in live {
-        let choice = Choice::Run(thread.tid);
-        push_answered(text, hart, choice, machine.answer(hart, choice))?;
-    }
-    Ok(())
+    push_run_choices(text, machine, hart, live)
 }

@@ -1,8 +1,8 @@
 //! Fields of a line: words, numbers, values and lists of harts.
 
-ghost use Rattle.std.specs.Prelude.{◌≡◌, ◌<◌, [], ◌∷◌, ◌++◌, OnOk, codes};
+ghost use Rattle.std.specs.Prelude.{◌≡◌, ◌<◌, [], ◌∷◌, ◌++◌, OnOk};
 ghost use Rattle.std.specs.Fmt.{decimal};
-ghost use Rattle.step_log.specs.Text.{hex_digit, hex_text, newline, space};
+ghost use Rattle.step_log.specs.Text.{hex_digit, hex_text, space};
 ghost use Rattle.place_text.specs.Fields.{behind, harts_fields, value_or_none, value_text, yes_or_no};
 
 use mach_types::Hart;
@@ -82,23 +82,6 @@ pub fn begin_line(text: &mut Vec<u8>, first: &[u8], number: u64) -> Result<(), A
 {
     text.extend_from_slice(first)?;
     push_number(text, number)
-}
-
-/// Begins a line of a hart: appends its number and the word of what the line says of it.
-pub fn begin_hart_line(text: &mut Vec<u8>, hart: Hart, word: &[u8]) -> Result<(), AllocError>
-    ensures { OnOk result
-        (text.new.items ≡ text.old.items ++ codes "hart" ++ behind (decimal hart.0 ∷ word.now ∷ [])) }
-{
-    begin_line(text, b"hart", u64::from(hart.0))?;
-    push_word(text, word)
-}
-
-/// Ends a line.
-pub fn end_line(text: &mut Vec<u8>) -> Result<(), AllocError>
-    ensures { OnOk result (text.new.items ≡ text.old.items ++ newline ∷ []) }
-{
-    text.push(b'\n')?;
-    Ok(())
 }
 
 /// Appends a word and a number in decimal, each behind a space.

@@ -5,7 +5,7 @@ ghost use Rattle.block_model.specs.Here.{memory, view};
 ghost use Rattle.place_text.specs.Memory as spec;
 ghost use Rattle.place_text.specs.Seen.{here_of, past_of};
 
-use crate::fields::{begin_hart_line, end_line, push_value, push_value_or_none};
+use crate::fields::{begin_line, push_value, push_value_or_none, push_word};
 use mach_types::Hart;
 use machine_core::Machine;
 use std::alloc::AllocError;
@@ -48,17 +48,20 @@ fn push_held(text: &mut Vec<u8>, at: u64, value: Option<u64>) -> Result<(), Allo
     text.extend_from_slice(b"memory")?;
     push_value(text, at)?;
     push_value_or_none(text, value)?;
-    end_line(text)
+    text.push(b'\n')?;
+    Ok(())
 }
 
 /// Appends the line of what a hart sees.
 fn push_sees(text: &mut Vec<u8>, hart: Hart, at: u64, value: Option<u64>) -> Result<(), AllocError>
     ensures { OnOk result (text.new.items ≡ text.old.items ++ spec.sees_line hart.0 at value) }
 {
-    begin_hart_line(text, hart, b"sees")?;
+    begin_line(text, b"hart", u64::from(hart.0))?;
+    push_word(text, b"sees")?;
     push_value(text, at)?;
     push_value_or_none(text, value)?;
-    end_line(text)
+    text.push(b'\n')?;
+    Ok(())
 }
 
 /// Appends that line where memory has something else.

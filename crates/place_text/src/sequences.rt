@@ -5,9 +5,7 @@ ghost use Rattle.step_log.specs.Text.{hex_text};
 ghost use Rattle.place_text.specs.Fields.{behind};
 ghost use Rattle.place_text.specs.Sequences.{area_fields, area_line, bad_word, inside_word, names_fields, names_line};
 
-use crate::fields::{
-    begin_hart_line, end_line, push_hex, push_named_value, push_number, push_value, push_word,
-};
+use crate::fields::{begin_line, push_hex, push_named_value, push_number, push_value, push_word};
 use mach_types::{Area, BadWhy, Hart, Named, Seq};
 use std::alloc::AllocError;
 
@@ -68,9 +66,11 @@ pub fn push_area_fields(text: &mut Vec<u8>, area: Option<Area>) -> Result<(), Al
 pub fn push_area(text: &mut Vec<u8>, hart: Hart, area: Option<Area>) -> Result<(), AllocError>
     ensures { OnOk result (text.new.items ≡ text.old.items ++ area_line hart.0 area) }
 {
-    begin_hart_line(text, hart, b"area")?;
+    begin_line(text, b"hart", u64::from(hart.0))?;
+    push_word(text, b"area")?;
     push_area_fields(text, area)?;
-    end_line(text)
+    text.push(b'\n')?;
+    Ok(())
 }
 
 /// Appends the fields of a sequence that can be used, and whether a pc is inside.
@@ -102,7 +102,9 @@ fn push_names_fields(text: &mut Vec<u8>, named: Named, pc: u64) -> Result<(), Al
 pub fn push_names(text: &mut Vec<u8>, hart: Hart, named: Named, pc: u64) -> Result<(), AllocError>
     ensures { OnOk result (text.new.items ≡ text.old.items ++ names_line hart.0 named pc) }
 {
-    begin_hart_line(text, hart, b"names")?;
+    begin_line(text, b"hart", u64::from(hart.0))?;
+    push_word(text, b"names")?;
     push_names_fields(text, named, pc)?;
-    end_line(text)
+    text.push(b'\n')?;
+    Ok(())
 }

@@ -9,7 +9,7 @@ ghost use Rattle.place_text.specs.Live.{saved_pc, told, told_of};
 ghost use Rattle.place_text.specs.Sequences.{area_fields};
 ghost use Rattle.place_text.specs.Threads as spec;
 
-use crate::fields::{begin_line, end_line, push_named_number, push_named_value, push_word};
+use crate::fields::{begin_line, push_named_number, push_named_value, push_word};
 use crate::sequences::push_area_fields;
 use kernel_threads::Threads;
 use mach_types::{Area, ThreadState, Tid};
@@ -69,7 +69,8 @@ fn push_state(text: &mut Vec<u8>, tid: Tid, state: ThreadState) -> Result<(), Al
 {
     begin_line(text, b"thread", u64::from(tid.0))?;
     push_state_fields(text, state)?;
-    end_line(text)
+    text.push(b'\n')?;
+    Ok(())
 }
 
 /// Appends the line of a thread's signals.
@@ -79,7 +80,8 @@ fn push_signals(text: &mut Vec<u8>, tid: Tid, mask: u64, pending: u64) -> Result
     begin_line(text, b"thread", u64::from(tid.0))?;
     push_named_value(text, b"mask", mask)?;
     push_named_value(text, b"pending", pending)?;
-    end_line(text)
+    text.push(b'\n')?;
+    Ok(())
 }
 
 /// Appends the line of the pc at which a thread goes on.
@@ -89,7 +91,8 @@ fn push_pc(text: &mut Vec<u8>, tid: Tid, pc: u64) -> Result<(), AllocError>
 {
     begin_line(text, b"thread", u64::from(tid.0))?;
     push_named_value(text, b"pc", pc)?;
-    end_line(text)
+    text.push(b'\n')?;
+    Ok(())
 }
 
 /// Appends the line of a thread's area.
@@ -100,16 +103,37 @@ fn push_area(text: &mut Vec<u8>, tid: Tid, area: Option<Area>) -> Result<(), All
     begin_line(text, b"thread", u64::from(tid.0))?;
     push_word(text, b"area")?;
     push_area_fields(text, area)?;
-    end_line(text)
+    text.push(b'\n')?;
+    Ok(())
 }
 
 /// Appends the lines of a thread that runs nowhere, which goes on at a pc and has this area.
 #[tactic(auto, unfolding(crate::specs::Threads::resting_lines))]
-fn push_resting(text: &mut Vec<u8>, tid: Tid, pc: u64, area: Option<Area>) -> Result<(), AllocError>
+fn push_resting_lines(
+    text: &mut Vec<u8>,
+    tid: Tid,
+    pc: u64,
+    area: Option<Area>,
+) -> Result<(), AllocError>
     ensures { OnOk result (text.new.items ≡ text.old.items ++ spec.resting_lines tid.0 pc area) }
 {
     push_pc(text, tid, pc)?;
     push_area(text, tid, area)
+}
+
+/// Appends these lines where a thread runs nowhere.
+fn push_resting(
+    text: &mut Vec<u8>,
+    tid: Tid,
+    pc: Option<u64>,
+    area: Option<Area>,
+) -> Result<(), AllocError>
+    ensures { OnOk result (text.new.items ≡ text.old.items ++ spec.resting_text tid.0 pc area) }
+{
+    match pc {
+        Some(pc) => push_resting_lines(text, tid, pc, area),
+        None => Ok(()),
+    }
 }
 
 /// Appends the lines of a thread.
@@ -122,10 +146,7 @@ fn push_thread(text: &mut Vec<u8>, kernel: &Kernel, thread: LiveThread) -> Resul
     let mask = kernel.signals.mask_of(thread.tid);
     let pending = kernel.signals.pending_of(thread.tid);
     push_signals(text, thread.tid, mask, pending)?;
-    match thread.pc {
-        Some(pc) => push_resting(text, thread.tid, pc, area_of(kernel, thread.tid)),
-        None => Ok(()),
-    }
+    push_resting(text, thread.tid, thread.pc, area_of(kernel, thread.tid))
 }
 
 /// Appends the lines of these threads.

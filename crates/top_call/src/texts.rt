@@ -243,11 +243,11 @@ fn traced_text<S: Shelf>(
     requires { InRange limits }
     ensures output { IfOk result (λ text. IsRunOutput (S.file shelf.old) (record {
       program = program.now;
-      source = Script traced.script.now;
-      shown = Trace traced.span;
+      source = Script traced.entry.script.now;
+      shown = Trace traced.entry.span;
       limits = limits;
     }) text) }
-    ensures cause { let needs = needs_by program.now (Script traced.script.now) limits in
+    ensures cause { let needs = needs_by program.now (Script traced.entry.script.now) limits in
         IfErr result (IsReasonFor (S.file shelf.old) needs (S.faults shelf.old) (S.faults shelf.new)
         (S.last_trouble shelf.new)) }
     ensures files { S.file shelf.new ≡ S.file shelf.old }

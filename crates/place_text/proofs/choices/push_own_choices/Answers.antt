@@ -1,9 +1,6 @@
-use Rattle.std.proofs.Common.{◌++◌, Result, ap, ◌∙◌}
 use Rattle.mach_types.specs.Events.{own_choices}
 use Rattle.mach_types.specs.declared.events.Choice.{Choice}
-use Rattle.mach_types.specs.declared.events.Entry.{Entry}
 use Rattle.block_model.specs.Deciding.{decide}
-use Rattle.block_model.specs.declared.refusals.Refused.{Refused}
 use Rattle.place_text.specs.Choices.{choice_line}
 use Rattle.place_text.specs.Seen.{past_of}
 use Rattle.place_text.proofs.Lists.{index_step}
@@ -13,5 +10,4 @@ pub loop-choice-preserved : goal.loop-choice-preserved
 loop-choice-preserved c =
     let v = c.args.machine.now in
     let line = λ (choice : Choice). choice_line c.args.hart.0 choice (decide v.setting (past_of v) c.args.hart.0 choice) in
-    index_step line _ _ _ own_choices c.loop-choice.choice-index _ c.loop-choice-test.true c.loop-choice.invariant
-    (c.in_ok-push_answered.ensures ∙ ap (λ (answer : Result Entry Refused). c.loop-choice.text.items ++ choice_line c.args.hart.0 _ answer) c.answer.ensures)
+    index_step line _ _ _ own_choices c.loop-choice.choice-index _ c.loop-choice-test.true c.loop-choice.invariant c.in_ok-push_choice.ensures

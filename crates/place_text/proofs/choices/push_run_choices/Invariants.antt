@@ -2,7 +2,7 @@ use Rattle.std.proofs.Common.{◌≡◌, ◌++◌, map, take}
 use Rattle.place_text.specs.Choices.{choice_lines}
 use Rattle.place_text.specs.Live.{run_of}
 use Rattle.place_text.specs.Seen.{past_of}
-use Rattle.place_text.proofs.choices.push_choices.Given as goal
+use Rattle.place_text.proofs.choices.push_run_choices.Given as goal
 
 -- the lines of the threads so far
 abbrev pub invariant-loop-thread : goal.invariant-loop-thread
