@@ -494,7 +494,7 @@ fn may_go(machine: &Machine, line: &Line) -> bool
 }
 
 /// Makes the event of a line, where that is an instruction that sets a register and the pc alone, as most are, and
-/// appends to the facts what came of it. None where it isn't one; then nothing is made.
+/// appends to the facts what came of it. None where it isn't one; then nothing is made or told.
 #[inline(always)]
 fn make_freely(
     facts: &mut Vec<Fact>,
@@ -505,6 +505,7 @@ fn make_freely(
     ensures made { IfOk result (λ made. IfSome made
         (IsFree machine.old machine.new line.now facts.old.items facts.new.items)) }
     ensures none { IfOk result (λ made. IfNone made (machine.new ≡ machine.old)) }
+    ensures untold { IfOk result (λ made. IfNone made (facts.new.items ≡ facts.old.items)) }
 {
     if !may_go(machine, line) {
         return Ok(None);
@@ -513,19 +514,6 @@ fn make_freely(
     match trace_freely(facts, machine, line.hart)? {
         Some(entry) => Ok(Some(Made { entry, ahead })),
         None => Ok(None),
-    }
-}
-
-/// The entry of a line that was made, unless it isn't as the line says.
-fn unless_differs(line: &Line, made: Made) -> Result<Made, LineFault>
-    ensures as_said { IfOk result (λ x. (x ≡ made) × (is_as_said line.now.check made.entry ≡ true)) }
-    ensures differs { IfErr result (λ fault. (fault ≡ LineFault.Differs made.entry)
-        × (is_as_said line.now.check made.entry ≡ false)) }
-{
-    if is_as_said(line.check, made.entry) {
-        Ok(made)
-    } else {
-        Err(LineFault::Differs(made.entry))
     }
 }
 
@@ -572,9 +560,11 @@ fn make_line(
 {
     facts.clear();
     if let Some(made) = make_freely(facts, machine, line)? {
-        return Ok(unless_differs(line, made));
+        if is_as_said(line.check, made.entry) {
+            return Ok(Ok(made));
+        }
+        return Ok(Err(LineFault::Differs(made.entry)));
     }
-    facts.clear();
     make_due(alloc, facts, machine, lines, line)
 }
 

@@ -1,22 +1,27 @@
 -- What is told of an instruction that sets a register and the pc alone.
-use Rattle.std.proofs.Common.{◌≡◌, ℕ, List, [], ◌∷◌, ◌++◌, ◌&&◌, refl, sym, ap, ◌∙◌, subst, cond, eqb, true, false, is_none, Option, Some, None, Ok}
+use Rattle.std.proofs.Common.{◌≡◌, ℕ, List, [], ◌∷◌, ◌++◌, ◌&&◌, refl, sym, ap, ◌∙◌, subst, cond, eqb, Bool, true, false, is_none, Option, Some, None, Ok}
 use Rattle.std.specs.Option.{option_map, option_map_or}
-use Rattle.std.proofs.lemmas.Bool.{and_parts}
+use Rattle.std.proofs.lemmas.Bool.{and_parts, and_right}
 use Rattle.mach_types.specs.Events.{choice_of, kind_of}
 use Rattle.mach_types.specs.Registers.{register}
 use Rattle.mach_types.specs.declared.events.Choice.{Choice}
 use Rattle.mach_types.specs.declared.events.Choice.TheVariants as asked
 use Rattle.mach_types.specs.declared.events.Entry.{Entry}
 use Rattle.mach_types.proofs.Laws.{kind_back}
+use Rattle.mach_types.specs.declared.threads.Saved.{Saved}
+use Rattle.rv_inst.specs.Class.{sets_register}
 use Rattle.rv_inst.specs.Local.{is_register_only}
+use Rattle.rv_inst.specs.Meaning.{meaning}
 use Rattle.rv_inst.specs.declared.effects.Effect.TheVariants as effect
+use Rattle.rv_inst.specs.declared.instruction.Inst.{Inst}
+use Rattle.rv_inst.proofs.Laws.{local-rows}
 use Rattle.block_model.specs.Deciding.{decide}
 use Rattle.block_model.specs.Events.Exec.{next_fault, refusal_exec}
-use Rattle.block_model.specs.Here.{Here, runs}
-use Rattle.block_model.specs.Instruction.{next_instruction}
+use Rattle.block_model.specs.Here.{Here, is_storable, reached, runs}
+use Rattle.block_model.specs.Instruction.{fault_by, fetched, instruction_of, next_instruction}
 use Rattle.block_model.specs.Run.{IsBlockRun}
 use Rattle.block_model.specs.Setting.{Seen}
-use Rattle.block_model.specs.Sights.{effect_here, fault_here, fault_on, is_local_on}
+use Rattle.block_model.specs.Sights.{effect_here, effect_on, fault_here, fault_on, is_local_on}
 use Rattle.block_model.proofs.Laws.{run_on}
 use Rattle.machine_core.specs.Free.{goes_freely}
 use Rattle.event_facts.specs.Facts.{executed_by, facts_of, register_fact}
@@ -28,6 +33,22 @@ use Rattle.event_facts.specs.declared.facts.Fact.TheVariants.{Register}
 use Rattle.event_facts.specs.declared.telling.PlainEvent.TheVariants.{Instruction}
 use Rattle.event_facts.proofs.LocalFacts.{local_facts, local_lines}
 use Rattle.event_facts.proofs.PlainEffects.{effect_is}
+
+-- it sets a register and does nothing else; no other instruction does
+local_row : (byte : ℕ → Option ℕ) (writable : ℕ → Bool) (word : Option ℕ) (f : Saved) (o : Option Inst)
+    → (option_map_or is_register_only o false && is_none (fault_by byte writable f.pc word (option_map (λ i. meaning i f.file f.pc) o)))
+    ≡ option_map_or sets_register (option_map (λ i. meaning i f.file f.pc) o) false
+local_row byte writable word f None = refl
+local_row byte writable word f (Some i) = local-rows i f.file f.pc byte writable
+
+local_is : (here : Here) (o : Option ℕ) → is_local_on here o ≡ option_map_or sets_register (effect_on here o) false
+local_is here None = refl
+local_is here (Some t) =
+    let f = here.file t in
+    let word = fetched here.setting.program.pages f.pc in local_row (reached here) (is_storable here) word f (instruction_of word)
+
+pub not_free : (here : Here) → option_map_or sets_register (effect_here here) false ≡ false → goes_freely here ≡ false
+not_free here other = and_right (is_none (refusal_exec here)) (is_local_on here (runs here)) (local_is here (runs here) ∙ other)
 
 -- it makes no fault
 not_faulty : (here : Here) (o : Option ℕ) → is_local_on here o ≡ true → is_none (fault_on here o) ≡ true

@@ -1,11 +1,12 @@
 //! An event is made, and all that came of it is told.
 
-ghost use Rattle.std.specs.Prelude.{◌≡◌, ◌<◌, ◌++◌, ◌∷◌, [], false, IfNone, IfOk, IfSome, OnOk};
+ghost use Rattle.std.specs.Prelude.{◌≡◌, ◌<◌, ◌++◌, ◌∷◌, [], false, IfNone, IfOk, IfSome, OnOk, is_some};
 ghost use Rattle.mach_types.specs.Limits.{InRange};
 ghost use Rattle.block_model.specs.Choosing.{has_ended};
 ghost use Rattle.block_model.specs.Run.{IsBlockRun};
+ghost use Rattle.machine_core.specs.Free.{goes_freely};
 ghost use Rattle.event_facts.specs.Freely.{IsMadeFreely};
-ghost use Rattle.event_facts.specs.Telling.{IsDecided, past_of};
+ghost use Rattle.event_facts.specs.Telling.{IsDecided, here_on, past_of};
 ghost use Rattle.event_facts.specs.Tied.{AreLinesOf};
 ghost use Rattle.event_facts.specs.Trace.{trace_of};
 
@@ -55,8 +56,9 @@ pub fn trace(
     Ok(())
 }
 
-/// Makes the next instruction of a hart, where that sets a register and the pc alone ([`Machine::goes_freely`]), and
-/// appends all that is told of it: its entry. None where it doesn't; then nothing is made. The run must go on.
+/// Makes the next instruction of a hart that goes freely ([`Machine::goes_freely`]), which sets a register and the pc
+/// alone, and appends all that is told of it: its entry. None exactly where the hart doesn't go freely; then nothing is
+/// made or told. The run must go on.
 ///
 /// It errs only for want of memory.
 #[inline(always)]
@@ -68,9 +70,11 @@ pub fn trace_freely(
     requires run { IsBlockRun machine.old.setting machine.old.log }
     requires goes { has_ended machine.old.setting (past_of machine.old) ≡ false }
     requires hart { hart.0 < machine.old.setting.limits.harts }
+    ensures free { IfOk result (λ made. is_some made ≡ goes_freely (here_on machine.old hart.0)) }
     ensures told { IfOk result (λ made. IfSome made
         (IsMadeFreely machine.old machine.new hart.0 facts.old.items facts.new.items)) }
     ensures none { IfOk result (λ made. IfNone made (machine.new ≡ machine.old)) }
+    ensures untold { IfOk result (λ made. IfNone made (facts.new.items ≡ facts.old.items)) }
 {
     plain_events_are_told_by_their_facts();
     let Some(Effect::Next { rd, .. }) = machine.next_effect(hart) else {
