@@ -1,5 +1,5 @@
 -- A log is told, entry by entry, as it is made, or made again.
-use Rattle.std.proofs.Common.{◌≡◌, ℕ, ◌+◌, ◌<◌, List, [], ◌∷◌, ◌++◌, ◌||◌, length, take, drop, get_or, ◌≤◌, refl, sym, ap, ◌∙◌, subst, arith, Bool, true, false, cond, is_some, leb, lt-leb, Ok, append_assoc, append-nil, length-append, Option, Some, None, take_all}
+use Rattle.std.proofs.Common.{◌≡◌, ℕ, ◌+◌, ◌<◌, List, [], ◌∷◌, ◌++◌, length, take, drop, get_or, ◌≤◌, refl, sym, ap, ◌∙◌, subst, arith, Bool, true, false, cond, Ok, append_assoc, append-nil, length-append, Option, Some, None, take_all}
 use Rattle.std.specs.Prelude.{codes}
 use Rattle.std.specs.List.{flat_map, fold}
 use Rattle.std.specs.Option.{option_to_list}
@@ -10,18 +10,15 @@ use Rattle.mach_types.specs.declared.events.Choice.{Choice}
 use Rattle.mach_types.specs.declared.events.Entry.{Entry}
 use Rattle.mach_types.specs.declared.events.Kind.{Kind}
 use Rattle.mach_types.specs.declared.events.Kind.TheVariants as kind
-use Rattle.mach_types.specs.declared.limits.End.{End}
-use Rattle.mach_types.specs.declared.limits.End.TheVariants.{Unended}
 use Rattle.step_log.specs.declared.fields.Line.{Line}
-use Rattle.block_model.specs.Choosing.{has_ended}
 use Rattle.block_model.specs.Replay.{checked, is_as_said}
-use Rattle.block_model.specs.Deciding.{decide, end_of, event, history}
+use Rattle.block_model.specs.Deciding.{decide, event, history}
 use Rattle.block_model.specs.Events.{done_of}
 use Rattle.block_model.specs.History.{History}
 use Rattle.block_model.specs.Plain.{here_of}
 use Rattle.block_model.specs.Run.{IsBlockRun}
 use Rattle.block_model.specs.Setting.{Seen, Setting}
-use Rattle.block_model.proofs.Laws.{decided_is, history-append, is_open, length-history, next_event, run_before, start_run}
+use Rattle.block_model.proofs.Laws.{decided_is, history-append, length-history, next_event, run_before, start_run}
 use Rattle.block_model.proofs.Swaps.Logs.{last_decided}
 use Rattle.block_view.specs.Following.{IsFollowing}
 use Rattle.block_view.specs.Ledgers.{kept_in}
@@ -201,14 +198,6 @@ told_longer span m m' e x x' text text' was made run followed pushed = record {
 
 -- A LINE'S EVENT
 
--- where the run goes on, it hasn't ended
-pub goes_on : (m : Seen) → IsBlockRun m.setting m.log → end_of m.setting (past_of m) ≡ Unended → has_ended m.setting (past_of m) ≡ false
-unfolding has_ended
-goes_on m run unended =
-    let before = past_of m in
-    let open_is = is_open m.setting before run.allowed unended in
-    ap (λ (o : Option End). is_some o || leb m.setting.limits.steps (length before)) open_is.0 ∙ lt-leb m.setting.limits.steps (length before) open_is.1
-
 -- what is seen ahead of the instruction that a line asks for
 pub ahead_of_it : (m : Seen) (h : ℕ) (e : Entry) (ahead : Ahead) → e.hart.0 ≡ h → e.kind ≡ kind.Exec → IsAheadOf m h kind.Exec ahead → IsAhead m e ahead
 ahead_of_it m h e ahead hart is seen =
@@ -219,13 +208,14 @@ module _ (m m' : Seen) (line : Line) (facts facts' : List Fact) (made : Made) (f
   answered = ap (decide m.setting (past_of m) line.hart.0) free.choice ∙ free.made.answer
 
   -- it is as the line says, or isn't
-  pub free_line : (lines : Lines) → AreLinesOf m.setting.limits.harts (past_of m) lines → is_as_said line.check made.entry ≡ true → IsMadeLine m m' line facts facts' lines made
-  free_line lines kept said = record {
+  pub free_line : (lines : Lines) → facts ≡ [] → AreLinesOf m.setting.limits.harts (past_of m) lines → is_as_said line.check made.entry ≡ true
+      → IsMadeLine m m' line [] facts' lines made
+  free_line lines empty kept said = record {
     by_line = ap (checked line.check) answered ∙ ap (λ (b : Bool). let none : Option Entry = None in cond b (Some made.entry) none) said;
     made = is_made m m' made.entry free.made.decided free.made.machine free.made.run;
     lines = free.made.lines lines kept;
     ahead = free.ahead;
-    told = free.made.told;
+    told = free.made.told ∙ ap (λ (l : List Fact). l ++ trace_of m.setting (past_of m) made.entry) empty;
   }
 
   pub free_differs : is_as_said line.check made.entry ≡ false → line_fault m.setting m.log (Some (ask_of line)) ≡ Some (Differs made.entry)

@@ -1,9 +1,12 @@
 //! An event is made, and all that came of it is told.
 
-ghost use Rattle.std.specs.Prelude.{◌≡◌, ◌<◌, ◌++◌, ◌∷◌, [], false, IfNone, IfOk, IfSome, OnOk, is_some};
+ghost use Rattle.std.specs.Prelude.{◌≡◌, ◌<◌, ◌++◌, ◌∷◌, [], ℕ, false, IfNone, IfOk, IfSome, OnOk, Some, is_some};
+ghost use Rattle.std.specs.Option.{option_map_or};
 ghost use Rattle.mach_types.specs.Limits.{InRange};
+ghost use Rattle.rv_inst.specs.Class.{sets_register};
 ghost use Rattle.block_model.specs.Choosing.{has_ended};
 ghost use Rattle.block_model.specs.Run.{IsBlockRun};
+ghost use Rattle.block_model.specs.Sights.{effect_here};
 ghost use Rattle.machine_core.specs.Free.{goes_freely};
 ghost use Rattle.event_facts.specs.Freely.{IsMadeFreely};
 ghost use Rattle.event_facts.specs.Telling.{IsDecided, here_on, past_of};
@@ -56,6 +59,21 @@ pub fn trace(
     Ok(())
 }
 
+/// The register that the next instruction of a hart sets, where it sets one and the pc, and does nothing else.
+#[inline(always)]
+fn register_alone(machine: &Machine, hart: Hart) -> Option<u8>
+    requires { hart.0 < machine.now.setting.limits.harts }
+    ensures alone { is_some result
+        ≡ option_map_or sets_register (effect_here (here_on machine.now hart.0)) false }
+    ensures effect { IfSome result (λ rd. (value : ℕ) × (to : ℕ)
+        × (effect_here (here_on machine.now hart.0) ≡ Some (Effect.Next rd value to))) }
+{
+    match machine.next_effect(hart) {
+        Some(Effect::Next { rd, .. }) => Some(rd),
+        _ => None,
+    }
+}
+
 /// Makes the next instruction of a hart that goes freely ([`Machine::goes_freely`]), which sets a register and the pc
 /// alone, and appends all that is told of it: its entry. None exactly where the hart doesn't go freely; then nothing is
 /// made or told. The run must go on.
@@ -77,14 +95,14 @@ pub fn trace_freely(
     ensures untold { IfOk result (λ made. IfNone made (facts.new.items ≡ facts.old.items)) }
 {
     plain_events_are_told_by_their_facts();
-    let Some(Effect::Next { rd, .. }) = machine.next_effect(hart) else {
+    let Some(number) = register_alone(machine, hart) else {
         return Ok(None);
     };
-    let before = register_on(machine, hart, rd);
+    let before = register_on(machine, hart, number);
     let Some(entry) = machine.step_freely(hart) else {
         return Ok(None);
     };
-    let value = register_on(machine, hart, rd);
-    push_if_other(facts, rd, before, value)?;
+    let value = register_on(machine, hart, number);
+    push_if_other(facts, number, before, value)?;
     Ok(Some(entry))
 }

@@ -1,16 +1,16 @@
-use Rattle.std.proofs.Common.{[], subst, sym}
-use Rattle.std.proofs.lemmas.Result.{IfOk-weaker, MatchResult-weaker}
-use Rattle.block_model.specs.Setting.{Seen}
+use Rattle.std.proofs.Common.{List, ap, subst, sym}
 use Rattle.command_runs.proofs.ToldLogs.{free_differs, free_line}
 use Rattle.command_runs.proofs.tracing.make_line.Goals as goal
 
--- names to be looked up, and the terms at the ends: free_line and free_differs where it was made freely; else the clauses of make_due, with
--- the machine as it was (c.in_ok-make_freely.ensures.none) and no facts (the second clear)
-pub returns-in-Some-clause-made : goal.returns-in-Some-clause-made
-returns-in-Some-clause-made c = ?
+pub returns-in-Some-then-is_as_said-clause-made : goal.returns-in-Some-then-is_as_said-clause-made
+returns-in-Some-then-is_as_said-clause-made c =
+    free_line c.args.machine.now c.make_freely.new.machine c.args.line.now c.clear.new.facts.items c.make_freely.new.facts.items c.in-Some.made
+    c.in-Some.ensures.made c.args.lines.now c.clear.ensures.items c.requires.lines (sym c.is_as_said.ensures ∙ c.if-is_as_said.true)
 
-pub returns-in-Some-clause-refused : goal.returns-in-Some-clause-refused
-returns-in-Some-clause-refused c = ?
+pub returns-in-Some-else-is_as_said-clause-refused : goal.returns-in-Some-else-is_as_said-clause-refused
+returns-in-Some-else-is_as_said-clause-refused c =
+    free_differs c.args.machine.now c.make_freely.new.machine c.args.line.now c.clear.new.facts.items c.make_freely.new.facts.items c.in-Some.made
+    c.in-Some.ensures.made (sym c.is_as_said.ensures ∙ c.if-is_as_said.false)
 
 pub returns-clause-made : goal.returns-clause-made
 returns-clause-made c = ?
