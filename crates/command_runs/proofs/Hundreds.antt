@@ -1,5 +1,5 @@
 -- The digits of a number but for the last two, and these.
-use Rattle.std.proofs.Common.{◌≡◌, ℕ, ◌+◌, ◌/◌, ◌%◌, ◌<◌, ◌≤◌, ◌^◌, List, [], ◌∷◌, ◌++◌, length, ap, ◌∙◌, arith, append_assoc}
+use Rattle.std.proofs.Common.{◌≡◌, ℕ, ◌+◌, ◌/◌, ◌%◌, ◌<◌, ◌≤◌, ◌^◌, List, [], ◌∷◌, ◌++◌, length, ap, ◌∙◌, arith, append_assoc, length-append}
 use Rattle.std.proofs.lemmas.Fmt.{decimal_step, length-decimal-le}
 use Rattle.std.specs.Fmt.{decimal}
 
@@ -24,3 +24,7 @@ two_more n many fits =
     ∙ ap (λ (ds : List ℕ). ds ++ ((48 + n % 10) ∷ [])) (decimal_step (n / 10) ten small)
     ∙ append_assoc (decimal (n / 10 / 10)) ((48 + n / 10 % 10) ∷ []) ((48 + n % 10) ∷ [])
     ∙ (λ i. decimal (tens_left n i) ++ ((48 + tens n i) ∷ (48 + ones n i) ∷ []))
+
+-- how long a line is with a space and a number before it
+pub longer : (n x : ℕ) (line new : List ℕ) → n < 2 ^ 64 → new ≡ x ∷ (decimal n ++ line) → length new ≤ length line + 21
+longer n x line new fits is = omega (arith, ap length is, length-append (decimal n) line, few_digits n fits)

@@ -1,6 +1,6 @@
 //! The numbers of lines that are told one after the other.
 
-ghost use Rattle.std.specs.Prelude.{◌≡◌, ◌≤◌, ◌/◌, ◌∷◌, ◌++◌, drop, length};
+ghost use Rattle.std.specs.Prelude.{◌≡◌, ◌+◌, ◌≤◌, ◌/◌, ◌∷◌, ◌++◌, drop, length};
 ghost use Rattle.std.specs.Fmt.{decimal};
 ghost use Rattle.step_log.specs.Text.{space};
 
@@ -50,7 +50,8 @@ impl Hundreds {
     #[inline(always)]
     pub(crate) fn put(&mut self, line: &mut LineEnd, number: u64)
         requires { length line.old ≤ 100 }
-        ensures { line.new ≡ space ∷ decimal number ++ line.old }
+        ensures text { line.new ≡ space ∷ decimal number ++ line.old }
+        ensures length { length line.new ≤ length line.old + 21 }
     {
         if number < 100 {
             line.put_number(number);

@@ -2,11 +2,11 @@ use Rattle.std.proofs.Common.{◌≡◌, ℕ, List, [], ◌∷◌, ◌++◌, ◌
 use borrow.Rule.Slice.PartMut.{mid_of}
 use Rattle.std.specs.Fmt.{decimal}
 use Rattle.step_log.specs.Text.{space}
-use Rattle.command_runs.proofs.Hundreds.{two_more}
+use Rattle.command_runs.proofs.Hundreds.{longer, two_more}
 use Rattle.command_runs.proofs.line_numbers.Hundreds.put.Goals as goal
 
-pub returns : goal.returns
-returns c =
+pub returns-clause-text : goal.returns-clause-text
+returns-clause-text c =
     let n = c.args.number in
     let line = c.args.line.now in
     let digits = c.turn_to.new.self.digits in
@@ -20,3 +20,6 @@ returns c =
     ∙ (λ i. kept i ++ c.put.ensures.text i)
     ∙ sym (append_assoc (decimal (n / 100)) ((48 + n % 100 / 10) ∷ (48 + n % 100 % 10) ∷ []) line)
     ∙ ap (λ (ds : List ℕ). ds ++ line) (sym two))
+
+pub returns-clause-length : goal.returns-clause-length
+returns-clause-length c = longer c.args.number space c.args.line.now _ c.ranges.number.fits (returns-clause-text c)
