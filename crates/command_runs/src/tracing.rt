@@ -28,6 +28,7 @@ ghost use Rattle.outcomes.specs.Runs.{IsWholePlay};
 ghost use Rattle.outcomes.specs.Traces as spec;
 ghost use Rattle.outcomes.specs.Traces.{ends_line, event_text, events_text, open_text, stuck_text, trace_tail, waiting_line, waiting_text};
 
+use crate::line_numbers::Hundreds;
 use crate::scripts::is_as_said;
 use crate::sequences::{push_ends, push_turn};
 use block_view::{Ledger, Turn, seen_after, seen_ahead};
@@ -58,11 +59,13 @@ fn is_within(span: &LineSpan, number: usize) -> bool
     span.from as usize <= number && ends
 }
 
-/// What is followed of a log: which of its lines did what to memory, and its restartable sequences.
+/// What is followed of a log: which of its lines did what to memory, its restartable sequences, and the digits of its
+/// lines' numbers.
 #[derive(Drop)]
 struct Followed {
     lines: Lines,
     ledger: Ledger,
+    numbers: Hundreds,
 }
 
 impl Followed {
@@ -73,7 +76,11 @@ impl Followed {
     {
         let lines = Lines::new(alloc, harts)?;
         let ledger = Ledger::new(alloc, harts)?;
-        Ok(Followed { lines, ledger })
+        Ok(Followed {
+            lines,
+            ledger,
+            numbers: Hundreds::of(0),
+        })
     }
 }
 
@@ -88,27 +95,32 @@ fn is_short(entry: Entry) -> bool
 
 /// Puts the line of such an entry, and that of its number but for the newline, before the end of a line or of several.
 #[inline(always)]
-fn put_head(line: &mut LineEnd, entry: Entry, number: usize)
+fn put_head(line: &mut LineEnd, entry: Entry, numbers: &mut Hundreds, number: usize)
     requires room { length line.old ≤ 60 }
     requires hart { entry.hart.0 < 8 }
     requires exec { entry.kind ≡ Kind.Exec }
     requires digit { entry.tid.0 < 10 }
     ensures { line.new ≡ entry_text entry ++ codes "  line" ++ space ∷ decimal number ++ line.old }
 {
-    line.put_number(number as u64);
+    numbers.put(line, number as u64);
     line.put(b"  line");
     line.put(&exec_line(entry.hart, entry.tid, entry.pc));
 }
 
 /// Appends the line of an entry, and the number of that.
-fn push_head(text: &mut Vec<u8>, entry: Entry, number: usize) -> Result<(), AllocError>
+fn push_head(
+    text: &mut Vec<u8>,
+    entry: Entry,
+    numbers: &mut Hundreds,
+    number: usize,
+) -> Result<(), AllocError>
     requires { entry.hart.0 < 8 }
     ensures { OnOk result (text.new.items ≡ text.old.items ++ (entry_text entry
         ++ number_line (codes "  line") number)) }
 {
     if is_short(entry) {
         let mut line = LineEnd::newline();
-        put_head(&mut line, entry, number);
+        put_head(&mut line, entry, numbers, number);
         return line.append_to(text);
     }
     push_lines(text, &[entry])?;
@@ -142,6 +154,7 @@ fn changed_alone(facts: &[Fact]) -> Option<Changed>
 fn push_short(
     text: &mut Vec<u8>,
     entry: Entry,
+    numbers: &mut Hundreds,
     number: usize,
     changed: Changed,
 ) -> Result<(), AllocError>
@@ -154,7 +167,7 @@ fn push_short(
     let mut line = LineEnd::newline();
     put_changed(&mut line, changed.number, changed.value);
     line.put(b"\n");
-    put_head(&mut line, entry, number);
+    put_head(&mut line, entry, numbers, number);
     line.append_to(text)
 }
 
@@ -162,6 +175,7 @@ fn push_short(
 fn push_told(
     text: &mut Vec<u8>,
     entry: Entry,
+    numbers: &mut Hundreds,
     number: usize,
     facts: &[Fact],
 ) -> Result<(), AllocError>
@@ -171,10 +185,10 @@ fn push_told(
 {
     if is_short(entry) {
         if let Some(changed) = changed_alone(facts) {
-            return push_short(text, entry, number, changed);
+            return push_short(text, entry, numbers, number, changed);
         }
     }
-    push_head(text, entry, number)?;
+    push_head(text, entry, numbers, number)?;
     push_facts(text, facts)
 }
 
@@ -183,6 +197,7 @@ fn push_told(
 fn push_event(
     text: &mut Vec<u8>,
     entry: Entry,
+    numbers: &mut Hundreds,
     number: usize,
     facts: &[Fact],
     turn: Option<Turn>,
@@ -191,7 +206,7 @@ fn push_event(
     ensures { OnOk result (text.new.items ≡ text.old.items ++ (entry_text entry
         ++ number_line (codes "  line") number ++ facts_text facts.now ++ turn_text turn)) }
 {
-    push_told(text, entry, number, facts)?;
+    push_told(text, entry, numbers, number, facts)?;
     push_turn(text, turn)?;
     Ok(())
 }
@@ -201,6 +216,7 @@ fn push_within(
     text: &mut Vec<u8>,
     span: &LineSpan,
     entry: Entry,
+    numbers: &mut Hundreds,
     number: usize,
     facts: &[Fact],
     turn: Option<Turn>,
@@ -213,7 +229,7 @@ fn push_within(
     if !is_within(span, number) {
         return Ok(());
     }
-    push_event(text, entry, number, facts, turn)?;
+    push_event(text, entry, numbers, number, facts, turn)?;
     Ok(())
 }
 
@@ -244,7 +260,16 @@ fn push_next(
     trace(alloc, facts, machine, &mut followed.lines, entry)?;
     let passed = seen_after(machine, entry, ahead);
     let turn = followed.ledger.follow(&passed)?;
-    push_within(text, span, entry, machine.log().len(), facts, turn)?;
+    let number = machine.log().len();
+    push_within(
+        text,
+        span,
+        entry,
+        &mut followed.numbers,
+        number,
+        facts,
+        turn,
+    )?;
     Ok(())
 }
 

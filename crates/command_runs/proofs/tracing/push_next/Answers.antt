@@ -52,7 +52,7 @@ returns-clause-text c =
     let m = c.args.machine.now in
     let e = c.args.entry in
     let made = is_made m c.trace.new.machine e c.requires.decided c.in_ok-trace.ensures.machine c.in_ok-trace.ensures.run in
-    let line = line_is m c.trace.new.machine e _ c.in_ok-trace.ensures.machine (ap length c.log.ensures) in
+    let line = line_is m c.trace.new.machine e _ c.in_ok-trace.ensures.machine (ap length c.log-number.ensures) in
     let told = c.deref.ensures.value ∙ c.in_ok-trace.ensures.facts ∙ ap (λ (l : List Fact). l ++ trace_of m.setting (past_of m) e) c.clear.ensures.items in
     let turn = c.in_ok-turn.ensures.turn m c.trace.new.machine e c.requires.followed.sequences (c.seen_after-passed.ensures m made c.seen_ahead-ahead.ensures) in
     c.in_ok-push_within.ensures
