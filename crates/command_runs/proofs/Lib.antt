@@ -1,4 +1,5 @@
 mod Chosen
+mod Hundreds
 mod LineParts
 mod NextLines
 mod OutputTexts

@@ -4,6 +4,7 @@
 mod acts;
 mod gather;
 mod inspecting;
+mod line_numbers;
 mod output;
 mod pairs;
 mod rounds;

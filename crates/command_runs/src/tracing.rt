@@ -30,6 +30,7 @@ ghost use Rattle.outcomes.specs.Runs.{IsWholePlay};
 ghost use Rattle.outcomes.specs.Traces as spec;
 ghost use Rattle.outcomes.specs.Traces.{ends_line, event_text, events_text, open_text, stuck_text, trace_tail, waiting_line, waiting_text};
 
+use crate::line_numbers::Hundreds;
 use crate::scripts::is_as_said;
 use crate::sequences::{push_ends, push_turn};
 use block_view::{Ahead, Ledger, Turn, ahead_of, seen_after, seen_ahead};
@@ -60,11 +61,13 @@ fn is_within(span: &LineSpan, number: usize) -> bool
     span.from as usize <= number && ends
 }
 
-/// What is followed of a log: which of its lines did what to memory, and its restartable sequences.
+/// What is followed of a log: which of its lines did what to memory, its restartable sequences, and the digits of its
+/// lines' numbers.
 #[derive(Drop)]
 struct Followed {
     lines: Lines,
     ledger: Ledger,
+    numbers: Hundreds,
 }
 
 impl Followed {
@@ -75,7 +78,11 @@ impl Followed {
     {
         let lines = Lines::new(alloc, harts)?;
         let ledger = Ledger::new(alloc, harts)?;
-        Ok(Followed { lines, ledger })
+        Ok(Followed {
+            lines,
+            ledger,
+            numbers: Hundreds::of(0),
+        })
     }
 }
 
@@ -90,27 +97,32 @@ fn is_short(entry: Entry) -> bool
 
 /// Puts the line of such an entry, and that of its number but for the newline, before the end of a line or of several.
 #[inline(always)]
-fn put_head(line: &mut LineEnd, entry: Entry, number: usize)
+fn put_head(line: &mut LineEnd, entry: Entry, numbers: &mut Hundreds, number: usize)
     requires room { length line.old ≤ 60 }
     requires hart { entry.hart.0 < 8 }
     requires exec { entry.kind ≡ Kind.Exec }
     requires digit { entry.tid.0 < 10 }
     ensures { line.new ≡ entry_text entry ++ codes "  line" ++ space ∷ decimal number ++ line.old }
 {
-    line.put_number(number as u64);
+    numbers.put(line, number as u64);
     line.put(b"  line");
     line.put(&exec_line(entry.hart, entry.tid, entry.pc));
 }
 
 /// Appends the line of an entry, and the number of that.
-fn push_head(text: &mut Vec<u8>, entry: Entry, number: usize) -> Result<(), AllocError>
+fn push_head(
+    text: &mut Vec<u8>,
+    entry: Entry,
+    numbers: &mut Hundreds,
+    number: usize,
+) -> Result<(), AllocError>
     requires { entry.hart.0 < 8 }
     ensures { OnOk result (text.new.items ≡ text.old.items ++ (entry_text entry
         ++ number_line (codes "  line") number)) }
 {
     if is_short(entry) {
         let mut line = LineEnd::newline();
-        put_head(&mut line, entry, number);
+        put_head(&mut line, entry, numbers, number);
         return line.append_to(text);
     }
     push_lines(text, &[entry])?;
@@ -144,6 +156,7 @@ fn changed_alone(facts: &[Fact]) -> Option<Changed>
 fn push_short(
     text: &mut Vec<u8>,
     entry: Entry,
+    numbers: &mut Hundreds,
     number: usize,
     changed: Changed,
 ) -> Result<(), AllocError>
@@ -156,7 +169,7 @@ fn push_short(
     let mut line = LineEnd::newline();
     put_changed(&mut line, changed.number, changed.value);
     line.put(b"\n");
-    put_head(&mut line, entry, number);
+    put_head(&mut line, entry, numbers, number);
     line.append_to(text)
 }
 
@@ -164,6 +177,7 @@ fn push_short(
 fn push_told(
     text: &mut Vec<u8>,
     entry: Entry,
+    numbers: &mut Hundreds,
     number: usize,
     facts: &[Fact],
 ) -> Result<(), AllocError>
@@ -173,10 +187,10 @@ fn push_told(
 {
     if is_short(entry) {
         if let Some(changed) = changed_alone(facts) {
-            return push_short(text, entry, number, changed);
+            return push_short(text, entry, numbers, number, changed);
         }
     }
-    push_head(text, entry, number)?;
+    push_head(text, entry, numbers, number)?;
     push_facts(text, facts)
 }
 
@@ -185,6 +199,7 @@ fn push_told(
 fn push_event(
     text: &mut Vec<u8>,
     entry: Entry,
+    numbers: &mut Hundreds,
     number: usize,
     facts: &[Fact],
     turn: Option<Turn>,
@@ -193,7 +208,7 @@ fn push_event(
     ensures { OnOk result (text.new.items ≡ text.old.items ++ (entry_text entry
         ++ number_line (codes "  line") number ++ facts_text facts.now ++ turn_text turn)) }
 {
-    push_told(text, entry, number, facts)?;
+    push_told(text, entry, numbers, number, facts)?;
     push_turn(text, turn)?;
     Ok(())
 }
@@ -203,6 +218,7 @@ fn push_within(
     text: &mut Vec<u8>,
     span: &LineSpan,
     entry: Entry,
+    numbers: &mut Hundreds,
     number: usize,
     facts: &[Fact],
     turn: Option<Turn>,
@@ -215,7 +231,7 @@ fn push_within(
     if !is_within(span, number) {
         return Ok(());
     }
-    push_event(text, entry, number, facts, turn)?;
+    push_event(text, entry, numbers, number, facts, turn)?;
     Ok(())
 }
 
@@ -249,7 +265,16 @@ fn push_made(
     let entry = made.entry;
     let passed = seen_after(machine, entry, made.ahead);
     let turn = followed.ledger.follow(&passed)?;
-    push_within(text, span, entry, machine.log().len(), facts, turn)?;
+    let number = machine.log().len();
+    push_within(
+        text,
+        span,
+        entry,
+        &mut followed.numbers,
+        number,
+        facts,
+        turn,
+    )?;
     Ok(())
 }
 

@@ -35,7 +35,7 @@ returns-clause-followed c m x = record {
 pub returns-clause-text : goal.returns-clause-text
 returns-clause-text c m x =
     let e = c.args.made.now.entry in
-    let line = line_is m c.args.machine.now e _ x.made.longer (ap length c.log.ensures) in
+    let line = line_is m c.args.machine.now e _ x.made.longer (ap length c.log-number.ensures) in
     let turn = c.in_ok-turn.ensures.turn m c.args.machine.now e x.sequences (c.seen_after-passed.ensures m x.made x.ahead) in
     c.in_ok-push_within.ensures
     ∙ ap (λ (l : List ℕ). c.args.text.now.items ++ l) (event_told c.args.span.now m.setting (past_of m) e _ _ c.in_ok-turn.turn line x.told turn)
