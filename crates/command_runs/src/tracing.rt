@@ -584,13 +584,16 @@ fn make_line(
         (λ fault. line_fault machine.old.setting machine.old.log (Some (ask_of line.now)) ≡ Some fault)) }
 {
     facts.clear();
-    if let Some(made) = make_freely(facts, machine, line)? {
-        if is_as_said(line.check, made.entry) {
-            return Ok(Ok(made));
+    match make_freely(facts, machine, line)? {
+        Some(made) => {
+            if is_as_said(line.check, made.entry) {
+                Ok(Ok(made))
+            } else {
+                Ok(Err(LineFault::Differs(made.entry)))
+            }
         }
-        return Ok(Err(LineFault::Differs(made.entry)));
+        None => make_due(alloc, facts, machine, lines, line),
     }
-    make_due(alloc, facts, machine, lines, line)
 }
 
 /// Plays the next line of a script, and appends what is told of its event, where its line is told; false where

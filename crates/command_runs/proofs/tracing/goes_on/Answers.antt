@@ -1,4 +1,5 @@
-use Rattle.std.proofs.Common.{◌||◌, Option, ap, is_some, leb, length, lt-leb, sym, ◌∙◌}
+use Rattle.std.proofs.Common.{◌||◌, Option, ap, is_some, leb, length, sym, ◌∙◌}
+use Rattle.std.proofs.lemmas.Bool.{lt-leb}
 use Rattle.mach_types.specs.declared.limits.End.{End}
 use Rattle.block_model.specs.Choosing.{has_ended}
 use Rattle.block_model.proofs.Laws.{is_open}

@@ -20,20 +20,20 @@ pub make_line-requires-clause-lines : goal.make_line-requires-clause-lines
 make_line-requires-clause-lines c = c.requires.told.followed.lines
 
 pub push_made-requires-clause-limits : goal.push_made-requires-clause-limits
-push_made-requires-clause-limits c = subst (λ (z : Seen). InRange z.setting.limits) (sym c.in-Ok-made.ensures.made.made.longer) c.requires.limits
+push_made-requires-clause-limits c = subst (λ (z : Seen). InRange z.setting.limits) (sym (rw c.in-Ok.is at c.in_ok-made-in-Ok-Some.ensures.made).made.longer) c.requires.limits
 
 pub push_made-requires-clause-made : goal.push_made-requires-clause-made
 push_made-requires-clause-made c =
     let m = c.args.machine.now in
-    (m, next_of_line m c.make_line.new.machine c.in-Ok-Some.line _ c.in-Ok-made.made _ c.requires.told.run c.requires.told.followed.sequences c.in-Ok-made.ensures.made)
+    (m, next_of_line m c.make_line.new.machine c.in-Ok-Some.line _ c.in-Ok.made _ c.requires.told.run c.requires.told.followed.sequences (rw c.in-Ok.is at c.in_ok-made-in-Ok-Some.ensures.made))
 
 pub returns-in_ok-push_made-in-Ok-clause-setting : goal.returns-in_ok-push_made-in-Ok-clause-setting
-returns-in_ok-push_made-in-Ok-clause-setting c = ap (λ (m : Seen). m.setting) c.in-Ok-made.ensures.made.made.longer
+returns-in_ok-push_made-in-Ok-clause-setting c = ap (λ (m : Seen). m.setting) (rw c.in-Ok.is at c.in_ok-made-in-Ok-Some.ensures.made).made.longer
 
 pub returns-in_ok-push_made-in-Ok-clause-playing : goal.returns-in_ok-push_made-in-Ok-clause-playing
 returns-in_ok-push_made-in-Ok-clause-playing c =
     let m = c.args.machine.now in
-    let by = c.in-Ok-made.ensures.made in
+    let by = (rw c.in-Ok.is at c.in_ok-made-in-Ok-Some.ensures.made) in
     goes_on c.args.script.now m c.make_line.new.machine c.in-Ok-Some.line c.args.reader.now c.next_line.new.self c.requires.playing
     (sym c.next_line.ensures.answer ∙ c.in-Ok-Some.is ∙ ap Ok c.in-Ok-Some.field-0-is) c.next_line.ensures.left
     (ap (λ (z : Seen). z.setting) by.made.longer)
@@ -42,22 +42,22 @@ returns-in_ok-push_made-in-Ok-clause-playing c =
 pub returns-in_ok-push_made-in-Ok-clause-told : goal.returns-in_ok-push_made-in-Ok-clause-told
 returns-in_ok-push_made-in-Ok-clause-told c =
     let m = c.args.machine.now in
-    let by = c.in-Ok-made.ensures.made in
-    let given = next_of_line m c.make_line.new.machine c.in-Ok-Some.line _ c.in-Ok-made.made _ c.requires.told.run c.requires.told.followed.sequences by in
-    told_longer c.args.span.now m c.make_line.new.machine c.in-Ok-made.made.entry c.args.followed.now c.push_made.new.followed
+    let by = (rw c.in-Ok.is at c.in_ok-made-in-Ok-Some.ensures.made) in
+    let given = next_of_line m c.make_line.new.machine c.in-Ok-Some.line _ c.in-Ok.made _ c.requires.told.run c.requires.told.followed.sequences by in
+    told_longer c.args.span.now m c.make_line.new.machine c.in-Ok.made.entry c.args.followed.now c.push_made.new.followed
     c.args.text.now.items c.push_made.new.text.items c.requires.told by.made.longer by.made.block_run
     (c.in_ok-push_made.ensures.followed m given) (c.in_ok-push_made.ensures.text m given)
 
-pub returns-in-Err-make_line-clause-refused : goal.returns-in-Err-make_line-clause-refused
-returns-in-Err-make_line-clause-refused c =
-    first_bad_at c.args.script.now c.args.machine.now _ c.in-Err-make_line.fault c.log.ensures
-    (refused_here c.args.script.now c.args.machine.now c.in-Ok-Some.line c.args.reader.now
-    c.in-Err-make_line.fault c.requires.playing
-    (sym c.next_line.ensures.answer ∙ c.in-Ok-Some.is ∙ ap Ok c.in-Ok-Some.field-0-is)
-    c.in-Err-make_line.ensures.refused)
-
 pub returns-in-Err-clause-refused : goal.returns-in-Err-clause-refused
 returns-in-Err-clause-refused c =
+    first_bad_at c.args.script.now c.args.machine.now _ c.in-Err.fault c.log.ensures
+    (refused_here c.args.script.now c.args.machine.now c.in-Ok-Some.line c.args.reader.now
+    c.in-Err.fault c.requires.playing
+    (sym c.next_line.ensures.answer ∙ c.in-Ok-Some.is ∙ ap Ok c.in-Ok-Some.field-0-is)
+    (rw c.in-Err.is at c.in_ok-made-in-Ok-Some.ensures.refused))
+
+pub returns-in-Err-2-clause-refused : goal.returns-in-Err-2-clause-refused
+returns-in-Err-2-clause-refused c =
     first_bad_at c.args.script.now c.args.machine.now _ Malformed c.log.ensures
-    (malformed_here c.args.script.now c.args.machine.now c.in-Err.field-0 c.args.reader.now c.requires.playing
-    (sym c.next_line.ensures.answer ∙ c.in-Err.is))
+    (malformed_here c.args.script.now c.args.machine.now c.in-Err-2.field-0 c.args.reader.now c.requires.playing
+    (sym c.next_line.ensures.answer ∙ c.in-Err-2.is))
