@@ -7,8 +7,8 @@ use Rattle.block_model.proofs.AllowedHarts.{start_allowed}
 use Rattle.block_model.proofs.Barriers.Requests.{awaited_start}
 use Rattle.block_model.proofs.KernelTables.{tables_start, running_is, same_hart}
 use Rattle.block_model.proofs.PlaceInvariant.{IsGood, IsFit, good_here, good_next}
-use Rattle.block_model.proofs.Invariants.Instructions.{good_exec}
-use Rattle.block_model.proofs.Invariants.Events.{good_drain, good_done, good_preempt, good_run, good_signal, good_take}
+use Rattle.block_model.proofs.EventEffects.{deed_of}
+use Rattle.block_model.proofs.Invariants.EachEvent.{fit_deed}
 use Rattle.block_model.specs.Layouts.{IsLaidOut}
 use Rattle.block_model.proofs.Pages.{IsPaged, paged_start}
 
@@ -51,15 +51,13 @@ decided_is s before h c e d =
     let a = allowed_at s before h c e d in
     (ap (λ (x : Entry). x.hart.0) a.is, ap choice_of a.is ∙ choice_in c (here_in_history s before h))
 
--- the events by their kinds
+-- an event that isn't refused is fit
 pub good_of : (c : Choice) (here : Here) → IsGoodHere here → refusal_of c here ≡ None → IsFit here (done_of c here)
-good_of asked.Exec here good free = good_exec here good free
-good_of asked.Drain here good free = good_drain here good free
-good_of asked.Take here good free = good_take here good free
-good_of asked.Done here good free = good_done here good free
-good_of asked.Preempt here good free = good_preempt here good free
-good_of (asked.Run t) here good free = good_run here t.0 good free
-good_of asked.Signal here good free = good_signal here good free
+good_of c here good free =
+    let x = entry_in c here in
+    let same : choice_of x ≡ c = choice_in c here in
+    subst (λ o. IsFit here (done_of o here)) same
+    (fit_deed here x (deed_of here x.kind x) good (ap (λ o. refusal_of o here) same ∙ free))
 
 -- the machine when it starts
 good_start : (s : Setting) → IsGood s (plain_start s)

@@ -101,13 +101,11 @@ never_returns here (Some t) out free =
 
 preempts : (k : Kind) (x : Entry) (here : Here) (u : ℕ) → k ≢ kind.Signal → here.awaits ≡ None → runs here ≡ Some u
     → refusal_of (choice_with k x) here ≡ None → is_taken_in k None ≡ false → is_preempt k ≡ true
-preempts kind.Exec x here u other out on free isnt = absurd (false≢true (sym isnt))
-preempts kind.Drain x here u other out on free isnt = absurd (false≢true (sym isnt))
-preempts kind.Take x here u other out on free isnt = absurd (false≢true (sym isnt))
 preempts kind.Done x here u other out on free isnt = absurd (never_returns here (runs here) out free)
 preempts kind.Run x here u other out on free isnt = absurd (busy here x.tid.0 u (runs here) on free)
 preempts kind.Signal x here u other out on free isnt = absurd (other refl)
-preempts k x here u other out on free isnt = refl
+preempts kind.Preempt x here u other out on free isnt = refl
+preempts k x here u other out on free isnt = absurd (false≢true (sym isnt))
 
 module _ (s : Setting) (e : Event) (before : History) (q : Sequence) (run : IsRunHistory s (e ∷ before))
     (isnt : e.entry.kind ≢ kind.Signal) (none : e.done.interrupted ≡ None) (is : sequence_on s e.entry.hart.0 before ≡ Some q)

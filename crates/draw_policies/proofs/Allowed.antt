@@ -14,7 +14,7 @@ use Rattle.chooser.specs.Cases.{has_stores}
 use Rattle.draw_policies.specs.Acting.{can_act}
 use Rattle.draw_policies.specs.Aims.{choice_of_aim, is_due, still_due}
 use Rattle.draw_policies.specs.Beginning.{left_out, others, place_of_other, thread, thread_to_run}
-use Rattle.draw_policies.specs.Conditions.{IsAllowed, IsSettled}
+use Rattle.draw_policies.specs.Conditions.{Delivers, Drains, Executes, IsAllowed, IsSettled, Preempts, Returns, Runs, Takes}
 use Rattle.draw_policies.specs.Turns.{barrier_turn, delivers_by, draining, drains_by, freely, idle_turn, leaves_by, meant, new_aim, running_turn, takes_by, turn, turn_meaning}
 use Rattle.draw_policies.specs.Words.{drain_of, interrupt_of, place_among, thread_place}
 use Rattle.draw_policies.specs.declared.aims.Aim.{Aim}
@@ -49,20 +49,20 @@ running weights t = freely weights (asked.Run t)
 run_allowed : (weights : Weights) (seen : Sight) (threads : List ℕ) (next : Option Tid) → seen.idle ≡ true → IsAmong threads next
     → IsTurnAllowed seen threads (option_map (running weights) next)
 run_allowed weights seen threads None idle among = tt
-run_allowed weights seen threads (Some t) idle among = record { idle = idle; among = among }
+run_allowed weights seen threads (Some t) idle among = Runs t (record { idle = idle; among = among })
 
 idle_allowed : (weights : Weights) (seen : Sight) (threads : List ℕ) (next : Option Tid) (some : Bool) → seen.requested ≡ some
     → seen.idle ≡ true → has_stores seen ≡ false → IsAmong threads next
     → IsTurnAllowed seen threads (cond some (Some (freely weights asked.Take)) (option_map (running weights) next))
-idle_allowed weights seen threads next true is idle empty among = (is, empty)
+idle_allowed weights seen threads next true is idle empty among = Takes is empty
 idle_allowed weights seen threads next false is idle empty among = run_allowed weights seen threads next idle among
 
 -- a hart whose thread waits in a barrier
 barrier_allowed : (weights : Weights) (seen : Sight) (threads : List ℕ) (some : Bool) → seen.requested ≡ some
     → seen.idle ≡ false → seen.in_barrier ≡ true → has_stores seen ≡ false → (some || seen.all_taken) ≡ true
     → IsTurnAllowed seen threads (Some (cond some (freely weights asked.Take) (freely weights asked.Done)))
-barrier_allowed weights seen threads true is runs waits empty can = (is, empty)
-barrier_allowed weights seen threads false is runs waits empty can = record { runs = runs; waits = waits; over = can }
+barrier_allowed weights seen threads true is runs waits empty can = Takes is empty
+barrier_allowed weights seen threads false is runs waits empty can = Returns (record { runs = runs; waits = waits; over = can })
 
 -- what a running hart means can still be done
 abbrev IsDue : Sight → Option Aim → Type 0
@@ -95,9 +95,9 @@ either_is_due seen (Some x) other a b = a
 -- a running hart that means something
 aim_allowed : (seen : Sight) (threads : List ℕ) (a : Aim) → seen.idle ≡ false → seen.in_barrier ≡ false → is_due seen a ≡ true
     → has_stores seen ≡ false → IsAllowed seen threads (choice_of_aim a)
-aim_allowed seen threads means.Preempt runs apart due empty = record { runs = runs; apart = apart; empty = empty }
-aim_allowed seen threads means.Take runs apart due empty = (due, empty)
-aim_allowed seen threads means.Signal runs apart due empty = (due, record { runs = runs; apart = apart; empty = empty })
+aim_allowed seen threads means.Preempt runs apart due empty = Preempts (record { runs = runs; apart = apart; empty = empty })
+aim_allowed seen threads means.Take runs apart due empty = Takes due empty
+aim_allowed seen threads means.Signal runs apart due empty = Delivers due (record { runs = runs; apart = apart; empty = empty })
 
 abbrev at_once : Aim → Turn
 at_once a = record { choice = choice_of_aim a; aim = None; credit = 0 }
@@ -105,7 +105,7 @@ at_once a = record { choice = choice_of_aim a; aim = None; credit = 0 }
 aimed_allowed : (seen : Sight) (threads : List ℕ) (a : Aim) (some : Bool) → has_stores seen ≡ some
     → seen.idle ≡ false → seen.in_barrier ≡ false → is_due seen a ≡ true
     → IsTurnAllowed seen threads (Some (cond some (draining (Some a)) (at_once a)))
-aimed_allowed seen threads a true is runs apart due = is
+aimed_allowed seen threads a true is runs apart due = Drains is
 aimed_allowed seen threads a false is runs apart due = aim_allowed seen threads a runs apart due is
 
 -- one that means nothing
@@ -113,10 +113,10 @@ aimless_allowed : (weights : Weights) (seen : Sight) (threads : List ℕ) (w : �
     → seen.exec_enabled ≡ may → drains_by w weights seen ≡ drains → (may || has_stores seen) ≡ true
     → IsTurnAllowed seen threads (Some (cond (may && not drains) (freely weights asked.Exec) (draining None)))
 aimless_allowed weights seen threads w true true is drained can =
-    (and_parts (has_stores seen) (ltb (drain_of w) weights.drain) drained).0
-aimless_allowed weights seen threads w true false is drained can = is
-aimless_allowed weights seen threads w false true is drained can = can
-aimless_allowed weights seen threads w false false is drained can = can
+    Drains (and_parts (has_stores seen) (ltb (drain_of w) weights.drain) drained).0
+aimless_allowed weights seen threads w true false is drained can = Executes is
+aimless_allowed weights seen threads w false true is drained can = Drains can
+aimless_allowed weights seen threads w false false is drained can = Drains can
 
 meaning_allowed : (weights : Weights) (seen : Sight) (threads : List ℕ) (w : ℕ) (a : Option Aim) → IsDue seen a
     → seen.idle ≡ false → seen.in_barrier ≡ false → (seen.exec_enabled || has_stores seen) ≡ true

@@ -5,6 +5,7 @@ use Rattle.std.specs.List.{list_any}
 use Rattle.mach_types.specs.declared.events.Choice.{Choice}
 use Rattle.mach_types.specs.declared.events.Choice.TheVariants as asked
 use Rattle.mach_types.specs.declared.events.Sight.{Sight}
+use Rattle.mach_types.specs.declared.events.Tid.{Tid}
 use Rattle.chooser.specs.Cases.{has_stores}
 
 -- a running thread that waits in no barrier, on a hart no store of which waits
@@ -25,14 +26,14 @@ pub record IsStartable (seen : Sight) (threads : List ℕ) (t : ℕ) : Type 0 wh
   pub among : list_any (λ u. u == t) threads ≡ true
 
 -- an event that is allowed, where these threads may begin to run on the hart
-abbrev pub IsAllowed : Sight → List ℕ → Choice → Type 0
-IsAllowed seen threads asked.Exec = seen.exec_enabled ≡ true
-IsAllowed seen threads asked.Drain = has_stores seen ≡ true
-IsAllowed seen threads asked.Take = (seen.requested ≡ true) × (has_stores seen ≡ false)
-IsAllowed seen threads asked.Done = IsReturnable seen
-IsAllowed seen threads asked.Preempt = IsInterruptible seen
-IsAllowed seen threads (asked.Run t) = IsStartable seen threads t.0
-IsAllowed seen threads asked.Signal = (seen.deliverable ≡ true) × IsInterruptible seen
+pub data IsAllowed (seen : Sight) (threads : List ℕ) : Choice → Type 0 where
+  Executes : seen.exec_enabled ≡ true → IsAllowed seen threads asked.Exec
+  Drains : has_stores seen ≡ true → IsAllowed seen threads asked.Drain
+  Takes : seen.requested ≡ true → has_stores seen ≡ false → IsAllowed seen threads asked.Take
+  Returns : IsReturnable seen → IsAllowed seen threads asked.Done
+  Preempts : IsInterruptible seen → IsAllowed seen threads asked.Preempt
+  Runs : (t : Tid) → IsStartable seen threads t.0 → IsAllowed seen threads (asked.Run t)
+  Delivers : seen.deliverable ≡ true → IsInterruptible seen → IsAllowed seen threads asked.Signal
 
 -- a hart of which this is seen has no store waiting where it is idle or its thread waits in a barrier
 pub record IsSettled (seen : Sight) : Type 0 where

@@ -8,6 +8,7 @@ use Rattle.std.proofs.lemmas.Option.{slice_get-get_or}
 use Rattle.mach_types.specs.declared.events.Sight.{Sight}
 use Rattle.chooser.specs.Cases.{has_stores}
 use Rattle.draw_policies.specs.Aims.{still_due}
+use Rattle.draw_policies.specs.Conditions.{Drains, Executes}
 use Rattle.draw_policies.specs.Words.{hart_place, stay_of}
 use Rattle.draw_policies.specs.declared.turns.Turn.{Turn}
 use Rattle.draw_policies.proofs.Laws.{place_among-below, turn-allowed, turn-comes}
@@ -74,7 +75,7 @@ one_fits scene d actor true settled below can =
     let w = next_word d in
     turn_fits scene d h w (λ (t : Turn). lots_after scene actor h t.choice (after_word d)) (turn_at scene d h w) settled below
     (and_parts (is_able scene d.opened h) (may_act scene d h) can).0 refl
-one_fits scene d actor false settled below can = record { within = below; allowed = can }
+one_fits scene d actor false settled below can = record { within = below; allowed = Drains can }
 
 itself : (b acts stores : Bool) → b ≡ true → cond b acts stores ≡ true → acts ≡ true
 itself true acts stores is can = can
@@ -110,7 +111,7 @@ credit_allows scene d is =
 -- whatever is drawn
 any_fits : (scene : Scene) (d : Drawing) (credit priority : Bool) → goes_on scene d ≡ credit → IsFor scene.harts d → AreSettled scene
     → Fits scene d (cond credit (Some (on_credit d)) (cond priority (drawn_by_priority scene d) (drawn_by_word scene d)))
-any_fits scene d true priority is ready settled = record { within = ready.last; allowed = credit_allows scene d is }
+any_fits scene d true priority is ready settled = record { within = ready.last; allowed = Executes (credit_allows scene d is) }
 any_fits scene d false true is ready settled =
     actor_fits scene d (leader (is_enabled scene d.opened d.aims) d.lots.priorities (actors scene.harts)) settled
     (leader_passes (is_enabled scene d.opened d.aims) d.lots.priorities (actors scene.harts))

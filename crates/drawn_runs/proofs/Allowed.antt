@@ -119,4 +119,4 @@ drawn_is_allowed s m log x some few run is =
     draw-allowed (scene_at s before) d x (drawing_is_for s m before some few) (scene_settled s log run) place.1 in
     decided_open s before x.hart x.choice opened.0 opened.1 fits.within
     ∙ ap (unless (entry_in x.choice here))
-    (allowed_is_free here d.opened (ran x.hart before) x.choice (good_place s log x.hart run fits.within) fits.allowed)
+    (allowed_is_free here d.opened (ran x.hart before) (good_place s log x.hart run fits.within) fits.allowed)

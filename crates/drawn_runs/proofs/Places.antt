@@ -1,5 +1,5 @@
 -- What a policy may let a hart do, by what is seen of it at a good place, isn't refused there.
-use Rattle.std.proofs.Common.{◌≡◌, ℕ, ◌%◌, ◌^◌, ◌<◌, ◌||◌, Bool, true, false, eqb, ltb, List, [], ◌∷◌, length, Option, Some, None, is_none, is_some, refl, sym, ap, ◌∙◌, subst}
+use Rattle.std.proofs.Common.{◌≡◌, ℕ, ◌%◌, ◌^◌, ◌<◌, ◌||◌, Bool, true, false, eqb, ltb, List, [], length, Option, Some, None, is_none, is_some, refl, sym, ap, ◌∙◌, subst}
 use Rattle.std.specs.List.{list_any}
 use Rattle.std.proofs.lemmas.Bool.{and_parts, eqb-true, false≢true}
 use Rattle.std.proofs.lemmas.Map.Views.{any-filter_same}
@@ -10,7 +10,7 @@ use Rattle.mach_types.specs.declared.events.Choice.{Choice}
 use Rattle.mach_types.specs.declared.events.Choice.TheVariants as asked
 use Rattle.mach_types.specs.declared.events.Entry.{Entry}
 use Rattle.mach_types.specs.declared.user_memory.Store.{Store}
-use Rattle.draw_policies.specs.Conditions.{IsAllowed, IsInterruptible, IsSettled}
+use Rattle.draw_policies.specs.Conditions.{Delivers, Drains, Executes, IsAllowed, IsInterruptible, IsSettled, Preempts, Returns, Runs, Takes}
 use Rattle.drawings.specs.Scenes.{may_begin, startable}
 use Rattle.block_model.specs.Deciding.{history}
 use Rattle.block_model.specs.Events.{refusal_of}
@@ -82,9 +82,9 @@ delivery_free : (here : Here) (signal : Option ℕ) → is_some signal ≡ true 
 delivery_free here None some none = absurd (false≢true some)
 delivery_free here (Some signal) some none = ap unless_waiting none
 
-signal_free : (here : Here) (t : ℕ) → runs here ≡ Some t → here.awaits ≡ None → waiting_here here ≡ []
-    → is_deliverable_on here (runs here) ≡ true → refusal_of asked.Signal here ≡ None
-signal_free here t busy apart none some =
+signal_free : (here : Here) → is_deliverable_on here (runs here) ≡ true → (t : ℕ) → runs here ≡ Some t → here.awaits ≡ None
+    → waiting_here here ≡ [] → refusal_of asked.Signal here ≡ None
+signal_free here some t busy apart none =
     let next = next_for t here.kernel.signals in
     ap (refusal_signal_by here) busy ∙ ap (λ (o : Option ℕ). unless_in_barrier o (refusal_delivery here next)) apart
     ∙ delivery_free here next (sym (ap (is_deliverable_on here) busy) ∙ some) none
@@ -97,19 +97,18 @@ interrupted_free here since c may free =
     let thread = some_is (runs here) may.runs in
     free thread.0 thread.1 (none_is_not here.awaits may.apart) (none_waits (waiting_here here) may.empty)
 
-pub allowed_is_free : (here : Here) (opened since : ℕ) (c : Choice) → IsGoodHere here
+pub allowed_is_free : (here : Here) (opened since : ℕ) {c : Choice} → IsGoodHere here
     → IsAllowed (sight_in here since 0) (startable opened here.hart (by_number here.kernel)) c → refusal_of c here ≡ None
-allowed_is_free here opened since asked.Exec good may = none_is (refusal_exec here) may
-allowed_is_free here opened since asked.Drain good may = drain_free (waiting_here here) may
-allowed_is_free here opened since asked.Take good may = take_free here may.0 (none_waits (waiting_here here) may.1)
-allowed_is_free here opened since asked.Done good may =
+allowed_is_free here opened since good (Executes may) = none_is (refusal_exec here) may
+allowed_is_free here opened since good (Drains may) = drain_free (waiting_here here) may
+allowed_is_free here opened since good (Takes may empty) = take_free here may (none_waits (waiting_here here) empty)
+allowed_is_free here opened since good (Returns may) =
     let thread = some_is (runs here) may.runs in
     ap (refusal_done_by here) thread.1 ∙ return_free here.awaits may.over
-allowed_is_free here opened since asked.Preempt good may =
-    interrupted_free here since asked.Preempt may (λ t busy apart none. leave_free here t busy apart none)
-allowed_is_free here opened since (asked.Run t) good may = run_free here opened t.0 (none_is (runs here) may.idle) may.among
-allowed_is_free here opened since asked.Signal good may =
-    interrupted_free here since asked.Signal may.1 (λ t busy apart none. signal_free here t busy apart none may.0)
+allowed_is_free here opened since good (Preempts may) = interrupted_free here since asked.Preempt may (leave_free here)
+allowed_is_free here opened since good (Runs t may) = run_free here opened t.0 (none_is (runs here) may.idle) may.among
+allowed_is_free here opened since good (Delivers some may) =
+    interrupted_free here since asked.Signal may (signal_free here some)
 
 -- and no store of a hart waits that is idle, or whose thread waits in a barrier
 empty_has_none : (stores : List Store) → stores ≡ [] → ltb 0 (length stores) ≡ false

@@ -6,6 +6,7 @@ mod Halves
 mod HartsApart
 mod InsideWrites
 mod OthersEvents
+mod OwnDeeds
 mod OwnRuns
 mod OwnSteps
 mod PairCalls

@@ -8,8 +8,8 @@ use Rattle.shared_procs.proofs.Common.{◌≡◌, ◌≢◌, inl, inr, ℕ, Bool
 use Rattle.shared_procs.proofs.Halves.{by_process, each_half}
 use Rattle.shared_procs.proofs.HartsApart.{RunsOne, apart, event_of, was_idle}
 use Rattle.shared_procs.proofs.InsideWrites.{AreInside}
+use Rattle.shared_procs.proofs.OwnDeeds.{is_run}
 use Rattle.shared_procs.proofs.OwnSteps.{closed, others_stay, own_state, takes_alone}
-use Rattle.shared_procs.proofs.SameEvents.{is_run}
 
 -- WHOSE AN ENTRY IS
 

@@ -6,11 +6,12 @@ use Rattle.shared_procs.proofs.BarrierReturns.{goes_on_to, history_more, run_bef
 use Rattle.shared_procs.proofs.Halves.{own_half}
 use Rattle.shared_procs.proofs.HartsApart.{apart, event_of}
 use Rattle.shared_procs.proofs.OthersEvents.{kind_is, made, not_own, own_acts, own_runs}
+use Rattle.shared_procs.proofs.OwnDeeds.{is_run}
 use Rattle.shared_procs.proofs.OwnSteps.{closed, closed_alike, own_next, own_next_is, own_state, same_process, where_one_runs}
 use Rattle.shared_procs.proofs.PairPremises.{lies_inside, no_area}
 use Rattle.shared_procs.proofs.PrivateReservations.{private}
 use Rattle.shared_procs.proofs.SameCalls.{Around, beside}
-use Rattle.shared_procs.proofs.SameEvents.{is_run, own_done, own_part}
+use Rattle.shared_procs.proofs.SameEvents.{own_done, own_part}
 
 -- AN OWN EVENT IN BOTH
 
@@ -80,7 +81,7 @@ module _ (s s' : PairSetting) (p : Bool) (m m' : Pair) (same : setting s p ≡ s
       let place = here_in_plain (setting s p) (own_state x) h in
       let learnt = subst (λ k. learnt_of k (here_two s m p h) ≡ learnt_of k (beside place there)) (sym (kind_is its its.kind))
       (learns ∙ ap (λ z. learnt_of its.kind (beside z there)) place_is) in
-      let done = own_done place (around s m p h) there c areas (λ other. reserved_is (runs other)) learnt
+      let done = own_done place (around s m p h) there areas c (λ other. reserved_is (runs other)) learnt
       (waits ∙ ap (λ z. is_some (done_of c (beside z there)).barrier) place_is)
       ∙ ap (λ z. own_part (done_of c (beside z there))) (sym place_is) in
       let all = closed_alike s.limits.harts (done_of c (here_two s m p h)) (done_of c (here_two s' m' p h)) x y are done

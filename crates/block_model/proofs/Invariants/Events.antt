@@ -1,13 +1,11 @@
 -- Events other than instructions are fit: what each does where it is not refused keeps what holds at each place of a run.
-use Rattle.block_model.proofs.Common.{◌≡◌, ℕ, ◌≤◌, List, [], ◌++◌, drop, sym, ap, ◌∙◌, subst, arith, None, ◌∷◌, refl, Bool, true, false, cond, eqb, Option, Some, ◌≢◌, AllByRecursion, Done, Here, IsGoodHere, IsTables, MayEnter, NoRequest, NotAllowed, NotReady, Outcome, Pages, Ready, Saved, Scheduling, Store, Targets, Threads, Why, action_of, affinity_of, done_done, done_done_by, done_drain_of, done_killed, done_next, done_preempt_by, done_run, done_running, done_signal, done_signal_by, done_take, done_take_by, eqb-true, file_interrupted, files_interrupted, handled_unless_killed, handler_file, has_hart, interruption_here, is_ready, kills, left, lives_on, ne_eqb, next_for, on, only_took, refusal_delivery, refusal_done_by, refusal_drain_of, refusal_preempt_by, refusal_return, refusal_run, refusal_run_by, refusal_signal, refusal_signal_by, refusal_take, running_on, runs, signals_handled, signals_taken, state_of, took_and_interrupted, unless_in_barrier, unless_waiting, waiting_here, with_register}
+use Rattle.block_model.proofs.Common.{◌≡◌, ℕ, ◌≤◌, List, [], ◌++◌, drop, sym, ap, ◌∙◌, subst, arith, None, ◌∷◌, refl, Bool, true, false, cond, eqb, Option, Some, ◌≢◌, AllByRecursion, Done, Here, IsGoodHere, IsTables, Killed, MayEnter, NoRequest, NotAllowed, NotReady, Outcome, Pages, Ready, Saved, Scheduling, Store, Targets, Threads, Why, action_of, affinity_of, done_done_by, done_drain_of, done_preempt_by, done_running, eqb-true, file_interrupted, files_interrupted, handled, handler_file, has_hart, is_ready, left, ne_eqb, on, refusal_done_by, refusal_preempt_by, refusal_return, refusal_run, refusal_run_by, refusal_take, running_on, runs, signals_handled, signals_taken, state_of, unless_in_barrier, unless_waiting, waiting_here, with_register}
 use Rattle.block_model.proofs.Barriers.Events.{IsFitBarriers, quiet_still, quiet_free}
-use Rattle.block_model.proofs.PlaceInvariant.{IsFit, fit_either}
+use Rattle.block_model.proofs.PlaceInvariant.{IsFit}
 use Rattle.block_model.proofs.Invariants.Calls.Conditions.{IsApart, apart_one, apart_none}
 use Rattle.block_model.proofs.Invariants.Calls.RecordSteps.{IsKept, IsMoved, kept_moved, kept_still, moved_left, kept_signalled}
 use Rattle.block_model.proofs.Pages.{IsPaged}
-use Rattle.block_model.specs.Events.Drain.{refusal_drain, done_drain}
-use Rattle.block_model.specs.Events.Finish.{refusal_done}
-use Rattle.block_model.specs.Events.Preempt.{refusal_preempt, done_preempt}
+use Rattle.block_model.specs.Events.Signal.{only_taken}
 use Rattle.block_model.specs.Kernel.{ran}
 use Rattle.mach_types.specs.declared.sequences.Outcome.TheVariants as comes_to
 use Rattle.block_model.proofs.AllowedHarts.{same_live}
@@ -48,26 +46,53 @@ module _ (here : Here) (d : Done) (good : IsGoodHere here) (no_store : d.execute
       fit_moving (kept_moved here.setting here.hart here.kernel d.kernel kept)
       (λ gone. good.idle here.hart (sym (kept.running here.hart) ∙ gone))
 
-pub good_drain : (here : Here) → IsGoodHere here → refusal_drain here ≡ None → IsFit here (done_drain here)
-good_drain here good free = go (waiting_here here) refl free
-  where
-    go : (ws : List Store) → waiting_here here ≡ ws → refusal_drain_of ws ≡ None → IsFit here (done_drain_of here ws)
-    go [] is e = cc
-    go (w ∷ ws) is e = record {
-      executed = tt;
-      few = let w = good.few in omega arith;
-      drained = rw is (omega arith);
-      idle = λ none. let bad : [] ≡ w ∷ ws = sym (good.idle here.hart none) ∙ is in absurd (cc);
-      others = λ k ne. refl;
-      apart = λ k u f ne runs. refl;
-      within = good.within;
-      paged = λ is. is;
-      given = omega arith;
-      one = omega arith;
-      barriers = quiet_still here _ refl refl refl (λ left awaits. let bad : [] ≡ w ∷ ws = sym (good.empty left awaits) ∙ is in absurd cc);
-      kernel = good.kernel;
-      held = λ is. is;
-    }
+-- a thread that waits in a barrier goes on to wait where no store comes and no thread moves
+waits_on : (here : Here) (d : Done) → IsGoodHere here → d.barrier ≡ None → d.returned ≡ false
+    → running_on here.hart d.kernel.threads ≡ runs here → d.drained ≡ 0 → d.executed ≡ [] → IsFitBarriers here d
+waits_on here d good quiet stays same no_drain no_store = record {
+  still = λ left is. record {
+    running = λ gone. good.busy left is (sym same ∙ gone);
+    empty =
+        ap (λ n. drop n (waiting_here here ++ d.executed)) no_drain ∙ ap (λ ws. waiting_here here ++ ws) no_store
+        ∙ ap (λ (ws : List Store). ws ++ []) (good.empty left is);
+  };
+  begun = λ b is. let bad : None ≡ Some b = sym quiet ∙ is in absurd cc;
+  took = λ is. stays;
+  returned = λ is. let bad : false ≡ true = sym stays ∙ is in absurd cc;
+}
+
+-- so such an event is fit, which begins no barrier and returns from none
+pub fit_staying : (here : Here) (d : Done) → IsGoodHere here → d.executed ≡ [] → d.drained ≡ 0 → d.instructions ≤ 1
+    → d.barrier ≡ None → d.returned ≡ false → IsApart here d.files → IsKept here.setting here.kernel d.kernel → IsFit here d
+fit_staying here d good no_store no_drain one quiet stays apart kept =
+    fit_keeping here d good no_store no_drain one apart
+    (waits_on here d good quiet stays (kept.running here.hart) no_drain no_store) kept
+
+-- one that leaves the record as it is
+pub fit_still : (here : Here) (d : Done) → IsGoodHere here → d.executed ≡ [] → d.drained ≡ 0 → d.instructions ≤ 1
+    → d.barrier ≡ None → d.returned ≡ false → IsApart here d.files → d.kernel ≡ here.kernel → IsFit here d
+fit_still here d good no_store no_drain one quiet stays apart same =
+    fit_staying here d good no_store no_drain one quiet stays apart
+    (subst (IsKept here.setting here.kernel) (sym same) (kept_still here.setting here.kernel good.kernel))
+
+-- the oldest store of the hart enters memory
+pub fit_drained : (here : Here) (w : Store) (ws : List Store) → IsGoodHere here → waiting_here here ≡ w ∷ ws
+    → IsFit here (done_drain_of here (w ∷ ws))
+fit_drained here w ws good is = record {
+  executed = tt;
+  few = let w = good.few in omega arith;
+  drained = rw is (omega arith);
+  idle = λ none. let bad : [] ≡ w ∷ ws = sym (good.idle here.hart none) ∙ is in absurd (cc);
+  others = λ k ne. refl;
+  apart = λ k u f ne runs. refl;
+  within = good.within;
+  paged = λ is. is;
+  given = omega arith;
+  one = omega arith;
+  barriers = quiet_still here _ refl refl refl (λ left awaits. let bad : [] ≡ w ∷ ws = sym (good.empty left awaits) ∙ is in absurd cc);
+  kernel = good.kernel;
+  held = λ is. is;
+}
 
 -- it waits for no hart any more
 pub waits_for_none : (awaits : Option ℕ) → refusal_return awaits ≡ None → awaits ≡ Some 0
@@ -78,32 +103,22 @@ waits_for_none (Some left) free = go (eqb left 0) refl free
     go true is free = ap Some (eqb-true left 0 is)
     go false is free = absurd cc
 
--- an event that no idle hart makes is fit where it is fit of the thread on its hart
-pub fit_of_thread : (here : Here) (refused : Option ℕ → Option Why) (made : Option ℕ → Done) → refused None ≢ None
-    → ((t : ℕ) → runs here ≡ Some t → refused (Some t) ≡ None → IsFit here (made (Some t))) → refused (runs here) ≡ None → IsFit here (made (runs here))
-fit_of_thread here refused made idle its = go (runs here) refl
-  where
-    go : (o : Option ℕ) → runs here ≡ o → refused o ≡ None → IsFit here (made o)
-    go None at free = absurd (idle free)
-    go (Some t) at free = its t at free
-
-pub good_done : (here : Here) → IsGoodHere here → refusal_done here ≡ None → IsFit here (done_done here)
-good_done here good = fit_of_thread here (refusal_done_by here) (done_done_by here) (λ none. cc) its_return
-  where
-    its_return : (t : ℕ) → runs here ≡ Some t → refusal_done_by here (Some t) ≡ None → IsFit here (done_done_by here (Some t))
-    its_return t at free =
-        let over = waits_for_none here.awaits free in
-        let none : waiting_here here ≡ [] = good.empty 0 over in
-        let its = record (here.file t) { file = with_register (here.file t).file 10 0 } in
-        fit_keeping here _ good refl refl (omega arith) (apart_one here t its good at) (record {
-          still = λ left is. record {
-            running = λ gone. let bad : None ≡ Some t = sym gone ∙ at in absurd cc;
-            empty = ap (λ (ws : List Store). ws ++ []) none;
-          };
-          begun = λ b is. absurd cc;
-          took = λ is. absurd cc;
-          returned = λ is. over;
-        }) (kept_still here.setting here.kernel good.kernel)
+-- the barrier of the thread returns
+pub fit_returned : (here : Here) (t : ℕ) → IsGoodHere here → runs here ≡ Some t → refusal_done_by here (Some t) ≡ None
+    → IsFit here (done_done_by here (Some t))
+fit_returned here t good at free =
+    let over = waits_for_none here.awaits free in
+    let none : waiting_here here ≡ [] = good.empty 0 over in
+    let its = record (here.file t) { file = with_register (here.file t).file 10 0 } in
+    fit_keeping here _ good refl refl (omega arith) (apart_one here t its good at) (record {
+      still = λ left is. record {
+        running = λ gone. let bad : None ≡ Some t = sym gone ∙ at in absurd cc;
+        empty = ap (λ (ws : List Store). ws ++ []) none;
+      };
+      begun = λ b is. absurd cc;
+      took = λ is. absurd cc;
+      returned = λ is. over;
+    }) (kept_still here.setting here.kernel good.kernel)
 
 pub none_waits : (ws : List Store) → unless_waiting ws ≡ None → ws ≡ []
 none_waits [] e = refl
@@ -114,12 +129,14 @@ pub out_of_barrier : (awaits : Option ℕ) (why : Option Why) → unless_in_barr
 out_of_barrier None why free = (refl, free)
 out_of_barrier (Some left) why free = absurd cc
 
-pub good_preempt : (here : Here) → IsGoodHere here → refusal_preempt here ≡ None → IsFit here (done_preempt here)
-good_preempt here good = fit_of_thread here (refusal_preempt_by here) (done_preempt_by here) (λ none. cc) (λ t at free.
+-- the thread leaves its hart
+pub fit_left : (here : Here) (t : ℕ) → IsGoodHere here → runs here ≡ Some t → refusal_preempt_by here (Some t) ≡ None
+    → IsFit here (done_preempt_by here (Some t))
+fit_left here t good at free =
     let both = out_of_barrier here.awaits (unless_waiting (waiting_here here)) free in
     let none = none_waits (waiting_here here) both.1 in
     fit_moving here _ good refl refl (omega arith) (apart_none here) (quiet_free here _ refl refl refl both.0)
-    (moved_left here.setting here.hart t here.kernel good.kernel at) (λ gone. none))
+    (moved_left here.setting here.hart t here.kernel good.kernel at) (λ gone. none)
 
 unless_not : (b : Bool) (o : Option Why) (why : Why) → cond b o (Some why) ≡ None → b ≡ true
 unless_not true o why e = refl
@@ -142,7 +159,7 @@ ready_apart harts t k u ts sc tables ready runs same =
     cc
 
 -- an interruption sets at most the file of its thread
-apart_interrupted : (here : Here) (t : ℕ) (o : Outcome) → IsGoodHere here → is_ready t here.kernel.threads ≡ true → IsApart here (files_interrupted here t o)
+pub apart_interrupted : (here : Here) (t : ℕ) (o : Outcome) → IsGoodHere here → is_ready t here.kernel.threads ≡ true → IsApart here (files_interrupted here t o)
 apart_interrupted here t (comes_to.Aborted at) good ready k u f ne runs =
     rw (ne_eqb t u (ready_apart here.setting.limits.harts t k u here.kernel.threads here.kernel.scheduling good.kernel.tables ready runs)) refl
 apart_interrupted here t outcome good ready k u f ne runs = refl
@@ -155,8 +172,9 @@ idle_free here good idle = go here.awaits refl
     go None is = refl
     go (Some left) is = absurd (good.busy left is idle)
 
-good_running : (here : Here) (t : ℕ) (o : Outcome) → IsGoodHere here → runs here ≡ None → is_ready t here.kernel.threads ≡ true → IsFit here (done_running here t o)
-good_running here t o good idle ready =
+-- a thread begins to run
+pub fit_begun : (here : Here) (t : ℕ) (o : Outcome) → IsGoodHere here → runs here ≡ None → is_ready t here.kernel.threads ≡ true → IsFit here (done_running here t o)
+fit_begun here t o good idle ready =
     let tables = good.kernel.tables in
     let harts = here.setting.limits.harts in
     let ts = here.kernel.threads in
@@ -177,47 +195,26 @@ good_running here t o good idle ready =
     })
     (λ none. let bad : None ≡ Some t = sym none ∙ ran_runs harts here.hart t ts sc tables ready idle good.lt in absurd (cc))
 
--- where the process is killed the thread doesn't begin to run, and the hart stays idle
-good_killed : (here : Here) (t : ℕ) (o : Outcome) → IsGoodHere here → runs here ≡ None → is_ready t here.kernel.threads ≡ true → IsFit here (done_killed here t o)
-good_killed here t o good idle ready =
-    fit_keeping here _ good refl refl (omega arith) (apart_interrupted here t o good ready) (quiet_free here _ refl refl refl (idle_free here good idle))
-    (kept_still here.setting here.kernel good.kernel)
-
-pub good_run : (here : Here) (t : ℕ) → IsGoodHere here → refusal_run here t ≡ None → IsFit here (done_run here t)
-good_run here t good free =
-    let p = run_ready here t free in
-    let o = interruption_here here t in
-    fit_either here (lives_on here t o) (done_running here t o) (done_killed here t o) (good_running here t o good p.0 p.1) (good_killed here t o good p.0 p.1)
-
 -- an interruption sets at most the file of its thread, which runs on the hart
 pub apart_own_interrupted : (here : Here) (t : ℕ) (o : Outcome) → IsGoodHere here → runs here ≡ Some t → IsApart here (files_interrupted here t o)
 apart_own_interrupted here t (comes_to.Aborted to) good at = apart_one here t (record (here.file t) { pc = to }) good at
 apart_own_interrupted here t outcome good at = apart_none here
 
--- the handler is entered, or the process is killed
-good_delivery : (here : Here) (t signal : ℕ) (o : Outcome) (killer : Option ℕ) → IsGoodHere here → runs here ≡ Some t → here.awaits ≡ None
-    → IsFit here (handled_unless_killed here t signal o killer)
-good_delivery here t signal o None good at free =
+-- the thread's handler is entered
+pub fit_handled : (here : Here) (t signal : ℕ) (o : Outcome) → IsGoodHere here → runs here ≡ Some t → IsFit here (handled here t signal o)
+fit_handled here t signal o good at =
     let taken = signals_taken here t signal in
     let keeps = handled_keeps t signal taken ∙ taken_keeps t signal here.kernel.signals in
-    let kept = kept_signalled here.setting (signals_handled t signal taken) here.kernel good.kernel keeps in
     let its : Saved = handler_file signal (action_of signal here.kernel.signals) (file_interrupted here t o) in
-    fit_keeping here _ good refl refl (omega arith) (apart_one here t its good at) (quiet_free here _ refl refl refl free) kept
-good_delivery here t signal o (Some killer) good at free =
-    let kept = kept_signalled here.setting (signals_taken here t signal) here.kernel good.kernel (taken_keeps t signal here.kernel.signals) in
-    fit_keeping here _ good refl refl (omega arith) (apart_own_interrupted here t o good at) (quiet_free here _ refl refl refl free) kept
+    fit_staying here _ good refl refl (omega arith) refl refl (apart_one here t its good at)
+    (kept_signalled here.setting (signals_handled t signal taken) here.kernel good.kernel keeps)
 
-good_next : (here : Here) (t : ℕ) (next : Option ℕ) → IsGoodHere here → runs here ≡ Some t → here.awaits ≡ None → refusal_delivery here next ≡ None
-    → IsFit here (done_next here t next)
-good_next here t None good at out free = cc
-good_next here t (Some signal) good at out free =
-    let o = interruption_here here t in
-    good_delivery here t signal o (kills here t signal o) good at out
-
-pub good_signal : (here : Here) → IsGoodHere here → refusal_signal here ≡ None → IsFit here (done_signal here)
-good_signal here good = fit_of_thread here (refusal_signal_by here) (done_signal_by here) (λ none. cc) (λ t at free.
-    let both = out_of_barrier here.awaits (refusal_delivery here (next_for t here.kernel.signals)) free in
-    good_next here t (next_for t here.kernel.signals) good at both.0 both.1)
+-- or the process is killed by it
+pub fit_taken : (here : Here) (t signal killer : ℕ) (o : Outcome) → IsGoodHere here → runs here ≡ Some t
+    → IsFit here (record (only_taken here t signal o) { ended = Some (Killed killer) })
+fit_taken here t signal killer o good at =
+    fit_staying here _ good refl refl (omega arith) refl refl (apart_own_interrupted here t o good at)
+    (kept_signalled here.setting (signals_taken here t signal) here.kernel good.kernel (taken_keeps t signal here.kernel.signals))
 
 -- a hart takes requests where some are pending and no store waits
 pub takes_where : (here : Here) → refusal_take here ≡ None → (eqb here.requests 0 ≡ false) × (waiting_here here ≡ [])
@@ -227,33 +224,3 @@ takes_where here free = go (eqb here.requests 0) refl free
         → (eqb here.requests 0 ≡ false) × (waiting_here here ≡ [])
     go true is free = absurd cc
     go false is free = (is, none_waits (waiting_here here) free)
-
--- a thread that waits in a barrier goes on to wait
-took_still : (here : Here) (d : Done) → IsGoodHere here → waiting_here here ≡ [] → d.barrier ≡ None → d.returned ≡ false → d.kernel ≡ here.kernel
-    → d.drained ≡ 0 → d.executed ≡ [] → IsFitBarriers here d
-took_still here d good none quiet stays same no_drain no_store = record {
-  still = λ left is. record {
-    running = λ gone. good.busy left is (ap (λ k. running_on here.hart k.threads) (sym same) ∙ gone);
-    empty = ap (λ n. drop n (waiting_here here ++ d.executed)) no_drain ∙ ap (λ ws. waiting_here here ++ ws) no_store ∙ ap (λ (ws : List Store). ws ++ []) none;
-  };
-  begun = λ b is. let bad : None ≡ Some b = sym quiet ∙ is in absurd cc;
-  took = λ is. stays;
-  returned = λ is. let bad : false ≡ true = sym stays ∙ is in absurd cc;
-}
-
-took_alone : (here : Here) → IsGoodHere here → waiting_here here ≡ [] → IsFit here (only_took here)
-took_alone here good none =
-    fit_keeping here _ good refl refl (omega arith) (apart_none here) (took_still here _ good none refl refl refl refl refl)
-    (kept_still here.setting here.kernel good.kernel)
-
-took_both : (here : Here) (t : ℕ) (o : Outcome) → IsGoodHere here → runs here ≡ Some t → waiting_here here ≡ [] → IsFit here (took_and_interrupted here t o)
-took_both here t o good at none =
-    fit_keeping here _ good refl refl (omega arith) (apart_own_interrupted here t o good at) (took_still here _ good none refl refl refl refl refl)
-    (kept_still here.setting here.kernel good.kernel)
-
-pub good_take : (here : Here) → IsGoodHere here → refusal_take here ≡ None → IsFit here (done_take here)
-good_take here good free = go here.restart (runs here) refl (takes_where here free).1
-  where
-    go : (restart : Bool) (o : Option ℕ) → runs here ≡ o → waiting_here here ≡ [] → IsFit here (done_take_by here restart o)
-    go true (Some t) at none = took_both here t (interruption_here here t) good at none
-    go restart o at none = took_alone here good none

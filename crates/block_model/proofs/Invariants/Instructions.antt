@@ -1,17 +1,19 @@
 -- An instruction.
-use Rattle.block_model.proofs.Common.{◌≡◌, ℕ, ◌+◌, ◌≤◌, List, [], ◌∷◌, refl, sym, ◌∙◌, arith, Bool, true, false, not, cond, ◌&&◌, ◌||◌, leb, ltb, Option, Some, None, length, is_some, AllByRecursion, Effect, FullBuffer, Here, IsGoodHere, MayEnter, Neighbour, Others, Pages, Regs, Store, Why, by_call, by_effect, by_outcome, call_number, called, called_here, can_write, done_exec, done_exec_by, each_byte, fault_by, fault_in, fetched, has_handler, instruction_gate, is_call, is_held, is_inside_here, is_reserved, is_storable, killed_in_call, leb-false, lies_waiting_on, lt-ltb, next_effect, next_fault, option_or, or_in_segment, others_gate, outcome, outcome_of, permission_at, reached, refusal_exec, refusal_exec_by, runs, taken_by, unless_allowed, view_of_all, waiting_here, with_pending}
+use Rattle.block_model.proofs.Common.{◌≡◌, ℕ, ◌+◌, ◌≤◌, List, [], ◌∷◌, refl, sym, ap, ◌∙◌, arith, Bool, true, false, not, cond, ◌&&◌, ◌||◌, leb, ltb, Option, Some, None, length, is_some, AllByRecursion, Effect, FullBuffer, Here, IsGoodHere, MayEnter, Neighbour, Others, Pages, Regs, Store, Why, by_call, by_outcome, call_number, called, can_write, each_byte, fault_by, fault_in, fetched, instruction_gate, is_call, is_held, is_inside_here, is_reserved, is_storable, leb-false, lies_waiting_on, lt-ltb, next_effect, next_fault, option_or, or_in_segment, others_gate, outcome, outcome_of, permission_at, reached, refusal_exec, refusal_exec_by, runs, taken_by, unless_allowed, view_of_all, waiting_here, with_pending}
 use Rattle.mach_types.specs.declared.events.Why.TheVariants.{Waiting}
 use Rattle.mach_types.specs.declared.user_memory.TheConstants.{STORE_BUFFER_CAPACITY}
 use Rattle.rv_inst.specs.declared.effects.Effect.TheVariants as effect
 use Rattle.rv_inst.specs.Class.{is_plain_store, wants_empty}
 use Rattle.rv_inst.specs.Execution.{Outcome}
-use Rattle.block_model.specs.Events.Exec.{by_fault}
+use Rattle.block_model.specs.Events.Exec.{one_instruction}
+use Rattle.block_model.specs.Kernel.{signalled}
 use Rattle.block_model.proofs.Barriers.Events.{quiet_free}
-use Rattle.block_model.proofs.PlaceInvariant.{IsFit, fit_either}
+use Rattle.block_model.proofs.EventEffects.{IsNext}
+use Rattle.block_model.proofs.PlaceInvariant.{IsFit}
 use Rattle.block_model.proofs.Invariants.Calls.Conditions.{fit_by_call, own_apart, apart_none}
-use Rattle.block_model.proofs.Invariants.Calls.RecordSteps.{kept_signalled, kept_still}
+use Rattle.block_model.proofs.Invariants.Calls.RecordSteps.{kept_signalled}
 use Rattle.block_model.proofs.Invariants.Calls.EachCall.{fit_called}
-use Rattle.block_model.proofs.Invariants.Events.{fit_keeping, fit_of_thread, out_of_barrier}
+use Rattle.block_model.proofs.Invariants.Events.{fit_staying, out_of_barrier}
 use Rattle.block_model.proofs.SignalTables.{pending_keeps}
 
 -- what a plain store executes, where it doesn't fault: one store that may enter; no other instruction executes one
@@ -46,13 +48,12 @@ room_by a b c n is few e = cc
 gate_room : (n : ℕ) (e : Effect) (faults : Bool) → n ≤ STORE_BUFFER_CAPACITY → instruction_gate n (Some e) faults ≡ None → n + cond (is_plain_store e) 1 0 ≤ STORE_BUFFER_CAPACITY
 gate_room n e faults few free = room_by _ (leb STORE_BUFFER_CAPACITY n) (is_plain_store e) n refl few free
 
--- a fault: the thread stays where it is, and a signal becomes pending for it or the process ends
-still : (here : Here) (t signal : ℕ) → IsGoodHere here → here.awaits ≡ None → IsFit here (by_fault here t signal)
-still here t signal good out =
-    let kept = kept_signalled here.setting (with_pending t signal here.kernel.signals) here.kernel good.kernel (pending_keeps t signal here.kernel.signals) in
-    fit_either here (has_handler here t signal) _ _
-    (fit_keeping here _ good refl refl (omega arith) (apart_none here) (quiet_free here _ refl refl refl out) kept)
-    (fit_keeping here _ good refl refl (omega arith) (apart_none here) (quiet_free here _ refl refl refl out) (kept_still here.setting here.kernel good.kernel))
+-- a fault that is handled: the thread stays where it is, and a signal becomes pending for it
+pub fit_fault : (here : Here) (t signal : ℕ) → IsGoodHere here
+    → IsFit here (record (one_instruction here) { kernel = signalled (with_pending t signal here.kernel.signals) here.kernel })
+fit_fault here t signal good =
+    fit_staying here _ good refl refl (omega arith) refl refl (apart_none here)
+    (kept_signalled here.setting (with_pending t signal here.kernel.signals) here.kernel good.kernel (pending_keeps t signal here.kernel.signals))
 
 plain : (here : Here) (t : ℕ) (e : Effect) → IsGoodHere here → runs here ≡ Some t → here.awaits ≡ None → IsExecuted here.beside here.kernel.pages e (outcome_of here t e) → length (waiting_here here) + cond (is_plain_store e) 1 0 ≤ STORE_BUFFER_CAPACITY → IsFit here (by_outcome here t (outcome_of here t e))
 plain here t e good at out is room = record {
@@ -95,36 +96,44 @@ pub gates : (a b : Option Why) → option_or a b ≡ None → (a ≡ None) × (b
 gates None b free = (refl, free)
 gates (Some why) b free = absurd cc
 
--- a call inside a sequence kills the process
-killed : (here : Here) → IsGoodHere here → here.awaits ≡ None → IsFit here (by_call here (killed_in_call here))
-killed here good out =
-    fit_keeping here _ good refl refl (omega arith) (apart_none here) (quiet_free here _ refl refl refl out) (kept_still here.setting here.kernel good.kernel)
+-- an instruction that is there and makes no fault: its thread waits in no barrier, and nothing else holds it up
+record IsOpen (here : Here) (t : ℕ) (e : Effect) : Type 0 where
+  pub out : here.awaits ≡ None
+  pub gate : instruction_gate (length (waiting_here here)) (Some e) false ≡ None
+  pub clear : others_gate (is_held here t) (Some e) ≡ None
 
-call_by : (here : Here) (t : ℕ) (b : Bool) → IsGoodHere here → runs here ≡ Some t → here.awaits ≡ None → waiting_here here ≡ []
-    → (not b && lies_waiting_on here.beside (taken_by (call_number here t) here t) here.waiting here.setting.limits.harts) ≡ false
-    → IsFit here (by_call here (cond b (killed_in_call here) (called here t)))
-call_by here t true good at out none clear = killed here good out
-call_by here t false good at out none clear =
-    fit_by_call here (taken_by (call_number here t) here t) (called here t) good out none clear (fit_called here t good at)
+open_where : (here : Here) (t : ℕ) (e : Effect) → IsNext here t e → refusal_exec here ≡ None → IsOpen here t e
+open_where here t e next free =
+    let own = λ (f : Option ℕ) (o : Option Effect). instruction_gate (length (waiting_here here)) o (is_some f) in
+    let others = others_gate (is_held here t) in
+    let effect = next_effect here t in
+    let fault = next_fault here t in
+    let both = out_of_barrier here.awaits (option_or (own fault effect) (others effect)) (ap (refusal_exec_by here) (sym next.at) ∙ free) in
+    let each = gates (own fault effect) (others effect) both.1 in
+    record {
+      out = both.0;
+      gate = sym (ap (λ (f : Option ℕ). own f effect) next.none ∙ ap (own None) next.is) ∙ each.0;
+      clear = sym (ap others next.is) ∙ each.1;
+    }
 
-call_or_plain : (here : Here) (t : ℕ) (e : Effect) (b : Bool) → is_call e ≡ b → IsGoodHere here → runs here ≡ Some t → here.awaits ≡ None → (is_call e ≡ true → is_held here t ≡ false) → instruction_gate (length (waiting_here here)) (Some e) false ≡ None →
-    IsExecuted here.beside here.kernel.pages e (outcome_of here t e) → IsFit here (cond b (by_call here (called_here here t)) (by_outcome here t (outcome_of here t e)))
-call_or_plain here t e true is good at out clear free done =
-    call_by here t (is_inside_here here t) good at out (none_waits (waiting_here here) e (call_wants_empty e is) free) (clear is)
-call_or_plain here t e false is good at out clear free done = plain here t e good at out done (gate_room (length (waiting_here here)) e false good.few free)
+-- a call outside of a sequence is made
+pub fit_call : (here : Here) (t : ℕ) (e : Effect) → IsGoodHere here → IsNext here t e → is_call e ≡ true → is_inside_here here t ≡ false
+    → refusal_exec here ≡ None → IsFit here (by_call here (called here t))
+fit_call here t e good next calls outside free =
+    let its = open_where here t e next free in
+    let taken = taken_by (call_number here t) here t in
+    let clear = sym (ap (λ (b : Bool). not b && lies_waiting_on here.beside taken here.waiting here.setting.limits.harts) outside)
+    ∙ call_held (is_call e) (is_held here t) its.clear calls in
+    fit_by_call here taken (called here t) good its.out (none_waits (waiting_here here) e (call_wants_empty e calls) its.gate) clear
+    (fit_called here t good next.at)
 
-fit_effect : (here : Here) (t : ℕ) (f : Option ℕ) (o : Option Effect) → IsGoodHere here → runs here ≡ Some t → here.awaits ≡ None →
-    fault_by (reached here) (is_storable here) (here.file t).pc (fetched here.setting.program.pages (here.file t).pc) o ≡ f →
-    instruction_gate (length (waiting_here here)) o (is_some f) ≡ None → others_gate (is_held here t) o ≡ None → IsFit here (by_effect here t f o)
-fit_effect here t (Some signal) o good at out fault e clear = still here t signal good out
-fit_effect here t None None good at out fault e clear = cc
-fit_effect here t None (Some x) good at out fault e clear =
-    call_or_plain here t x (is_call x) refl good at out (call_held (is_call x) (is_held here t) clear) e (executed_by here.beside here.kernel.pages (reached here) (view_of_all here) (here.file t).file (here.file t).pc here.reserved x fault)
-
-pub good_exec : (here : Here) → IsGoodHere here → refusal_exec here ≡ None → IsFit here (done_exec here)
-good_exec here good = fit_of_thread here (refusal_exec_by here) (done_exec_by here) (λ none. cc) (λ t at free.
-    let gate = instruction_gate (length (waiting_here here)) (next_effect here t) (is_some (next_fault here t)) in
-    let held = others_gate (is_held here t) (next_effect here t) in
-    let both = out_of_barrier here.awaits (option_or gate held) free in
-    let open_gates = gates gate held both.1 in
-    fit_effect here t (next_fault here t) (next_effect here t) good at both.0 refl open_gates.0 open_gates.1)
+-- another instruction is executed
+pub fit_executed : (here : Here) (t : ℕ) (e : Effect) → IsGoodHere here → IsNext here t e → refusal_exec here ≡ None
+    → IsFit here (by_outcome here t (outcome_of here t e))
+fit_executed here t e good next free =
+    let its = open_where here t e next free in
+    let its_file = here.file t in
+    let fault = fault_by (reached here) (is_storable here) its_file.pc (fetched here.setting.program.pages its_file.pc) in
+    plain here t e good next.at its.out
+    (executed_by here.beside here.kernel.pages (reached here) (view_of_all here) its_file.file its_file.pc here.reserved e (sym (ap fault next.is) ∙ next.none))
+    (gate_room (length (waiting_here here)) e false good.few its.gate)
