@@ -254,7 +254,7 @@ pub fn seen_ahead(machine: &Machine, entry: Entry) -> Ahead
 }
 
 /// What is seen of a hart ahead of an event of this kind.
-fn ahead_of(machine: &Machine, hart: Hart, kind: Kind) -> Ahead
+pub fn ahead_of(machine: &Machine, hart: Hart, kind: Kind) -> Ahead
     requires { hart.0 < machine.now.setting.limits.harts }
     ensures { IsAheadOf machine.now hart.0 kind result }
 {

@@ -1,5 +1,5 @@
 -- A log is told, entry by entry, as it is made, or made again.
-use Rattle.std.proofs.Common.{◌≡◌, ℕ, ◌+◌, ◌<◌, List, [], ◌∷◌, ◌++◌, length, take, drop, get_or, ◌≤◌, refl, sym, ap, ◌∙◌, subst, arith, cond, Ok, append_assoc, append-nil, length-append, Option, Some, None, take_all}
+use Rattle.std.proofs.Common.{◌≡◌, ℕ, ◌+◌, ◌<◌, List, [], ◌∷◌, ◌++◌, length, take, drop, get_or, ◌≤◌, refl, sym, ap, ◌∙◌, subst, arith, Bool, true, false, cond, Ok, append_assoc, append-nil, length-append, Option, Some, None, take_all}
 use Rattle.std.specs.Prelude.{codes}
 use Rattle.std.specs.List.{flat_map, fold}
 use Rattle.std.specs.Option.{option_to_list}
@@ -8,6 +8,10 @@ use Rattle.mach_types.specs.Events.{choice_of}
 use Rattle.mach_types.specs.Limits.{InRange}
 use Rattle.mach_types.specs.declared.events.Choice.{Choice}
 use Rattle.mach_types.specs.declared.events.Entry.{Entry}
+use Rattle.mach_types.specs.declared.events.Kind.{Kind}
+use Rattle.mach_types.specs.declared.events.Kind.TheVariants as kind
+use Rattle.step_log.specs.declared.fields.Line.{Line}
+use Rattle.block_model.specs.Replay.{checked, is_as_said}
 use Rattle.block_model.specs.Deciding.{decide, event, history}
 use Rattle.block_model.specs.Events.{done_of}
 use Rattle.block_model.specs.History.{History}
@@ -16,20 +20,30 @@ use Rattle.block_model.specs.Run.{IsBlockRun}
 use Rattle.block_model.specs.Setting.{Seen, Setting}
 use Rattle.block_model.proofs.Laws.{decided_is, history-append, length-history, next_event, run_before, start_run}
 use Rattle.block_model.proofs.Swaps.Logs.{last_decided}
-use Rattle.block_view.specs.Passing.{IsMadeBy}
+use Rattle.block_view.specs.Following.{IsFollowing}
+use Rattle.block_view.specs.Ledgers.{kept_in}
+use Rattle.block_view.specs.Passing.{IsAhead, IsAheadOf, IsMadeBy}
+use Rattle.block_view.specs.declared.passing.Ahead.{Ahead}
 use Rattle.block_view.specs.Turns.{turns}
 use Rattle.block_view.specs.declared.turns.Turn.{Turn}
 use Rattle.command_words.specs.declared.commands.LineSpan.{LineSpan}
 use Rattle.event_facts.specs.Lines.{next_line}
 use Rattle.event_facts.specs.Telling.{IsDecided, past_of}
 use Rattle.event_facts.specs.Trace.{trace_of}
+use Rattle.event_facts.specs.Tied.{AreLinesOf}
 use Rattle.event_facts.specs.declared.facts.Fact.{Fact}
+use Rattle.event_facts.specs.declared.lines.Lines.{Lines}
 use Rattle.fact_text.specs.Lines.{facts_text}
 use Rattle.place_text.specs.Ends.{number_line}
 use Rattle.step_log.specs.Text.{entry_text}
+use Rattle.outcomes.specs.Programs.{ask_of}
+use Rattle.outcomes.specs.Reasons.{decided_fault, line_fault}
 use Rattle.outcomes.specs.Traces.{event_text, events_text, is_within, turn_line}
-use Rattle.command_runs.specs.Tracing.{HasTold, IsFollowed, IsTraced, turn_text}
+use Rattle.outcomes.specs.declared.reasons.LineFault.{LineFault}
+use Rattle.outcomes.specs.declared.reasons.LineFault.TheVariants.{Differs}
+use Rattle.command_runs.specs.Tracing.{HasTold, IsFollowed, IsFree, IsMadeLine, IsMadeNext, IsTraced, turn_text}
 use Rattle.command_runs.specs.declared.tracing.Followed.{Followed}
+use Rattle.command_runs.specs.declared.tracing.Made.{Made}
 
 -- ONE ENTRY
 
@@ -180,4 +194,42 @@ told_longer span m m' e x x' text text' was made run followed pushed = record {
   followed = followed;
   text = pushed ∙ ap (λ (l : List ℕ). l ++ told_of span m.setting e (past_of m)) was.text ∙ sym (one_more span m.setting m.log e)
       ∙ sym (ap (λ (z : Seen). events_text span z.setting [] z.log) made);
+}
+
+-- A LINE'S EVENT
+
+-- what is seen ahead of the instruction that a line asks for
+pub ahead_of_it : (m : Seen) (h : ℕ) (e : Entry) (ahead : Ahead) → e.hart.0 ≡ h → e.kind ≡ kind.Exec → IsAheadOf m h kind.Exec ahead → IsAhead m e ahead
+ahead_of_it m h e ahead hart is seen =
+    subst (λ n. IsAheadOf m n e.kind ahead) (sym hart) (subst (λ (k : Kind). IsAheadOf m h k ahead) (sym is) seen)
+
+module _ (m m' : Seen) (line : Line) (facts facts' : List Fact) (made : Made) (free : IsFree m m' line facts facts' made) where
+  answered : decide m.setting (past_of m) line.hart.0 line.choice ≡ Ok made.entry
+  answered = ap (decide m.setting (past_of m) line.hart.0) free.choice ∙ free.made.answer
+
+  -- it is as the line says, or isn't
+  pub free_line : (lines : Lines) → facts ≡ [] → AreLinesOf m.setting.limits.harts (past_of m) lines → is_as_said line.check made.entry ≡ true
+      → IsMadeLine m m' line [] facts' lines made
+  free_line lines empty kept said = record {
+    by_line = ap (checked line.check) answered ∙ ap (λ (b : Bool). let none : Option Entry = None in cond b (Some made.entry) none) said;
+    made = is_made m m' made.entry free.made.decided free.made.machine free.made.run;
+    lines = free.made.lines lines kept;
+    ahead = free.ahead;
+    told = free.made.told ∙ ap (λ (l : List Fact). l ++ trace_of m.setting (past_of m) made.entry) empty;
+  }
+
+  pub free_differs : is_as_said line.check made.entry ≡ false → line_fault m.setting m.log (Some (ask_of line)) ≡ Some (Differs made.entry)
+  free_differs said =
+      ap (decided_fault line.check) answered ∙ ap (λ (b : Bool). let none : Option LineFault = None in cond b none (Some (Differs made.entry))) said
+
+-- it was made, and is to be followed
+pub next_of_line : (m m' : Seen) (line : Line) (facts : List Fact) (made : Made) (x : Followed) → IsBlockRun m.setting m.log → IsFollowing m (kept_in x.ledger)
+    → IsMadeLine m m' line [] facts x.lines made → IsMadeNext m m' x made facts
+next_of_line m m' line facts made x run follows by = record {
+  made = by.made;
+  run = run;
+  lines = by.lines;
+  sequences = follows;
+  ahead = by.ahead;
+  told = by.told;
 }

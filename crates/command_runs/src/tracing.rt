@@ -1,22 +1,24 @@
 //! A trace: the lines of a run's log, below each what came of its event, and the run's end. That of a run by a
 //! script is told while the run is made.
 
-ghost use Rattle.std.specs.Prelude.{◌≡◌, ◌<◌, ◌≤◌, ◌++◌, ◌∷◌, [], Some, false, IfOk, IfErr, IfSome, IsTrue, OnOk, codes, if◌then◌else◌, length};
+ghost use Rattle.std.specs.Prelude.{◌≡◌, ◌<◌, ◌≤◌, ◌++◌, ◌∷◌, [], Some, false, true, IfOk, IfErr, IfNone, IfSome, IsTrue, OnOk, codes, if◌then◌else◌, length};
 ghost use Rattle.std.specs.List.{flat_map};
 ghost use Rattle.mach_types.specs.Limits.{InRange};
 ghost use Rattle.elf_load.specs.Images.{IsBootable};
 ghost use Rattle.block_model.specs.Deciding.{end_of, history};
 ghost use Rattle.block_model.specs.History.{kernel};
-ghost use Rattle.block_model.specs.Replay.{made_by};
+ghost use Rattle.block_model.specs.Choosing.{has_ended};
+ghost use Rattle.block_model.specs.Replay.{is_as_said, made_by};
 ghost use Rattle.block_model.specs.Run.{IsBlockRun};
 ghost use Rattle.block_model.specs.Setting.{Seen, setting_of};
 ghost use Rattle.block_view.specs.Following.{IsFollowing};
 ghost use Rattle.block_view.specs.Ledgers.{kept_in};
 ghost use Rattle.block_view.specs.Turns.{acts_left_open};
 ghost use Rattle.command_runs.specs.Playing.{IsPlaying};
-ghost use Rattle.command_runs.specs.Tracing.{HasTold, IsFollowed, IsTraced, turn_text};
+ghost use Rattle.command_runs.specs.Tracing.{HasTold, IsFollowed, IsFree, IsMadeLine, IsMadeNext, IsTraced, turn_text};
 ghost use Rattle.event_facts.specs.Lines.{next_line};
 ghost use Rattle.event_facts.specs.Telling.{IsDecided, past_of};
+ghost use Rattle.event_facts.specs.Tied.{AreLinesOf};
 ghost use Rattle.fact_text.specs.Lines.{changed_line, facts_text};
 ghost use Rattle.place_text.specs.Ends.{number_line};
 ghost use Rattle.step_log.specs.Text.{entry_text, space};
@@ -31,13 +33,13 @@ ghost use Rattle.outcomes.specs.Traces.{ends_line, event_text, events_text, open
 use crate::line_numbers::Hundreds;
 use crate::scripts::is_as_said;
 use crate::sequences::{push_ends, push_turn};
-use block_view::{Ledger, Turn, seen_after, seen_ahead};
+use block_view::{Ahead, Ledger, Turn, ahead_of, seen_after, seen_ahead};
 use command_words::LineSpan;
 use elf_load::Image;
-use event_facts::{Fact, Lines, trace};
+use event_facts::{Fact, Lines, trace, trace_freely};
 use fact_text::{push_facts, put_changed};
 use log_lines::push_lines;
-use mach_types::{End, Entry, Kind, Limits, ThreadState, Tid};
+use mach_types::{Choice, End, Entry, Kind, Limits, ThreadState, Tid};
 use machine_core::Machine;
 use outcomes::{LineFault, Reason};
 use place_text::fields::{begin_line, push_named_value};
@@ -233,6 +235,49 @@ fn push_within(
     Ok(())
 }
 
+/// An entry that was made.
+#[derive(Clone, Copy, Drop)]
+struct Made {
+    /// The entry.
+    entry: Entry,
+    /// What was seen of its hart ahead of it.
+    ahead: Ahead,
+}
+
+/// Appends what is told of an entry that a machine has made last, of which these are the facts, where its line is
+/// told; and follows it. The entry must be the first of the machine that isn't followed yet.
+fn push_made(
+    text: &mut Vec<u8>,
+    span: &LineSpan,
+    machine: &Machine,
+    followed: &mut Followed,
+    made: &Made,
+    facts: &[Fact],
+) -> Result<(), AllocError>
+    requires limits { InRange machine.now.setting.limits }
+    requires made { (m : Seen) × IsMadeNext m machine.now followed.old made.now facts.now }
+    ensures followed { (m : Seen) → IsMadeNext m machine.now followed.old made.now facts.now
+        → OnOk result (IsFollowed machine.now followed.new) }
+    ensures text { (m : Seen) → IsMadeNext m machine.now followed.old made.now facts.now
+        → OnOk result (text.new.items ≡ text.old.items ++ (if spec.is_within span.now (next_line (past_of m))
+        then event_text m.setting (past_of m) made.now.entry else [])) }
+{
+    let entry = made.entry;
+    let passed = seen_after(machine, entry, made.ahead);
+    let turn = followed.ledger.follow(&passed)?;
+    let number = machine.log().len();
+    push_within(
+        text,
+        span,
+        entry,
+        &mut followed.numbers,
+        number,
+        facts,
+        turn,
+    )?;
+    Ok(())
+}
+
 /// Makes the next entry of a log again, and appends what is told of it, where its line is told.
 fn push_next(
     alloc: Global,
@@ -258,18 +303,7 @@ fn push_next(
     facts.clear();
     let ahead = seen_ahead(machine, entry);
     trace(alloc, facts, machine, &mut followed.lines, entry)?;
-    let passed = seen_after(machine, entry, ahead);
-    let turn = followed.ledger.follow(&passed)?;
-    let number = machine.log().len();
-    push_within(
-        text,
-        span,
-        entry,
-        &mut followed.numbers,
-        number,
-        facts,
-        turn,
-    )?;
+    push_made(text, span, machine, followed, &Made { entry, ahead }, facts)?;
     Ok(())
 }
 
@@ -461,6 +495,104 @@ pub fn play_traced(
     Ok(TracedRun { machine, text })
 }
 
+/// Whether the run of a machine goes on.
+#[inline(always)]
+fn goes_on(machine: &Machine) -> bool
+    requires { IsBlockRun machine.now.setting machine.now.log }
+    ensures { IsTrue result → has_ended machine.now.setting (past_of machine.now) ≡ false }
+{
+    match machine.end() {
+        End::Unended => true,
+        End::Exit(_) | End::Killed(_) | End::Stuck | End::Limit => false,
+    }
+}
+
+/// Whether a line asks for an instruction of a hart of a machine whose run goes on.
+#[inline(always)]
+fn may_go(machine: &Machine, line: &Line) -> bool
+    requires { IsBlockRun machine.now.setting machine.now.log }
+    ensures exec { IsTrue result → line.now.choice ≡ Choice.Exec }
+    ensures hart { IsTrue result → line.now.hart.0 < machine.now.setting.limits.harts }
+    ensures goes { IsTrue result → has_ended machine.now.setting (past_of machine.now) ≡ false }
+{
+    matches!(line.choice, Choice::Exec) && line.hart.0 < machine.harts() && goes_on(machine)
+}
+
+/// Makes the event of a line, where that is an instruction that sets a register and the pc alone, as most are, and
+/// appends to the facts what came of it. None where it isn't one; then nothing is made or told.
+#[inline(always)]
+fn make_freely(
+    facts: &mut Vec<Fact>,
+    machine: &mut Machine,
+    line: &Line,
+) -> Result<Option<Made>, AllocError>
+    requires { IsBlockRun machine.old.setting machine.old.log }
+    ensures made { IfOk result (λ made. IfSome made
+        (IsFree machine.old machine.new line.now facts.old.items facts.new.items)) }
+    ensures none { IfOk result (λ made. IfNone made (machine.new ≡ machine.old)) }
+    ensures untold { IfOk result (λ made. IfNone made (facts.new.items ≡ facts.old.items)) }
+{
+    if !may_go(machine, line) {
+        return Ok(None);
+    }
+    let ahead = ahead_of(machine, line.hart, Kind::Exec);
+    match trace_freely(facts, machine, line.hart)? {
+        Some(entry) => Ok(Some(Made { entry, ahead })),
+        None => Ok(None),
+    }
+}
+
+/// Makes the event of a line, and appends to the facts what came of it; or says what is wrong with the line.
+fn make_due(
+    alloc: Global,
+    facts: &mut Vec<Fact>,
+    machine: &mut Machine,
+    lines: &mut Lines,
+    line: &Line,
+) -> Result<Result<Made, LineFault>, AllocError>
+    requires limits { InRange machine.old.setting.limits }
+    requires run { IsBlockRun machine.old.setting machine.old.log }
+    requires lines { AreLinesOf machine.old.setting.limits.harts (past_of machine.old) lines.old }
+    ensures made { IfOk result (λ r. IfOk r
+        (IsMadeLine machine.old machine.new line.now facts.old.items facts.new.items lines.new)) }
+    ensures refused { IfOk result (λ r. IfErr r
+        (λ fault. line_fault machine.old.setting machine.old.log (Some (ask_of line.now)) ≡ Some fault)) }
+{
+    match due_entry(machine, line) {
+        Ok(entry) => {
+            let ahead = seen_ahead(machine, entry);
+            trace(alloc, facts, machine, lines, entry)?;
+            Ok(Ok(Made { entry, ahead }))
+        }
+        Err(fault) => Ok(Err(fault)),
+    }
+}
+
+/// The same, by one look where the event is an instruction that sets a register and the pc alone.
+fn make_line(
+    alloc: Global,
+    facts: &mut Vec<Fact>,
+    machine: &mut Machine,
+    lines: &mut Lines,
+    line: &Line,
+) -> Result<Result<Made, LineFault>, AllocError>
+    requires limits { InRange machine.old.setting.limits }
+    requires run { IsBlockRun machine.old.setting machine.old.log }
+    requires lines { AreLinesOf machine.old.setting.limits.harts (past_of machine.old) lines.old }
+    ensures made { IfOk result (λ r. IfOk r (IsMadeLine machine.old machine.new line.now [] facts.new.items lines.new)) }
+    ensures refused { IfOk result (λ r. IfErr r
+        (λ fault. line_fault machine.old.setting machine.old.log (Some (ask_of line.now)) ≡ Some fault)) }
+{
+    facts.clear();
+    if let Some(made) = make_freely(facts, machine, line)? {
+        if is_as_said(line.check, made.entry) {
+            return Ok(Ok(made));
+        }
+        return Ok(Err(LineFault::Differs(made.entry)));
+    }
+    make_due(alloc, facts, machine, lines, line)
+}
+
 /// Plays the next line of a script, and appends what is told of its event, where its line is told; false where
 /// none is left.
 fn tell_next(
@@ -487,9 +619,9 @@ fn tell_next(
     let number = machine.log().len() as u64 + 1;
     match reader.next_line() {
         Ok(None) => Ok(false),
-        Ok(Some(line)) => match due_entry(machine, &line) {
-            Ok(entry) => {
-                push_next(alloc, text, span, machine, followed, facts, entry)?;
+        Ok(Some(line)) => match make_line(alloc, facts, machine, &mut followed.lines, &line)? {
+            Ok(made) => {
+                push_made(text, span, machine, followed, &made, facts)?;
                 Ok(true)
             }
             Err(fault) => Err(Reason::Script {

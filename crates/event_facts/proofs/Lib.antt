@@ -3,6 +3,7 @@ mod Due
 mod Entered
 mod EventDeeds
 mod FactExamples
+mod FreeFacts
 mod KernelDeeds
 mod KernelFacts
 mod KernelLosses

@@ -4,6 +4,7 @@ pub mod Cuts
 pub mod Deeds
 pub mod Facts
 pub mod Faults
+pub mod Freely
 pub mod Interruptions
 pub mod KernelEvents
 pub mod Lines

@@ -47,4 +47,4 @@ pub use places::{Before, push_after, push_before};
 pub use telling::{PlainEvent, plain_event, tell};
 pub use theorems::{lines_are_told_rightly, plain_events_are_told_by_their_facts};
 pub use threads::ThreadChange;
-pub use tracing::trace;
+pub use tracing::{trace, trace_freely};

@@ -222,7 +222,7 @@ fn register_of(event: &PlainEvent) -> u8
 }
 
 /// The value of a register of a hart's thread.
-fn register_on(machine: &Machine, hart: Hart, number: u8) -> u64
+pub(crate) fn register_on(machine: &Machine, hart: Hart, number: u8) -> u64
     requires { hart.0 < machine.now.setting.limits.harts }
     ensures { result ≡ register (registers_on machine.now hart.0) number }
 {

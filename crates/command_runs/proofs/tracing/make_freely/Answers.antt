@@ -1,0 +1,11 @@
+use Rattle.command_runs.proofs.ToldLogs.{ahead_of_it}
+use Rattle.command_runs.proofs.tracing.make_freely.Goals as goal
+
+pub returns-in-Some-clause-made : goal.returns-in-Some-clause-made
+returns-in-Some-clause-made c =
+    let free = c.in-Some.ensures in
+    record {
+      choice = c.may_go.ensures.exec c.if-may_go.true;
+      ahead = ahead_of_it c.args.machine.now c.args.line.now.hart.0 c.in-Some.entry c.ahead_of-ahead.result free.hart free.kind c.ahead_of-ahead.ensures;
+      made = free;
+    }
