@@ -143,7 +143,8 @@ fn takes_in(kind: Kind, interrupts: bool) -> bool
     }
 }
 
-/// The sequence that the thread of a hart is inside, if it is inside one. Where no thread has an area, nothing is looked at.
+/// The sequence that the thread of a hart is inside, if it is inside one. Where no thread has an area, it is
+/// inside none, and nothing else is looked at.
 pub fn inside(machine: &Machine, hart: Hart) -> Option<Seq>
     requires { hart.0 < machine.now.setting.limits.harts }
     ensures { result ≡ inside_at machine.now.setting hart.0 (history machine.now.setting machine.now.log) }

@@ -46,24 +46,24 @@ pub record IsTraced (span : LineSpan) (m : Seen) (x : Followed) (lines : List �
   pub text : lines ≡ events_text span m.setting [] m.log
 
 -- a machine made an entry next, of which these are the facts, where this is followed of its log but for the lines, which are those with it
-pub record IsMadeNext (m m' : Seen) (x : Followed) (made : Made) (facts : List Fact) : Type 0 where
-  pub made : IsMadeBy m m' made.entry
+pub record IsMadeNext (m m' : Seen) (x : Followed) (event : Made) (facts : List Fact) : Type 0 where
+  pub made : IsMadeBy m m' event.entry
   pub run : IsBlockRun m.setting m.log
   pub lines : AreLinesOf m'.setting.limits.harts (past_of m') x.lines
   pub sequences : IsFollowing m (kept_in x.ledger)
-  pub ahead : IsAhead m made.entry made.ahead
-  pub told : facts ≡ trace_of m.setting (past_of m) made.entry
+  pub ahead : IsAhead m event.entry event.ahead
+  pub told : facts ≡ trace_of m.setting (past_of m) event.entry
 
 -- it is what a line asks for and says, and was told behind other facts; and these are the lines with it
-pub record IsMadeLine (m m' : Seen) (line : Line) (facts facts' : List Fact) (lines : Lines) (made : Made) : Type 0 where
-  pub by_line : made_by m.setting m.log (ask_of line) ≡ Some made.entry
-  pub made : IsMadeBy m m' made.entry
-  pub lines : AreLinesOf m'.setting.limits.harts (past_of m') lines
-  pub ahead : IsAhead m made.entry made.ahead
-  pub told : facts' ≡ facts ++ trace_of m.setting (past_of m) made.entry
+pub record IsMadeLine (m m' : Seen) (line : Line) (facts facts' : List Fact) (kept : Lines) (event : Made) : Type 0 where
+  pub by_line : made_by m.setting m.log (ask_of line) ≡ Some event.entry
+  pub made : IsMadeBy m m' event.entry
+  pub lines : AreLinesOf m'.setting.limits.harts (past_of m') kept
+  pub ahead : IsAhead m event.entry event.ahead
+  pub told : facts' ≡ facts ++ trace_of m.setting (past_of m) event.entry
 
 -- a line asks for an instruction, which sets a register and the pc alone, and it was made
-pub record IsFree (m m' : Seen) (line : Line) (facts facts' : List Fact) (made : Made) : Type 0 where
+pub record IsFree (m m' : Seen) (line : Line) (facts facts' : List Fact) (event : Made) : Type 0 where
   pub choice : line.choice ≡ asked.Exec
-  pub ahead : IsAhead m made.entry made.ahead
-  pub made : IsMadeFreely m m' line.hart.0 facts facts' made.entry
+  pub ahead : IsAhead m event.entry event.ahead
+  pub made : IsMadeFreely m m' line.hart.0 facts facts' event.entry

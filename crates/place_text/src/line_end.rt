@@ -56,7 +56,8 @@ impl LineEnd {
         self.start = start;
     }
 
-    /// Puts the last of these bytes before it, so many. All of them are copied, which is quick where their number is known.
+    /// Puts the last of these bytes before it, so many. All of them are copied, which is quick where their
+    /// number is known.
     #[inline(always)]
     pub fn put_last(&mut self, bytes: &[u8], count: usize)
         requires count { count ≤ length bytes.now }

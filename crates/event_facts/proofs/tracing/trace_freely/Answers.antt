@@ -23,8 +23,8 @@ returns-clause-told c =
     let step = c.in-Some-step_freely.ensures in
     let next = c.in-Some.ensures.effect in
     let free = sym c.step_freely.ensures.free ∙ ap is_some c.in-Some-step_freely.is in
-    let is = plain m m' h _ _ next.0 next.1.0 c.requires.run step.answer (ap (λ k. k.0) step.of.0) step.of.1 step.log free next.1.1 in
-    freely m m' h _ _ next.0 next.1.0 c.requires.run step.answer (ap (λ k. k.0) step.of.0) step.of.1 step.log free next.1.1
+    let is = plain m m' h _ _ next.0 next.1 c.requires.run step.answer (ap (λ k. k.0) step.of.0) step.of.1 step.log free next.2 in
+    freely m m' h _ _ next.0 next.1 c.requires.run step.answer (ap (λ k. k.0) step.of.0) step.of.1 step.log free next.2
     c.args.facts.now.items c.push_if_other.new.facts.items c.register_on-before.result c.register_on-value.result
     (c.plain_events_are_told_by_their_facts.ensures m.setting (past_of m) _ _ is)
     c.register_on-before.ensures c.register_on-value.ensures c.in_ok-push_if_other.ensures
