@@ -1,9 +1,11 @@
 -- A thread that uses a block comes into the block's sequence at its start alone, and is inside it there.
-use Rattle.std.proofs.Common.{◌≡◌, ◌≢◌, ℕ, ◌+◌, ◌⊎◌, inl, inr, [], ◌∷◌, refl, sym, ap, ◌∙◌, true, cond}
-use Rattle.std.proofs.Common.{Option, Some, None, is_none}
+use Rattle.std.proofs.Common.{◌≡◌, ◌≢◌, ℕ, ◌+◌, ◌⊎◌, inl, inr, [], ◌∷◌, refl, sym, ap, ◌∙◌}
+use Rattle.std.proofs.Common.{Bool, true, false, not, ◌||◌, cond, Option, Some, None}
 use Rattle.std.specs.Option.{option_map_or}
-use Rattle.mach_types.proofs.Laws.{eqb_same}
+use Rattle.std.proofs.lemmas.Bool.{not-true}
+use Rattle.mach_types.proofs.Laws.{eqb_same, kind_back}
 use Rattle.mach_types.specs.Bytes.{word_at}
+use Rattle.mach_types.specs.Events.{choice_with, is_preempt, is_take}
 use Rattle.mach_types.specs.Kernel.Areas.{is_inside, named}
 use Rattle.mach_types.specs.Kernel.Threads.{running_on}
 use Rattle.mach_types.specs.declared.events.Kind.{Kind}
@@ -14,7 +16,8 @@ use Rattle.mach_types.specs.declared.sequences.Area.{Area}
 use Rattle.mach_types.specs.Registers.{with_register}
 use Rattle.mach_types.specs.declared.sequences.Named.TheVariants as names
 use Rattle.mach_types.specs.declared.sequences.TheConstants.{RSEQ_CS}
-use Rattle.block_model.specs.Acts.{is_taken_in, named_at}
+use Rattle.block_model.specs.Acts.{is_taken_in, named_at, takes_in}
+use Rattle.block_model.specs.Events.{done_of}
 use Rattle.block_model.specs.Events.Finish.{refusal_done_by, refusal_return}
 use Rattle.block_model.specs.Here.{Done, Here, view}
 use Rattle.block_model.specs.History.{Event, History, ended, file, file_among, here_in_history, kernel}
@@ -22,13 +25,13 @@ use Rattle.block_model.specs.History.{running}
 use Rattle.block_model.specs.Run.{IsRunHistory}
 use Rattle.block_model.specs.Sequences.{named_here}
 use Rattle.block_model.specs.Setting.{Setting}
-use Rattle.block_model.proofs.Laws.{in_no_barrier, left_idle, step_of}
+use Rattle.block_model.proofs.Laws.{in_no_barrier, interrupts_none, left_idle, may_interrupt, step_of}
 use Rattle.alone_laws.specs.Entering.{AreEntered, IsEntered}
 use Rattle.alone_laws.specs.Spans.{seen_at}
 use Rattle.alone_laws.specs.Uses.{AreUsed, HasItsArea, IsUsed, IsWellPlaced, Placed}
 use Rattle.alone_laws.proofs.Arrivals.{ComesIn, IsCode, IsSound, begins_it, came_in, done_exec_kind}
-use Rattle.alone_laws.proofs.Arrivals.{drain_exec, free_at, leaving_done, no_one, no_signal}
-use Rattle.alone_laws.proofs.Arrivals.{ran_here, return_done, run_exec, run_out, seen_word, sound, take_exec}
+use Rattle.alone_laws.proofs.Arrivals.{free_at, leaving_done, no_one, no_signal}
+use Rattle.alone_laws.proofs.Arrivals.{ran_here, return_done, run_exec, run_out, seen_word, sound}
 use Rattle.alone_laws.proofs.Arrivals.{take_quiet, was_in}
 use Rattle.alone_laws.proofs.Described.{named_good}
 use Rattle.alone_laws.proofs.Entering.{goes_there, is_open}
@@ -87,6 +90,34 @@ module _ (s : Setting) (b : Placed) (t : ℕ) (Know : ℕ → Regs → Type 0) (
             (λ start. past (same ∙ start)) in
             in_no_barrier s before own open_there.0 run.0 open_there.1
 
+    -- an event that may interrupt only by a take interrupts nothing
+    quiet : (k : Kind) → e.entry.kind ≡ k → (is_take k || not (may_interrupt k)) ≡ true
+        → running s own before ≡ Some t → In before → In (e ∷ before) → e.done.interrupted ≡ None
+    quiet kind.Take is may at inside now =
+        take_quiet s b t Know placed code e before run was used goes is at inside now
+    quiet k is may at inside now =
+        ap (λ (d : Done). d.interrupted)
+        ((step_of s e before run).did ∙ ap (λ j. done_of (choice_with j e.entry) here) is)
+        ∙ interrupts_none here (choice_with k e.entry)
+        (ap may_interrupt (kind_back k e.entry.tid) ∙ not-true (may_interrupt k) may)
+
+    -- so it is taken in, or its thread leaves by it
+    by_quiet : (k : Kind) → e.entry.kind ≡ k → (is_take k || not (may_interrupt k)) ≡ true
+        → (is_preempt k || takes_in k false) ≡ true → running s own before ≡ Some t → In before
+        → running s own (e ∷ before) ≡ Some t → In (e ∷ before) → Enters
+    by_quiet k is may either at inside now_at now = go (is_preempt k) refl either
+      where
+        go : (leaves : Bool) → is_preempt k ≡ leaves → (leaves || takes_in k false) ≡ true → Enters
+        go true leaves either =
+            let x = kernel s before in
+            let tables = (step_of s e before run).good.kernel.tables in
+            let none = left_idle s.limits.harts own t x.threads x.scheduling tables at in
+            let did = leaving_done s b t Know placed code e before run was used goes k is leaves at in
+            absurd (no_one t (sym none ∙ sym (ap (λ (d : Done). running_on own d.kernel.threads) did) ∙ now_at))
+        go false stays takes =
+            let none = quiet k is may at inside now in
+            (at, inside, ap (λ k. is_taken_in k e.done.interrupted) is ∙ ap (is_taken_in k) none ∙ takes)
+
     by_kind : running s own (e ∷ before) ≡ Some t → In (e ∷ before)
         → (file s t (e ∷ before)).pc ≢ b.range.start → (k : Kind) → e.entry.kind ≡ k → Enters
     by_kind now_at now past kind.Exec is = by_way
@@ -99,18 +130,6 @@ module _ (s : Setting) (b : Placed) (t : ℕ) (Know : ℕ → Regs → Type 0) (
           ap (λ k. is_taken_in k e.done.interrupted) is,
         )
         by_way (inr comes) = absurd (past comes.pc)
-    by_kind now_at now past kind.Drain is = (
-      ran_here s b t Know placed code e before run was used goes kind.Drain is (λ same. cc) now_at,
-      was_in s b t Know placed code e before run was used goes now (λ exec. drain_exec (sym is ∙ exec)),
-      ap (λ k. is_taken_in k e.done.interrupted) is,
-    )
-    by_kind now_at now past kind.Take is =
-        let at = ran_here s b t Know placed code e before run was used goes kind.Take is (λ same. cc) now_at
-        in
-        let inside = was_in s b t Know placed code e before run was used goes now
-        (λ exec. take_exec (sym is ∙ exec)) in
-        let quiet = take_quiet s b t Know placed code e before run was used goes is at inside now in
-        (at, inside, ap (λ k. is_taken_in k e.done.interrupted) is ∙ ap is_none quiet)
     by_kind now_at now past kind.Done is =
         let at = ran_here s b t Know placed code e before run was used goes kind.Done is (λ same. cc) now_at
         in
@@ -125,12 +144,10 @@ module _ (s : Setting) (b : Placed) (t : ℕ) (Know : ℕ → Regs → Type 0) (
         (no_signal s b t Know placed code e before run was used goes now is
         (ran_here s b t Know placed code e before run was used goes kind.Signal is (λ same. cc) now_at))
     by_kind now_at now past k is =
-        let at = ran_here s b t Know placed code e before run was used goes k is (λ same. cc) now_at in
-        let x = kernel s before in
-        let tables = (step_of s e before run).good.kernel.tables in
-        let none = left_idle s.limits.harts own t x.threads x.scheduling tables at in
-        let did = leaving_done s b t Know placed code e before run was used goes k is refl at in
-        absurd (no_one t (sym none ∙ sym (ap (λ (d : Done). running_on own d.kernel.threads) did) ∙ now_at))
+        let other : e.entry.kind ≢ kind.Exec = λ exec. let both : k ≡ kind.Exec = sym is ∙ exec in cc in
+        by_quiet k is refl refl
+        (ran_here s b t Know placed code e before run was used goes k is (λ same. cc) now_at)
+        (was_in s b t Know placed code e before run was used goes now other) now_at now
 
   pub entered : (before : History) → IsRunHistory s before → AreUsed s b t before
       → AreEntered s b.range t before

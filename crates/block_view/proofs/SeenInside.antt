@@ -1,5 +1,5 @@
 -- What is seen of a thread inside a sequence, and of how its sequence goes on: it is what is read by looking back.
-use Rattle.std.proofs.Common.{◌≡◌, ℕ, List, [], ◌∷◌, ◌&&◌, refl, sym, ap, ◌∙◌, Bool, true, false, cond, not, Option, Some, None, is_none, is_some}
+use Rattle.std.proofs.Common.{◌≡◌, ℕ, List, [], ◌∷◌, ◌&&◌, refl, sym, ap, ◌∙◌, Bool, true, false, cond, not, Option, Some, None, is_none, is_some, arith, length, map}
 use Rattle.std.specs.Option.{option_map_or}
 use Rattle.std.proofs.lemmas.Bool.{eqb-false, false≢true}
 use Rattle.mach_types.specs.Events.{choice_with, is_instruction, is_preempt}
@@ -8,6 +8,7 @@ use Rattle.mach_types.specs.declared.events.Entry.{Entry}
 use Rattle.mach_types.specs.declared.events.Kind.{Kind}
 use Rattle.mach_types.specs.declared.events.Kind.TheVariants as kind
 use Rattle.mach_types.specs.declared.limits.End.{End}
+use Rattle.mach_types.specs.declared.sequences.Area.{Area}
 use Rattle.mach_types.specs.declared.sequences.Named.{Named}
 use Rattle.mach_types.specs.declared.sequences.Named.TheVariants as names
 use Rattle.mach_types.specs.declared.sequences.Seq.{Seq}
@@ -18,7 +19,7 @@ use Rattle.block_model.specs.Events.{done_of}
 use Rattle.block_model.specs.Events.Drain.{done_drain_of}
 use Rattle.block_model.specs.Events.Take.{done_take_by}
 use Rattle.block_model.specs.Here.{Done, Here, runs, waiting_here}
-use Rattle.block_model.specs.History.{Event, History, file, file_among, here_in_history, running}
+use Rattle.block_model.specs.History.{Event, History, file, file_among, here_in_history, kernel, running}
 use Rattle.block_model.specs.Run.{IsRunHistory}
 use Rattle.block_model.specs.Sequences.{is_inside_here, named_here}
 use Rattle.block_model.specs.Setting.{Setting}
@@ -30,6 +31,21 @@ use Rattle.block_view.proofs.Made.{made_at, whole_at}
 use Rattle.block_view.proofs.Sequences.{Begins, Stays, Takes, is_from}
 
 -- INSIDE
+
+-- no thread is inside a sequence where no area is listed
+none_named : (here : Here) (o : Option ℕ) → here.kernel.areas ≡ [] → option_map_or (named_here here) o names.Nothing ≡ names.Nothing
+none_named here None none = refl
+none_named here (Some t) none = rw none refl
+
+none_of : {A B : Type 0} (f : A → B) (xs : List A) (ys : List B) → map f xs ≡ ys → length xs ≡ 0 → ys ≡ []
+none_of f [] ys is none = sym is
+none_of f (x ∷ xs) ys is none = absurd (omega (arith, none))
+
+pub none_inside : {A : Type 0} (s : Setting) (h : ℕ) (before : History) (f : A → ℕ × Area) (listed : List A)
+    → map f listed ≡ (kernel s before).areas → length listed ≡ 0 → None ≡ inside_at s h before
+none_inside s h before f listed are none =
+    let named = none_named (here_in_history s before h) (running s h before) (none_of f listed (kernel s before).areas are none) in
+    sym (ap (λ n. sequence_inside n (pc_at s h before)) named)
 
 some_if : (b : Bool) (sequence : Seq) → is_some (cond b (Some sequence) None) ≡ b
 some_if true sequence = refl

@@ -143,11 +143,15 @@ fn takes_in(kind: Kind, interrupts: bool) -> bool
     }
 }
 
-/// The sequence that the thread of a hart is inside, if it is inside one.
+/// The sequence that the thread of a hart is inside, if it is inside one. Where no thread has an area, it is
+/// inside none, and nothing else is looked at.
 pub fn inside(machine: &Machine, hart: Hart) -> Option<Seq>
     requires { hart.0 < machine.now.setting.limits.harts }
     ensures { result ≡ inside_at machine.now.setting hart.0 (history machine.now.setting machine.now.log) }
 {
+    if machine.kernel().areas.is_empty() {
+        return None;
+    }
     inside_named(machine, hart, &machine.named(hart))
 }
 
@@ -255,7 +259,10 @@ pub fn ahead_of(machine: &Machine, hart: Hart, kind: Kind) -> Ahead
     requires { hart.0 < machine.now.setting.limits.harts }
     ensures { IsAheadOf machine.now hart.0 kind result }
 {
-    named_ahead(machine, hart, kind, &machine.named(hart))
+    Ahead {
+        inside: inside(machine, hart),
+        interrupts: interrupts(machine, hart, kind),
+    }
 }
 
 /// The same, where the area of its thread names this.

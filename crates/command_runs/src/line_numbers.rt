@@ -60,7 +60,7 @@ impl Hundreds {
         self.turn_to(number / 100);
         let two = (number % 100) as u8;
         line.put(&[b'0' + two / 10, b'0' + two % 10]);
-        line.put(&self.digits[self.start..]);
+        line.put_last(&self.digits, DIGITS - self.start);
         line.put(b" ");
     }
 }

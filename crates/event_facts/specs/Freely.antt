@@ -12,7 +12,8 @@ use Rattle.event_facts.specs.Trace.{trace_of}
 use Rattle.event_facts.specs.declared.facts.Fact.{Fact}
 use Rattle.event_facts.specs.declared.lines.Lines.{Lines}
 
--- hart h of a machine made it, and all that came of it was told behind other facts. What is kept of lines stays as it was
+-- hart h of a machine made it, and all that came of it was told behind other facts. What is kept of lines
+-- stays as it was
 pub record IsMadeFreely (m m' : Seen) (h : ℕ) (facts facts' : List Fact) (entry : Entry) : Type 0 where
   pub answer : decide m.setting (past_of m) h asked.Exec ≡ Ok entry
   pub decided : IsDecided m entry
@@ -21,4 +22,5 @@ pub record IsMadeFreely (m m' : Seen) (h : ℕ) (facts facts' : List Fact) (entr
   pub machine : m' ≡ record m { log = m.log ++ entry ∷ [] }
   pub run : IsBlockRun m'.setting m'.log
   pub told : facts' ≡ facts ++ trace_of m.setting (past_of m) entry
-  pub lines : (kept : Lines) → AreLinesOf m.setting.limits.harts (past_of m) kept → AreLinesOf m'.setting.limits.harts (past_of m') kept
+  pub lines : (kept : Lines) → AreLinesOf m.setting.limits.harts (past_of m) kept
+      → AreLinesOf m'.setting.limits.harts (past_of m') kept

@@ -59,7 +59,7 @@ pub fn trace(
     Ok(())
 }
 
-/// The register that the next instruction of a hart sets, where it sets one and the pc, and does nothing else.
+/// The register that the next instruction of a hart sets, where it sets one and the pc, and nothing else.
 #[inline(always)]
 fn register_alone(machine: &Machine, hart: Hart) -> Option<u8>
     requires { hart.0 < machine.now.setting.limits.harts }
@@ -74,9 +74,9 @@ fn register_alone(machine: &Machine, hart: Hart) -> Option<u8>
     }
 }
 
-/// Makes the next instruction of a hart that goes freely ([`Machine::goes_freely`]), which sets a register and the pc
-/// alone, and appends all that is told of it: its entry. None exactly where the hart doesn't go freely; then nothing is
-/// made or told. The run must go on.
+/// Makes the next instruction of a hart that goes freely ([`Machine::goes_freely`]), which sets a register and
+/// the pc alone, and appends all that is told of it: its entry. None exactly where the hart doesn't go freely;
+/// then nothing is made or told. The run must go on.
 ///
 /// It errs only for want of memory.
 #[inline(always)]

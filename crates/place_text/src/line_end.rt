@@ -1,6 +1,6 @@
 //! The end of a line, which grows towards its front: so a line is put together in one place, and appended at once.
 
-ghost use Rattle.std.specs.Prelude.{◌≡◌, ◌+◌, ◌≤◌, [], ◌∷◌, ◌++◌, OnOk, length};
+ghost use Rattle.std.specs.Prelude.{◌≡◌, ◌+◌, ◌-◌, ◌≤◌, [], ◌∷◌, ◌++◌, OnOk, drop, length};
 ghost use Rattle.std.specs.Fmt.{decimal};
 ghost use Rattle.step_log.specs.Text.{newline, space};
 ghost use Rattle.place_text.specs.Fields.{value_text};
@@ -54,6 +54,19 @@ impl LineEnd {
         let start = end - bytes.len();
         self.bytes[start..end].copy_from_slice(bytes);
         self.start = start;
+    }
+
+    /// Puts the last of these bytes before it, so many. All of them are copied, which is quick where their
+    /// number is known.
+    #[inline(always)]
+    pub fn put_last(&mut self, bytes: &[u8], count: usize)
+        requires count { count ≤ length bytes.now }
+        requires room { length bytes.now + length self.old ≤ 128 }
+        ensures text { self.new ≡ drop (length bytes.now - count) bytes.now ++ self.old }
+        ensures length { length self.new ≡ count + length self.old }
+    {
+        self.put(bytes);
+        self.start += bytes.len() - count;
     }
 
     /// Puts a number in decimal before it, with no space.

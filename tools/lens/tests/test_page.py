@@ -5,6 +5,7 @@ import re
 import shutil
 import subprocess
 import tempfile
+import textwrap
 import unittest
 from pathlib import Path
 
@@ -27,6 +28,9 @@ COMMANDS = (
 )
 NONE = ('tools/bin/lens why RUN ELF',)
 """How a block begins that shows the words of commands."""
+PROGRAMS = ROOT / 'docs' / 'PROGRAMS.md'
+COMPILER, LIBRARY = 'riscv64-unknown-elf-gcc', Path('/usr/lib/picolibc/riscv64-unknown-elf')
+CALL = re.compile(r'^REPOSITORY/crates/rseq_run/out/rseq_run .*\n', re.MULTILINE)
 
 
 def blocks(text):
@@ -41,6 +45,21 @@ def is_command(part):
 
 def words(text):
     return ' '.join(text.split())
+
+
+def programs(text):
+    """The commands of a page that build a program and run it, each with what stands below it; there may be
+    a sentence between."""
+    found = [textwrap.dedent(block).lstrip('\n') for block in BLOCK.findall(text)]
+    for at, block in enumerate(found):
+        if block.startswith('cp REPOSITORY'):
+            end = CALL.search(block).end()
+            yield block[:end], block[end:] or found[at + 1]
+
+
+needs_compiler = unittest.skipUnless(
+    shutil.which(COMPILER) and LIBRARY.is_dir(), f'there is no {COMPILER} with picolibc'
+)
 
 
 @needs_program
@@ -63,6 +82,21 @@ class Page(unittest.TestCase):
             with self.subTest(command=words(parts[at])):
                 self.check(room, parts[at], parts[at + 1] if at + 1 < len(parts) else '')
         return len(tried)
+
+    @needs_compiler
+    def test_their_programs(self):
+        tried = list(programs(PROGRAMS.read_text()))
+        self.assertEqual(len(tried), 3)
+        for command, below in tried:
+            with self.subTest(command=command), tempfile.TemporaryDirectory() as name:
+                self.check_program(Path(name), command, below)
+
+    def check_program(self, room, command, below):
+        """Builds a program in a room of its own and runs it; what that prints begins with the block below."""
+        here = command.replace('REPOSITORY/crates/rseq_run/out/rseq_run', str(PROGRAM))
+        here = here.replace('REPOSITORY', str(ROOT))
+        ran = subprocess.run(['sh', '-c', here], cwd=room, capture_output=True, text=True, timeout=300)
+        self.assertEqual(words(ran.stdout)[: len(words(below))], words(below), ran.stderr)
 
     def furnish(self, room):
         """A copy of what the pages write to, beside the repository's tools, data and the program."""

@@ -1,5 +1,4 @@
-use Rattle.std.proofs.Common.{◌≡◌, ℕ, List, [], ◌∷◌, ◌++◌, ◌+◌, ◌-◌, ◌/◌, ◌%◌, drop, take_all, length-drop, ap, sym, ◌∙◌, append_assoc, arith}
-use borrow.Rule.Slice.PartMut.{mid_of}
+use Rattle.std.proofs.Common.{◌≡◌, ℕ, List, [], ◌∷◌, ◌++◌, ◌+◌, ◌-◌, ◌/◌, ◌%◌, drop, length, ap, sym, ◌∙◌, append_assoc, arith}
 use Rattle.std.specs.Fmt.{decimal}
 use Rattle.step_log.specs.Text.{space}
 use Rattle.command_runs.proofs.Hundreds.{longer, two_more}
@@ -11,12 +10,12 @@ returns-clause-text c =
     let line = c.args.line.now in
     let digits = c.turn_to.new.self.digits in
     let start = c.turn_to.new.self.start in
-    let kept : mid_of start (20 - start) digits ≡ decimal (n / 100) =
-    take_all (20 - start) (drop start digits) (omega (arith, length-drop start digits)) ∙ c.turn_to.new.self.kept ∙ ap decimal c.turn_to.ensures in
+    let back : length digits - (20 - start) ≡ start = omega (arith, c.turn_to.new.self.within) in
+    let kept : drop (length digits - (20 - start)) digits ≡ decimal (n / 100) = rw back (c.turn_to.new.self.kept ∙ ap decimal c.turn_to.ensures) in
     let two = two_more n c.if-number-lt100.false c.ranges.number.fits in
-    c.put-3.ensures.text
+    c.put-2.ensures.text
     ∙ ap (λ (l : List ℕ). space ∷ l)
-    (c.put-2.ensures.text
+    (c.put_last.ensures.text
     ∙ (λ i. kept i ++ c.put.ensures.text i)
     ∙ sym (append_assoc (decimal (n / 100)) ((48 + n % 100 / 10) ∷ (48 + n % 100 % 10) ∷ []) line)
     ∙ ap (λ (ds : List ℕ). ds ++ line) (sym two))
