@@ -88,6 +88,19 @@ is_decided m h c e d =
 pub is_made : (m m' : Seen) (e : Entry) → IsDecided m e → m' ≡ record m { log = m.log ++ e ∷ [] } → IsBlockRun m'.setting m'.log → IsMadeBy m m' e
 is_made m m' e decided longer run = record { decided = decided; longer = longer; block_run = run }
 
+-- and is to be followed, with what was seen and told of it
+pub is_next : (m m' : Seen) (x : Followed) (made : Made) (facts : List Fact) → IsBlockRun m.setting m.log → IsDecided m made.entry
+    → m' ≡ record m { log = m.log ++ made.entry ∷ [] } → IsBlockRun m'.setting m'.log → AreLinesOf m'.setting.limits.harts (past_of m') x.lines
+    → IsFollowing m (kept_in x.ledger) → IsAhead m made.entry made.ahead → facts ≡ trace_of m.setting (past_of m) made.entry → IsMadeNext m m' x made facts
+is_next m m' x made facts run decided longer run' lines follows ahead told = record {
+  made = is_made m m' made.entry decided longer run';
+  run = run;
+  lines = lines;
+  sequences = follows;
+  ahead = ahead;
+  told = told;
+}
+
 -- A LOG
 
 -- before the first entry
@@ -223,13 +236,13 @@ module _ (m m' : Seen) (line : Line) (facts facts' : List Fact) (made : Made) (f
       ap (decided_fault line.check) answered ∙ ap (λ (b : Bool). let none : Option LineFault = None in cond b none (Some (Differs made.entry))) said
 
 -- it was made, and is to be followed
-pub next_of_line : (m m' : Seen) (line : Line) (facts : List Fact) (made : Made) (x : Followed) → IsBlockRun m.setting m.log → IsFollowing m (kept_in x.ledger)
-    → IsMadeLine m m' line [] facts x.lines made → IsMadeNext m m' x made facts
-next_of_line m m' line facts made x run follows by = record {
+pub next_of_line : (m m' : Seen) (line : Line) (facts facts' : List Fact) (made : Made) (x : Followed) → IsBlockRun m.setting m.log → IsFollowing m (kept_in x.ledger)
+    → IsMadeLine m m' line [] facts x.lines made → facts' ≡ facts → IsMadeNext m m' x made facts'
+next_of_line m m' line facts facts' made x run follows by same = record {
   made = by.made;
   run = run;
   lines = by.lines;
   sequences = follows;
   ahead = by.ahead;
-  told = by.told;
+  told = same ∙ by.told;
 }

@@ -4,7 +4,7 @@ use Rattle.block_model.specs.Setting.{Seen}
 use Rattle.event_facts.specs.Telling.{past_of}
 use Rattle.event_facts.specs.Trace.{trace_of}
 use Rattle.event_facts.specs.declared.facts.Fact.{Fact}
-use Rattle.command_runs.proofs.ToldLogs.{is_made, its_place}
+use Rattle.command_runs.proofs.ToldLogs.{is_next, its_place}
 use Rattle.command_runs.proofs.tracing.push_next.Goals as goal
 
 pub seen_ahead-ahead-requires : goal.seen_ahead-ahead-requires
@@ -18,25 +18,28 @@ push_made-requires-clause-limits c = subst (λ (z : Seen). InRange z.setting.lim
 
 pub push_made-requires-clause-made : goal.push_made-requires-clause-made
 push_made-requires-clause-made c =
-    let m = c.args.machine.now in (
+    let m = c.args.machine.now in
+    let after = c.in_ok-trace.ensures in
+    let told = c.deref.ensures.value ∙ after.facts ∙ ap (λ (l : List Fact). l ++ trace_of m.setting (past_of m) c.args.entry) c.clear.ensures.items in (
       m,
-      record {
-        made = is_made m c.trace.new.machine c.args.entry c.requires.decided c.in_ok-trace.ensures.machine c.in_ok-trace.ensures.run;
-        run = c.requires.run;
-        lines = c.in_ok-trace.ensures.lines;
-        sequences = c.requires.followed.sequences;
-        ahead = c.seen_ahead-ahead.ensures;
-        told = c.deref.ensures.value ∙ c.in_ok-trace.ensures.facts
-            ∙ ap (λ (l : List Fact). l ++ trace_of m.setting (past_of m) c.args.entry) c.clear.ensures.items;
-      },
+      is_next m c.trace.new.machine _ _ _ c.requires.run c.requires.decided after.machine after.run after.lines c.requires.followed.sequences
+          c.seen_ahead-ahead.ensures told,
     )
 
 pub returns-clause-followed : goal.returns-clause-followed
 returns-clause-followed c =
-    let given = push_made-requires-clause-made c.before in
-    c.in_ok-push_made.ensures.followed given.0 given.1
+    let m = c.args.machine.now in
+    let after = c.in_ok-trace.ensures in
+    let told = c.deref.ensures.value ∙ after.facts ∙ ap (λ (l : List Fact). l ++ trace_of m.setting (past_of m) c.args.entry) c.clear.ensures.items in
+    c.in_ok-push_made.ensures.followed m
+    (is_next m c.trace.new.machine _ _ _ c.requires.run c.requires.decided after.machine after.run after.lines c.requires.followed.sequences
+    c.seen_ahead-ahead.ensures told)
 
 pub returns-clause-text : goal.returns-clause-text
 returns-clause-text c =
-    let given = push_made-requires-clause-made c.before in
-    c.in_ok-push_made.ensures.text given.0 given.1
+    let m = c.args.machine.now in
+    let after = c.in_ok-trace.ensures in
+    let told = c.deref.ensures.value ∙ after.facts ∙ ap (λ (l : List Fact). l ++ trace_of m.setting (past_of m) c.args.entry) c.clear.ensures.items in
+    c.in_ok-push_made.ensures.text m
+    (is_next m c.trace.new.machine _ _ _ c.requires.run c.requires.decided after.machine after.run after.lines c.requires.followed.sequences
+    c.seen_ahead-ahead.ensures told)
