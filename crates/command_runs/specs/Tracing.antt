@@ -45,7 +45,8 @@ pub record IsTraced (span : LineSpan) (m : Seen) (x : Followed) (lines : List â„
   pub followed : IsFollowed m x
   pub text : lines â‰¡ events_text span m.setting [] m.log
 
--- a machine made an entry next, of which these are the facts, where this is followed of its log but for the lines, which are those with it
+-- a machine made an entry next, of which these are the facts; this is followed of its log before it, but for the lines,
+-- which are those with it
 pub record IsMadeNext (m m' : Seen) (x : Followed) (event : Made) (facts : List Fact) : Type 0 where
   pub made : IsMadeBy m m' event.entry
   pub run : IsBlockRun m.setting m.log

@@ -244,8 +244,8 @@ struct Made {
     ahead: Ahead,
 }
 
-/// Appends what is told of an entry that a machine has made last, of which these are the facts, where its line is
-/// told; and follows it. The entry must be the first of the machine that isn't followed yet.
+/// Appends what is told of an entry that a machine has made last, of which these are the facts, where its
+/// line is told; and follows it. The entry must be the first of the machine that isn't followed yet.
 fn push_made(
     text: &mut Vec<u8>,
     span: &LineSpan,
@@ -518,8 +518,8 @@ fn may_go(machine: &Machine, line: &Line) -> bool
     matches!(line.choice, Choice::Exec) && line.hart.0 < machine.harts() && goes_on(machine)
 }
 
-/// Makes the event of a line, where that is an instruction that sets a register and the pc alone, as most are, and
-/// appends to the facts what came of it. None where it isn't one; then nothing is made or told.
+/// Makes the event of a line, where that is an instruction that sets a register and the pc alone, as most
+/// are, and appends to the facts what came of it. None where it isn't one; then nothing is made or told.
 #[inline(always)]
 fn make_freely(
     facts: &mut Vec<Fact>,
@@ -579,7 +579,8 @@ fn make_line(
     requires limits { InRange machine.old.setting.limits }
     requires run { IsBlockRun machine.old.setting machine.old.log }
     requires lines { AreLinesOf machine.old.setting.limits.harts (past_of machine.old) lines.old }
-    ensures made { IfOk result (λ r. IfOk r (IsMadeLine machine.old machine.new line.now [] facts.new.items lines.new)) }
+    ensures made { IfOk result (λ r. IfOk r
+        (IsMadeLine machine.old machine.new line.now [] facts.new.items lines.new)) }
     ensures refused { IfOk result (λ r. IfErr r
         (λ fault. line_fault machine.old.setting machine.old.log (Some (ask_of line.now)) ≡ Some fault)) }
 {
