@@ -1,3 +1,4 @@
+mod Decimals
 pub mod Digits
 pub mod HartSets
 pub mod HartStates

@@ -10,7 +10,7 @@ use std::alloc::AllocError;
 
 /// The fields of a register: `x` with its number, and its name in the calling convention, each behind a space.
 /// They are the last of these bytes, so many. None only where there is no such register.
-#[tactic(auto, unfolding(crate::specs::Registers::register_names, core::specs::Fmt::digits))]
+#[tactic(auto, unfolding(crate::specs::Registers::register_names, crate::proofs::Decimals::digits))]
 fn fields_of(number: u8) -> Option<(&'static [u8; 8], usize)>
     ensures fields { IfSome result (λ said. drop (8 - said.1) said.0.now ≡ behind (register_fields number)) }
     ensures length { IfSome result (λ said. said.1 ≤ 8) }
