@@ -6,7 +6,9 @@
 The words are those of `rt ci`; with none they are `--anew` where the kit keeps what passed, so that nothing is taken from earlier runs.
 What `rt ci` prints goes to standard error. On standard output comes a table for docs/PERFORMANCE.md: for each crate, in the order of crates.txt, how many processor
 seconds its proof took, how many wrong bodies it has and what their tries took (with the check that they all begin with), and how many
-tests it has and what proving them took; below it all together, the clock, and what the system counted of all processes of the run.
+tests it has and what proving them took; below it all together, the longest chain of crates of which each stands on the one before it,
+by what their proofs took of one processor, with what they took on the clock; the clock, and what the system counted of all processes
+of the run.
 
 The seconds by crate are those of the provers, which are looked at five times a second: what one does after its last look isn't seen, so
 their sum is a little below what the system counted. `taskset -c 0,1 bench/gate.py` times the gate on two processors.
@@ -54,13 +56,15 @@ def look(process):
 
 
 def watch(gate, ended, seen):
-    """Notes of each prover of the gate what it was seen to have taken last, until the run has ended."""
+    """Notes of each prover of the gate what it was seen to have taken last, and when it was seen first and last, until the run has ended."""
     while not ended.wait(0.2):
         for process in below(pathlib.Path('/proc', str(gate))):
             try:
                 found = look(process)
                 if found:
-                    seen[process.name, found[0]] = found[1:]
+                    now = time.time()
+                    first = seen[process.name, found[0]][3] if (process.name, found[0]) in seen else now
+                    seen[process.name, found[0]] = (*found[1:], first, now)
             except (OSError, ValueError, IndexError):
                 pass  # it ended meanwhile
 
@@ -79,7 +83,7 @@ def count_of_tests(crate):
 def table(seen):
     """The lines of the table, the last one for all crates together."""
     taken = {}
-    for crate, kind, seconds in seen.values():
+    for crate, kind, seconds, _, _ in seen.values():
         taken[crate, kind] = taken.get((crate, kind), 0) + seconds
     yield f'| crate | {PROOF}, s | {EDITS} | s | {TESTS} | s |'
     yield '|---|---|---|---|---|---|'
@@ -89,6 +93,39 @@ def table(seen):
         rows.append((taken.get((crate, PROOF), 0), edits, taken.get((crate, EDITS), 0), count_of_tests(crate), taken.get((crate, TESTS), 0)))
         yield line_of(f'`{crate}`', rows[-1])
     yield line_of('together', [sum(column) for column in zip(*rows)])
+
+
+def libraries_of() -> dict[str, list[str]]:
+    """Of each crate of crates.txt those that it stands on."""
+    lines = [line.split('#')[0].split(':') for line in (TOP / 'crates.txt').read_text().splitlines() if line.split('#')[0].strip()]
+    return {names.split()[0]: below.split() for names, below in lines}
+
+
+def longest_chain(taken: dict[str, float], libraries: dict[str, list[str]]) -> list[str]:
+    """The crates of which each stands on the one before it and which together took most, the lowest first."""
+    chains: dict[str, tuple[float, list[str]]] = {}
+
+    def chain(crate: str) -> tuple[float, list[str]]:
+        if crate not in chains:
+            longest = max((chain(it) for it in libraries[crate] if it in libraries), default=(0.0, []))
+            chains[crate] = longest[0] + taken.get(crate, 0.0), [*longest[1], crate]
+        return chains[crate]
+
+    return max((chain(it) for it in libraries), default=(0.0, []))[1]
+
+
+def told_chain(seen: dict[tuple[str, str], tuple[str, str, float, float, float]], libraries: dict[str, list[str]]) -> str:
+    """The longest chain of proofs: what each took of one processor, and all together on the clock."""
+    proofs = [it for it in seen.values() if it[1] == PROOF]
+    taken: dict[str, float] = {}
+    for crate, _, seconds, _, _ in proofs:
+        taken[crate] = taken.get(crate, 0.0) + seconds
+    chain = longest_chain(taken, libraries)
+    times = [time for it in proofs if it[0] in chain for time in it[3:]]
+    clock = max(times, default=0.0) - min(times, default=0.0)
+    crates_told = ', '.join(f'`{it}` {taken.get(it, 0.0):.0f}' for it in chain)
+    return (f'The longest chain: {sum(taken.get(it, 0.0) for it in chain) / 60:.1f} minutes of one processor, {clock / 60:.1f} on the clock '
+            f'(seconds of each, the lowest first): {crates_told}')
 
 
 def line_of(name, row):
@@ -115,6 +152,7 @@ def main():
         watcher.join()
     clock = time.time() - start
     print('\n'.join(table(seen)))
+    print(f'\n{told_chain(seen, libraries_of())}')
     used = resource.getrusage(resource.RUSAGE_CHILDREN)
     kit = subprocess.run(['rt', 'version'], capture_output=True, text=True).stdout.strip()
     print(f'\n`{" ".join(["rt", "ci", *words])}` on {len(os.sched_getaffinity(0))} processors, {kit}, {time.strftime("%d %B %Y")}: '

@@ -4,7 +4,7 @@
     examples/check.py [PROGRAM [NAME..]]
 
 PROGRAM is crates/rseq_run/out/rseq_run where it isn't given: `rt ci` leaves it there. Where names are given, those alone are run: a
-name of an example, `pairs`, `blocks`, `headers`, or of a group of worked runs (barriers/), or of one of them (barriers/taken_by_an_idle_hart).
+name of an example, `pairs`, `blocks`, `headers`, `explorations`, or of a group of worked runs (barriers/), or of one of them (barriers/taken_by_an_idle_hart).
 
 For each example NAME:
 - `solo` prints the console of console.expected and the end of end.expected;
@@ -48,7 +48,11 @@ For each worked run crates/worked_runs/data/GROUP/NAME, each line of its file `w
 Standard error says what its `stderr` has, or begins with the line of its `told` at the place of the command line. Those whose devices
 fail (a file `fails`) only crates/worked_runs can make. And crates/worked_runs/data/rows lists just these folders, in order.
 
-In each call standard error is empty exactly where the status is 0.
+For each of EXPLORED the line `overtaken N of M` of `explore` is counted again from the logs of its runs (overtaken.py). A long `explore`
+that is interrupted has said what it found, and a seed of each (interrupted.py). And one of whose runs a quarter go round for ever says at
+its end how many ended at the limit, and which limit would be enough.
+
+In each call standard error is empty exactly where the status is 0, but for what an `explore` that takes long says there.
 """
 import os
 import pathlib
@@ -58,6 +62,9 @@ import subprocess
 import sys
 import tempfile
 from concurrent.futures import ThreadPoolExecutor
+
+import interrupted
+from overtaken import overtaken_line
 
 HERE = pathlib.Path(__file__).resolve().parent
 BUILT = HERE.parent / 'crates' / 'rseq_run' / 'out' / 'rseq_run'
@@ -83,6 +90,16 @@ void block(void) {
                  : [value] "=&r"(value) : [area] "r"(area), [cells] "r"(cells));
 }
 '''
+# the examples whose overtaken stores are counted again, and in how many runs
+EXPLORED = {'peterson': 40, 'peterson_fenced': 40, 'dekker': 20, 'hazard': 20, 'litmus': 40, 'percpu_counter': 5}
+# what `explore` says on standard error where it takes long
+SAID = re.compile(rb'^(outcome \d+: end [^\n]*|rseq_run: \d+ of \d+ runs ended at the limit [^\n]*)\n', re.MULTILINE)
+# the program of a worked run that exits with the number of its hart, and the same where it goes round for ever on each hart but 0
+EXITS_BY_HART = ROWS / 'explores' / 'two_outcomes' / 'F'
+NUMBER_READ = bytes.fromhex('93050000 9308800a 73000000 37040200 03250400')
+GOES_ROUND = bytes.fromhex('37040200 9308800a 73000000 03250400 63100500')
+LIMITED = (b'rseq_run: 68 of 300 runs ended at the limit of 1000000 steps; the longest that ended otherwise has 13: '
+           b'--steps 130 would cut them shorter\n')
 SECONDS = 120
 DONE, SCRIPT_REFUSED, UNREAD = 0, 4, 5
 TAKE_SCRIPT = r"sed -n '/^log /{h;d;};$!H;${g;s/^log [0-9]*\n//p;}'"
@@ -159,7 +176,8 @@ def run_whole(program, *words, folder=None):
         ran = subprocess.run([program, *words], cwd=folder, stdin=subprocess.DEVNULL, capture_output=True, timeout=SECONDS)
     except subprocess.TimeoutExpired:
         raise Difference(f'{" ".join(map(str, words))}: it had not ended after {SECONDS} seconds') from None
-    if (ran.returncode == DONE) != (not ran.stderr):
+    said = SAID.sub(b'', ran.stderr) if words[:1] == ('explore',) else ran.stderr
+    if (ran.returncode == DONE) != (not said):
         raise Difference(f'{" ".join(map(str, words))}: its status is {ran.returncode}, and standard error is {ran.stderr[:60]!r}')
     return ran.returncode, ran.stdout, ran.stderr
 
@@ -505,6 +523,13 @@ def rows(names):
             yield row
 
 
+def check_explored(program, elf, runs):
+    """So many runs of an example that are drawn from seeds come to one outcome."""
+    status, text = run(program, 'explore', elf, '--runs', runs)
+    want('the status of explore', status, DONE)
+    want('its first line', text.split(b'\n')[0], b'outcomes 1')
+
+
 def checks(program, folder):
     """The checks of one example, each with its name."""
     elf = folder / f'{folder.name}.elf'
@@ -525,6 +550,9 @@ def checks(program, folder):
     for harts in HARTS:
         yield f'run on {harts}', lambda: check_runs(program, list(outcomes(folder)), elf, harts)
         yield f'draw on {harts}', lambda: check_draws(program, list(outcomes(folder)), elf, harts)
+    explored = folder / 'explored.expected'
+    if explored.is_file():
+        yield 'explored', lambda: check_explored(program, elf, explored.read_text().strip())
 
 
 def check_trial(program, guest, size, console, harts):
@@ -607,6 +635,43 @@ def check_blocks(program, names):
     return differ
 
 
+def check_overtaken(program, example, runs):
+    """What `explore` says of overtaken stores is what the logs of its runs say."""
+    elf = HERE / example / f'{example}.elf'
+    status, text = run(program, 'explore', elf, '--seed', '1', '--runs', str(runs))
+    want('the status of explore', status, DONE)
+    want('its overtaken stores', text.splitlines(keepends=True)[-1], overtaken_line(str(program), str(elf), 1, runs, []).encode())
+
+
+def check_interrupted(program):
+    """An exploration that is broken off has said what it found."""
+    want('what an interrupted explore left', '; '.join(interrupted.faults_of(str(program), str(HERE / 'peterson' / 'peterson.elf'))), '')
+
+
+def check_limited(program):
+    """An exploration that takes long since runs meet the limit says so, and proposes another."""
+    file = EXITS_BY_HART.read_bytes()
+    want('how often its program reads the number of its hart', file.count(NUMBER_READ), 1)
+    with tempfile.NamedTemporaryFile(suffix='.elf') as elf:
+        elf.write(file.replace(NUMBER_READ, GOES_ROUND))
+        elf.flush()
+        status, text, said = run_whole(program, 'explore', elf.name, '--runs', '300', '--steps', '1000000', '--jobs', '1')
+    want('the status of explore', status, DONE)
+    want('its ends', [line for line in text.splitlines() if line.startswith(b'end ')], [b'end exit 0', b'end limit'])
+    want('what it says at its end', said.splitlines(keepends=True)[-1:], [LIMITED])
+
+
+def check_explorations(program, names):
+    """How many checks of explorations fail."""
+    if names and 'explorations' not in names:
+        return 0
+    checks = [(example, lambda example=example, runs=runs: check_overtaken(program, example, runs)) for example, runs in EXPLORED.items()]
+    checks += [('interrupted', lambda: check_interrupted(program)), ('limited', lambda: check_limited(program))]
+    failed = sum(not passes(name, [('explore', check)]) for name, check in checks)
+    print(f'{len(checks) - failed} explorations passed' + (f', {failed} failed' if failed else ''))
+    return failed
+
+
 def check_order(headers):
     """The headers, each included twice in this order, are compiled without a warning."""
     source = ''.join(f'#include "{header.name}"\n' for header in [*headers, *headers])
@@ -666,13 +731,13 @@ def main():
     guests = [guest for guest in GUESTS if not names or guest in names]
     broken = sum(not passes(guest, checks_of_guest(program, guest)) for guest in guests)
     print(f'{len(guests) - broken} guests passed' + (f', {broken} failed' if broken else ''))
-    changed = check_blocks(program, names) + check_headers(names)
+    changed = check_blocks(program, names) + check_headers(names) + check_explorations(program, names)
     is_listed = are_listed()
     worked = list(rows(names))
     with ThreadPoolExecutor(os.cpu_count()) as workers:
         differ = sum(not is_well for is_well in workers.map(lambda row: row_passes(program, row), worked))
     print(f'{len(worked) - differ} worked runs passed' + (f', {differ} failed' if differ else ''))
-    some = folders or pairs or guests or worked or 'blocks' in names or 'headers' in names
+    some = folders or pairs or guests or worked or {'blocks', 'headers', 'explorations'} & set(names)
     sys.exit(1 if failed or unpaired or broken or changed or differ or not is_listed or not some or not (names or worked) else 0)
 
 

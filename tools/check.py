@@ -1,5 +1,5 @@
 #!/usr/bin/env python3
-"""Runs the tests of the tools, and says where packages lack that they stand on.
+"""Runs the tests of the tools and of the counts in docs/, and says where packages lack that they stand on.
 
     tools/check.py
 
@@ -15,7 +15,9 @@ import sys
 
 TOOLS = pathlib.Path(__file__).resolve().parent
 PYTHON = '/usr/bin/python3' if pathlib.Path('/usr/bin/python3').exists() else sys.executable
-PARTS = ('lens', 'sweep')
+PARTS = ('lens', 'sweep', 'guests', 'compilers', 'docs')
+COMPILERS = {'riscv64-unknown-elf-gcc': ('gcc-riscv64-unknown-elf',), 'clang': ('clang', 'lld')}
+"""Those with which tools/compilers is tested, with their packages."""
 
 
 def lacking():
@@ -27,8 +29,17 @@ def lacking():
     ]
 
 
+def tell_missing_compilers():
+    """Says which compilers lack: what they make isn't tested then."""
+    for compiler, packages in COMPILERS.items():
+        if shutil.which(compiler) is None or ('lld' in packages and shutil.which('ld.lld') is None):
+            print(f'tools/compilers: without {compiler} (apt-get install {" ".join(packages)})')
+
+
 def passes(part):
     """Whether the tests of a part pass."""
+    if part == 'compilers':
+        tell_missing_compilers()
     path = os.pathsep.join(str(TOOLS / name) for name in (part, *PARTS))
     print(f'tools/{part}:', flush=True)
     words = [

@@ -3,9 +3,9 @@
  * a word, and else by bytes. */
 #include <stddef.h>
 
-/* Else GCC may find in a loop below what its own function is for, and make the loop a call of that function, which never ends. */
+#ifndef __clang__ /* Else GCC may find in a loop below what its own function is for, and make it a call of that function, which never ends. */
 #pragma GCC optimize("no-tree-loop-distribute-patterns")
-
+#endif
 /* Kept where nothing calls it yet: with -flto GCC leaves out what nobody calls, and makes calls of its own after that. */
 #define KEPT __attribute__((used))
 

@@ -8,13 +8,12 @@ use Rattle.block_model.specs.PlainOf.{plain_of}
 use Rattle.block_model.specs.PlainSays.{SaysOf}
 use Rattle.block_model.proofs.PlainAgreement as agrees
 use Rattle.block_model.proofs.PlainAgreement.{agreement_decide, agreement_here, good_after, plain-append, plain-made}
-use Rattle.block_model.proofs.Runs.{IsAllowed, allowed, good_of}
+use Rattle.block_model.proofs.Runs.{IsAllowed, allowed}
 use Rattle.block_model.proofs.Barriers.Return.{have_returned}
 use Rattle.block_model.proofs.Choosing as choices
 use Rattle.block_model.proofs.Counts as counts
 use Rattle.block_model.proofs.RunEnds as ends
 use Rattle.block_model.proofs.Entries as entries
-use Rattle.block_model.proofs.PlaceInvariant.{good_here}
 use Rattle.block_model.proofs.IdsOfRuns as run_ids
 use Rattle.block_model.proofs.PlainMachine as plain_runs
 use Rattle.block_model.proofs.Replay as replay
@@ -35,7 +34,7 @@ pub use Rattle.block_model.proofs.EventEffects.{IsNext as IsNextInstruction}
 pub use Rattle.block_model.proofs.FileSteps.{Aborts, Answered, AtBirth, AtHandler, AtRun, AtTake, ByCall, ByInstruction}
 pub use Rattle.block_model.proofs.FileSteps.{FileStays, FileStep, IsInterrupted, file_step}
 pub use Rattle.block_model.specs.Standing.{IsGoodHere, IsSound, IsStanding, MayEnter}
-pub use Rattle.block_model.proofs.PlaceInvariant.{IsFit, IsGood}
+pub use Rattle.block_model.proofs.PlaceInvariant.{IsFit, IsGood, good_here, good_next}
 pub use Rattle.block_model.proofs.RunEnds.{ends_by_process, end_of-ended, end_of-limit}
 pub use Rattle.block_model.proofs.EventMakers.{IsOfKernel, interrupts_none, is_by_kernel, keeps_record, may_interrupt, of_kernel, writes_none}
 pub use Rattle.block_model.proofs.EventNeeds.{has_thread, leaving_does, leaving_runs, leaving_waits, moved_leaving, needs_no_barrier, needs_thread, waits_in_none}
@@ -44,9 +43,10 @@ pub use Rattle.block_model.proofs.WritableBytes.{AllWritable, IsWritable, first_
 pub use Rattle.block_model.proofs.HartSets.{some_hart, with_hart-itself, with_hart-or, with_hart-other, without_hart-and, without_hart-has, without_hart-itself, without_hart-other}
 pub use Rattle.block_model.proofs.KernelCalls.{child_not_held, child_same, ended_idle, order_has, tables_allowed, tables_child, tables_ended, tables_waited, tables_woken, waited_idle, woken_same, order_has as ready_listed}
 pub use Rattle.block_model.proofs.IdsOnHarts.{IsHeldOnHart, is_held_below, is_held_by}
-pub use Rattle.block_model.proofs.Runs.{allowed_at, history-append, history-nil, length-history, decided_is}
+pub use Rattle.block_model.proofs.Runs.{allowed_at, good_of, history-append, history-nil, length-history, decided_is}
 pub use Rattle.block_model.proofs.OwnEvents.{IsAreaAfter, new_area, no_area, own_area, ran_before, stays_area}
-pub use Rattle.block_model.proofs.ReadyFiles.{area_stays, ready_file_stays, ready_stays}
+pub use Rattle.block_model.proofs.OtherThreads.{aside_called, ready_not_waiting}
+pub use Rattle.block_model.proofs.ReadyFiles.{IsReadyKept, area_stays, ready_deed, ready_file_stays, ready_stays}
 pub use Rattle.block_model.proofs.RegisterFiles.{HasRegisters, has_registers}
 pub use Rattle.block_model.proofs.RunSteps.{IsStep, drains_none, file_apart, not_ready, one_hart, runs_apart, step_of, waits_apart}
 pub use Rattle.block_model.proofs.Standing.{HasFreeId, SameSegment, stand_aside, stand_fit, stand_free_id, stand_next, stand_taken}
@@ -54,13 +54,13 @@ pub use Rattle.block_model.proofs.Sequences.{Begins, Elsewhere, IsOf, Own, Seque
 pub use Rattle.block_model.proofs.Stretches.{HasStayed, HasSteps, IsLent, Steps, is_lent, stays, steps_of, worked_keeps}
 pub use Rattle.block_model.proofs.ThreadRecords.{areas_changed, areas_fit, live_changed, registered_areas, signals_stay}
 pub use Rattle.block_model.proofs.Invariants.Calls.Futexes.{longest_waits, wake_by, wake_keeps}
-pub use Rattle.block_model.proofs.KernelTables.{any_live, left_idle, running_idle, running_is, running_there, waits_elsewhere, state_now, tables_left, tables_ran, tables_start, ran_runs}
+pub use Rattle.block_model.proofs.KernelTables.{any_live, its_ready, left_idle, running_idle, running_is, running_there, waits_elsewhere, state_now, tables_left, tables_ran, tables_start, ran_runs}
 pub use Rattle.block_model.proofs.Barriers.OutsideSequences.{in_no_barrier}
 pub use Rattle.block_model.proofs.PlainAgreement.{plain-nil as start_plain}
 pub use Rattle.block_model.proofs.PlainMachine.{IsSolo-append, plain_makes, IsSolo-nil as start_solo}
 pub use Rattle.block_model.proofs.Replay.{played-nil, played-append, length-answers, answers_itself, is_refused, is_bad, played_read-all}
 pub use Rattle.block_model.proofs.FixedRule.{executes_when_allowed}
-pub use Rattle.block_model.proofs.Invariants.Events.{run_ready}
+pub use Rattle.block_model.proofs.Invariants.Events.{ready_apart, run_ready}
 
 -- a log of which every entry is allowed is a block run
 pub block_run : (s : Setting) (log : List Entry) → IsAllowedLog s log → IsBlockRun s log

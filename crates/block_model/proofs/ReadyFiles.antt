@@ -40,7 +40,7 @@ module _ (here : Here) (good : IsGoodHere here) (u tid : ℕ) where
     ready = ap (is_ready u) same ∙ ready;
   }
 
-  ready_deed : {k : Kind} {d : Done} → EventDeed here tid k d → (k ≡ kind.Run → tid ≢ u) → is_ready u here.kernel.threads ≡ true → IsReadyKept here u d
+  pub ready_deed : {k : Kind} {d : Done} → EventDeed here tid k d → (k ≡ kind.Run → tid ≢ u) → is_ready u here.kernel.threads ≡ true → IsReadyKept here u d
   ready_deed (Calls t e next calls outside) other ready =
       let aside = aside_called here t good next.at in
       record { file = λ f. aside.files u f ready; ready = aside.beside.ready u (caller_apart here t good next.at u ready) ready }

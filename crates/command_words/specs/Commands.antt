@@ -7,7 +7,7 @@ use Rattle.command_words.specs.declared.commands.Draws.{Draws}
 use Rattle.command_words.specs.declared.commands.Guest.{Guest}
 use Rattle.command_words.specs.declared.commands.Settings.{Settings}
 use Rattle.command_words.specs.declared.commands.Trial.{Trial}
-use Rattle.command_words.specs.Shown.{Shown}
+use Rattle.command_words.specs.Shown.{Shown, Output, Summary, Place, Acts, Gathered, Trace}
 
 -- how the log of the run comes about: on one hart by the fixed rule; by the events of a script; by workers, one for
 -- each hart, that choose by a seed; by the events that a seed draws, by these policies; or by the events of a script and those drawn
@@ -107,3 +107,36 @@ HasItsHarts (Makes guest) = Unit {0}
 HasItsHarts (Tries trial) = Unit {0}
 HasItsHarts (Explores program settings) = Unit {0}
 HasItsHarts (Pairs pair) = Unit {0}
+
+-- the log comes about by a script alone
+abbrev pub IsByScript : Source → Type 0
+IsByScript Rule = ⊥
+IsByScript (Script name) = Unit {0}
+IsByScript (Workers seed) = ⊥
+IsByScript (Drawn seed draws) = ⊥
+IsByScript (DrawnAfter name seed draws) = ⊥
+
+-- what is shown of a run that comes about so: a summary and a trace of one by a script alone, since they are made event by event
+abbrev pub IsShownOf : Source → Shown → Type 0
+IsShownOf source Output = Unit {0}
+IsShownOf source Summary = IsByScript source
+IsShownOf source (Place memory) = Unit {0}
+IsShownOf source Acts = Unit {0}
+IsShownOf source Gathered = Unit {0}
+IsShownOf source (Trace span) = IsByScript source
+
+abbrev pub HasItsShown : Command → Type 0
+HasItsShown (Runs run) = IsShownOf run.source run.shown
+HasItsShown (Makes guest) = Unit {0}
+HasItsShown (Tries trial) = Unit {0}
+HasItsShown (Explores program settings) = Unit {0}
+HasItsShown (Pairs pair) = Unit {0}
+
+-- it is shown of a run at its end, and not made event by event
+abbrev pub IsShownAtEnd : Shown → Type 0
+IsShownAtEnd Output = Unit {0}
+IsShownAtEnd Summary = ⊥
+IsShownAtEnd (Place memory) = Unit {0}
+IsShownAtEnd Acts = Unit {0}
+IsShownAtEnd Gathered = Unit {0}
+IsShownAtEnd (Trace span) = ⊥

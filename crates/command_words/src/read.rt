@@ -1,14 +1,14 @@
 //! Reading the words of a command line.
 
 ghost use Rattle.std.specs.Prelude.{◌≡◌, IfErr, IfOk, Some};
-ghost use Rattle.command_words.specs.Commands.{HasItsHarts, HasLimits};
+ghost use Rattle.command_words.specs.Commands.{HasItsHarts, HasItsShown, HasLimits};
 ghost use Rattle.command_words.specs.Kept.{said};
 ghost use Rattle.command_words.specs.WordErrors.{IsErrorOf};
 ghost use Rattle.command_words.specs.Words.{command_of, texts};
 
 use crate::commands::{Command, command_of};
 use crate::faults::{WordsFault, words_fault};
-use crate::theorems::words_are_wrong_or_name_a_command;
+use crate::theorems::{words_are_wrong_or_name_a_command, words_ask_for_what_can_be_shown};
 use std::alloc::Global;
 
 /// Why words give no command.
@@ -33,9 +33,11 @@ pub fn read_words<'a>(alloc: Global, words: &'a [String]) -> Result<Command<'a>,
     ensures command { IfOk result (λ command. command_of (texts words.now) ≡ Some (said command)) }
     ensures limits { IfOk result (λ command. HasLimits (said command)) }
     ensures harts { IfOk result (λ command. HasItsHarts (said command)) }
+    ensures shown { IfOk result (λ command. HasItsShown (said command)) }
     ensures error { IfErr result (IsErrorOf (texts words.now)) }
 {
     words_are_wrong_or_name_a_command();
+    words_ask_for_what_can_be_shown();
     if let Some(fault) = words_fault(words) {
         return Err(WordsError::Wrong(fault));
     }

@@ -1,7 +1,7 @@
 //! Laws of the words, as the contracts of functions that do nothing.
 
-ghost use Rattle.std.specs.Prelude.{◌≡◌, ◌↔◌, ℕ, List, None, Some, IsSome};
-ghost use Rattle.command_words.specs.Commands.{Command};
+ghost use Rattle.std.specs.Prelude.{◌≡◌, ◌↔◌, ℕ, List, None, Some, IfSome, IsSome};
+ghost use Rattle.command_words.specs.Commands.{Command, HasItsShown};
 ghost use Rattle.command_words.specs.Grammar.{IsCommandLine};
 ghost use Rattle.command_words.specs.declared.faults.WordsFault.{WordsFault};
 ghost use Rattle.command_words.specs.WordFaults.{words_fault};
@@ -25,4 +25,9 @@ pub fn words_are_wrong_or_name_a_command()
     ensures right { (words : List (List ℕ)) → (words_fault words ≡ None) ↔ IsSome (command_of words) }
     ensures wrong { (words : List (List ℕ)) (fault : WordsFault)
         → words_fault words ≡ Some fault → command_of words ≡ None }
+{}
+
+/// What words ask to be shown of a run can be shown of it: a summary and a trace are of a run by a script alone.
+pub(crate) fn words_ask_for_what_can_be_shown()
+    ensures { (words : List (List ℕ)) → IfSome (command_of words) HasItsShown }
 {}

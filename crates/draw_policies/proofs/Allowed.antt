@@ -15,7 +15,7 @@ use Rattle.draw_policies.specs.Acting.{can_act}
 use Rattle.draw_policies.specs.Aims.{choice_of_aim, is_due, still_due}
 use Rattle.draw_policies.specs.Beginning.{left_out, others, place_of_other, thread, thread_to_run}
 use Rattle.draw_policies.specs.Conditions.{Delivers, Drains, Executes, IsAllowed, IsSettled, Preempts, Returns, Runs, Takes}
-use Rattle.draw_policies.specs.Turns.{barrier_turn, delivers_by, draining, drains_by, freely, idle_turn, leaves_by, meant, new_aim, running_turn, takes_by, turn, turn_meaning}
+use Rattle.draw_policies.specs.Turns.{barrier_turn, delivers_by, draining, drains_by, executing, freely, idle_turn, leaves_by, meant, new_aim, running_turn, takes_by, turn, turn_meaning}
 use Rattle.draw_policies.specs.Words.{drain_of, interrupt_of, place_among, thread_place}
 use Rattle.draw_policies.specs.declared.aims.Aim.{Aim}
 use Rattle.draw_policies.specs.declared.aims.Aim.TheVariants as means
@@ -100,7 +100,7 @@ aim_allowed seen threads means.Take runs apart due empty = Takes due empty
 aim_allowed seen threads means.Signal runs apart due empty = Delivers due (record { runs = runs; apart = apart; empty = empty })
 
 abbrev at_once : Aim → Turn
-at_once a = record { choice = choice_of_aim a; aim = None; credit = 0 }
+at_once a = record { choice = choice_of_aim a; aim = Some means.Signal; credit = 0 }
 
 aimed_allowed : (seen : Sight) (threads : List ℕ) (a : Aim) (some : Bool) → has_stores seen ≡ some
     → seen.idle ≡ false → seen.in_barrier ≡ false → is_due seen a ≡ true
@@ -109,53 +109,53 @@ aimed_allowed seen threads a true is runs apart due = Drains is
 aimed_allowed seen threads a false is runs apart due = aim_allowed seen threads a runs apart due is
 
 -- one that means nothing
-aimless_allowed : (weights : Weights) (seen : Sight) (threads : List ℕ) (w : ℕ) (may drains : Bool)
+aimless_allowed : (weights : Weights) (seen : Sight) (traps : Bool) (threads : List ℕ) (w : ℕ) (may drains : Bool)
     → seen.exec_enabled ≡ may → drains_by w weights seen ≡ drains → (may || has_stores seen) ≡ true
-    → IsTurnAllowed seen threads (Some (cond (may && not drains) (freely weights asked.Exec) (draining None)))
-aimless_allowed weights seen threads w true true is drained can =
+    → IsTurnAllowed seen threads (Some (cond (may && not drains) (executing weights seen traps) (draining None)))
+aimless_allowed weights seen traps threads w true true is drained can =
     Drains (and_parts (has_stores seen) (ltb (drain_of w) weights.drain) drained).0
-aimless_allowed weights seen threads w true false is drained can = Executes is
-aimless_allowed weights seen threads w false true is drained can = Drains can
-aimless_allowed weights seen threads w false false is drained can = Drains can
+aimless_allowed weights seen traps threads w true false is drained can = Executes is
+aimless_allowed weights seen traps threads w false true is drained can = Drains can
+aimless_allowed weights seen traps threads w false false is drained can = Drains can
 
-meaning_allowed : (weights : Weights) (seen : Sight) (threads : List ℕ) (w : ℕ) (a : Option Aim) → IsDue seen a
+meaning_allowed : (weights : Weights) (seen : Sight) (traps : Bool) (threads : List ℕ) (w : ℕ) (a : Option Aim) → IsDue seen a
     → seen.idle ≡ false → seen.in_barrier ≡ false → (seen.exec_enabled || has_stores seen) ≡ true
-    → IsTurnAllowed seen threads (Some (turn_meaning weights seen w a))
-meaning_allowed weights seen threads w None due runs apart can =
-    aimless_allowed weights seen threads w seen.exec_enabled (drains_by w weights seen) refl refl can
-meaning_allowed weights seen threads w (Some a) due runs apart can =
+    → IsTurnAllowed seen threads (Some (turn_meaning weights seen traps w a))
+meaning_allowed weights seen traps threads w None due runs apart can =
+    aimless_allowed weights seen traps threads w seen.exec_enabled (drains_by w weights seen) refl refl can
+meaning_allowed weights seen traps threads w (Some a) due runs apart can =
     aimed_allowed seen threads a (has_stores seen) refl runs apart due
 
-running_allowed : (weights : Weights) (seen : Sight) (threads : List ℕ) (held : Option Aim) (w : ℕ)
+running_allowed : (weights : Weights) (seen : Sight) (traps : Bool) (threads : List ℕ) (held : Option Aim) (w : ℕ)
     → seen.idle ≡ false → seen.in_barrier ≡ false → (seen.exec_enabled || has_stores seen) ≡ true
-    → IsTurnAllowed seen threads (Some (running_turn weights seen held w))
-running_allowed weights seen threads held w =
-    meaning_allowed weights seen threads w (meant weights seen held w)
+    → IsTurnAllowed seen threads (Some (running_turn weights seen traps held w))
+running_allowed weights seen traps threads held w =
+    meaning_allowed weights seen traps threads w (meant weights seen held w)
     (either_is_due seen (still_due seen held) (new_aim weights seen w) (still_is_due seen held) (new_is_due weights seen w))
 
 -- any hart that can act
-any_allowed : (weights : Weights) (seen : Sight) (threads : List ℕ) (last : Option Tid) (held : Option Aim) (w : ℕ)
+any_allowed : (weights : Weights) (seen : Sight) (traps : Bool) (threads : List ℕ) (last : Option Tid) (held : Option Aim) (w : ℕ)
     → IsSettled seen → can_act seen (ltb 0 (length threads)) ≡ true
-    → IsTurnAllowed seen threads (turn weights seen threads last held w)
-any_allowed weights seen threads last held w settled = go seen.idle seen.in_barrier refl refl
+    → IsTurnAllowed seen threads (turn weights seen traps threads last held w)
+any_allowed weights seen traps threads last held w settled = go seen.idle seen.in_barrier refl refl
   where
     go : (idle waits : Bool) → seen.idle ≡ idle → seen.in_barrier ≡ waits
         → cond idle (seen.requested || ltb 0 (length threads))
         (cond waits (seen.requested || seen.all_taken) (seen.exec_enabled || has_stores seen)) ≡ true
         → IsTurnAllowed seen threads (cond idle (idle_turn weights seen (thread_to_run threads last w))
-        (cond waits (Some (barrier_turn weights seen)) (Some (running_turn weights seen held w))))
+        (cond waits (Some (barrier_turn weights seen)) (Some (running_turn weights seen traps held w))))
     go true waits is within can =
         idle_allowed weights seen threads (thread_to_run threads last w) seen.requested refl is (settled.idle is)
         (runs_among threads last w)
     go false true is within can =
         barrier_allowed weights seen threads seen.requested refl is within (settled.in_barrier within) can
-    go false false is within can = running_allowed weights seen threads held w is within can
+    go false false is within can = running_allowed weights seen traps threads held w is within can
 
-pub turn-allowed : (weights : Weights) (seen : Sight) (threads : List ℕ) (last : Option Tid) (held : Option Aim) (w : ℕ) (t : Turn)
-    → IsSettled seen → can_act seen (ltb 0 (length threads)) ≡ true
-    → turn weights seen threads last held w ≡ Some t → IsAllowed seen threads t.choice
-turn-allowed weights seen threads last held w t settled can e =
-    subst (λ (o : Option Turn). IsTurnAllowed seen threads o) e (any_allowed weights seen threads last held w settled can)
+pub turn-allowed : (weights : Weights) (seen : Sight) (traps : Bool) (threads : List ℕ) (last : Option Tid) (held : Option Aim) (w : ℕ)
+    (t : Turn) → IsSettled seen → can_act seen (ltb 0 (length threads)) ≡ true
+    → turn weights seen traps threads last held w ≡ Some t → IsAllowed seen threads t.choice
+turn-allowed weights seen traps threads last held w t settled can e =
+    subst (λ (o : Option Turn). IsTurnAllowed seen threads o) e (any_allowed weights seen traps threads last held w settled can)
 
 -- where a thread may begin to run, one does
 pub place_among-below : (n count : ℕ) → 0 < count → place_among n count < count
@@ -207,15 +207,15 @@ idle_comes weights threads last w true can = refl
 idle_comes weights threads last w false can =
     run_comes weights (thread_to_run threads last w) (thread_comes threads last w (ltb-true 0 (length threads) can))
 
-pub turn-comes : (weights : Weights) (seen : Sight) (threads : List ℕ) (last : Option Tid) (held : Option Aim) (w : ℕ)
-    → can_act seen (ltb 0 (length threads)) ≡ true → IsSome (turn weights seen threads last held w)
-turn-comes weights seen threads last held w = go seen.idle seen.in_barrier
+pub turn-comes : (weights : Weights) (seen : Sight) (traps : Bool) (threads : List ℕ) (last : Option Tid) (held : Option Aim) (w : ℕ)
+    → can_act seen (ltb 0 (length threads)) ≡ true → IsSome (turn weights seen traps threads last held w)
+turn-comes weights seen traps threads last held w = go seen.idle seen.in_barrier
   where
     go : (idle waits : Bool)
         → cond idle (seen.requested || ltb 0 (length threads))
         (cond waits (seen.requested || seen.all_taken) (seen.exec_enabled || has_stores seen)) ≡ true
         → IsSome (cond idle (idle_turn weights seen (thread_to_run threads last w))
-        (cond waits (Some (barrier_turn weights seen)) (Some (running_turn weights seen held w))))
+        (cond waits (Some (barrier_turn weights seen)) (Some (running_turn weights seen traps held w))))
     go true waits can = idle_comes weights threads last w seen.requested can
     go false true can = refl
     go false false can = refl

@@ -28,12 +28,19 @@ running = record idle { idle = false; exec_enabled = true }
 abbrev storing : Sight
 storing = record running { stores = 1 }
 
--- what a hart does that is no idle one
+-- what a hart does that is no idle one, whose thread's next instruction doesn't trap, or does
 abbrev turn_of : Policy → Sight → Option Aim → ℕ → Option Turn
-turn_of p seen held w = turn (weights_of p) seen [] None held w
+turn_of p seen held w = turn (weights_of p) seen false [] None held w
+
+abbrev trapping : Policy → Sight → Option Aim → ℕ → Option Turn
+trapping p seen held w = turn (weights_of p) seen true [] None held w
 
 abbrev done : Choice → Option Aim → ℕ → Option Turn
 done c a credit = Some (record { choice = c; aim = a; credit = credit })
+
+-- an event behind which a signal is delivered first, if one can be
+abbrev returned : Choice → ℕ → Option Turn
+returned c credit = done c (Some means.Signal) credit
 
 -- which thread begins: the word 2 · 840 · 10^12 names place 2 of three, and place 0 of two
 abbrev two_times : ℕ
@@ -54,24 +61,24 @@ last_one_is_left_out = refl
 pub last_one_alone_runs_again : thread_to_run (4 ∷ []) (Some (thread 4)) two_times ≡ Some (thread 4)
 last_one_alone_runs_again = refl
 
-pub idle_hart_takes_first : turn (weights_of policy.Long) (record idle { requested = true }) (4 ∷ []) None None 0
-    ≡ done asked.Take None 256
+pub idle_hart_takes_first : turn (weights_of policy.Long) (record idle { requested = true }) false (4 ∷ []) None None 0
+    ≡ returned asked.Take 256
 idle_hart_takes_first = refl
 
 -- the digits of 7 and those of 8 decide for a thread and for a store: below 30 in 1,000 the one, below 60 the other
 pub thread_means_to_leave : turn_of policy.Long storing None 59029999 ≡ done asked.Drain (Some means.Preempt) 0
 thread_means_to_leave = refl
 
-pub then_it_leaves : turn_of policy.Long running (Some means.Preempt) 999999999999 ≡ done asked.Preempt None 0
+pub then_it_leaves : turn_of policy.Long running (Some means.Preempt) 999999999999 ≡ returned asked.Preempt 0
 then_it_leaves = refl
 
 pub store_enters : turn_of policy.Long storing None 59030000 ≡ done asked.Drain None 0
 store_enters = refl
 
-pub store_goes_on_waiting : turn_of policy.Long storing None 60030000 ≡ done asked.Exec None 256
+pub store_goes_on_waiting : turn_of policy.Long storing None 60030000 ≡ returned asked.Exec 256
 store_goes_on_waiting = refl
 
-pub one_gives_no_credit : turn_of policy.One storing None 250015000 ≡ done asked.Exec None 0
+pub one_gives_no_credit : turn_of policy.One storing None 250015000 ≡ returned asked.Exec 0
 one_gives_no_credit = refl
 
 -- a hart that must wait for its stores means no thread to leave, and lets the oldest one enter
@@ -85,26 +92,26 @@ pub request_comes_first : turn_of policy.Long (record storing { requested = true
 request_comes_first = refl
 
 pub signal_alone : turn_of policy.Long (record running { deliverable = true }) None 49999999999
-    ≡ done asked.Signal None 0
+    ≡ returned asked.Signal 0
 signal_alone = refl
 
 pub request_waits_by_the_word : turn_of policy.Pos (record storing { requested = true }) None 50999999999
-    ≡ done asked.Exec None 256
+    ≡ returned asked.Exec 256
 request_waits_by_the_word = refl
 
 pub request_is_taken_at_once : turn_of policy.Pos (record running { requested = true }) None 50999999999
-    ≡ done asked.Take None 0
+    ≡ returned asked.Take 0
 request_is_taken_at_once = refl
 
 -- by the rule a store waits until the next event needs that none does, and a request is taken and a signal delivered at once
-pub rule_lets_stores_wait : turn_of policy.Rule storing None 0 ≡ done asked.Exec None 0
+pub rule_lets_stores_wait : turn_of policy.Rule storing None 0 ≡ returned asked.Exec 0
 rule_lets_stores_wait = refl
 
 pub rule_drains_where_it_must : turn_of policy.Rule (record storing { exec_enabled = false }) None 0 ≡ done asked.Drain None 0
 rule_drains_where_it_must = refl
 
 pub rule_takes_requests : turn_of policy.Rule (record running { requested = true; deliverable = true }) None 0
-    ≡ done asked.Take None 0
+    ≡ returned asked.Take 0
 rule_takes_requests = refl
 
 pub rule_delivers_signals : turn_of policy.Rule (record storing { deliverable = true }) None 0
@@ -112,8 +119,26 @@ pub rule_delivers_signals : turn_of policy.Rule (record storing { deliverable = 
 rule_delivers_signals = refl
 
 -- an aim that can't be done any more is none, also while a store waits
-pub aim_is_given_up : turn_of policy.Long storing (Some means.Signal) 999999999999 ≡ done asked.Exec None 256
+pub aim_is_given_up : turn_of policy.Long storing (Some means.Signal) 999999999999 ≡ returned asked.Exec 256
 aim_is_given_up = refl
+
+-- a signal that can be delivered already waits for a word behind an instruction, but not behind a call or a fault
+pub signal_waits_by_the_word : turn_of policy.Long (record running { deliverable = true }) None 999999999999
+    ≡ done asked.Exec None 256
+signal_waits_by_the_word = refl
+
+pub signal_comes_behind_a_trap : trapping policy.Long (record running { deliverable = true }) None 999999999999
+    ≡ returned asked.Exec 256
+signal_comes_behind_a_trap = refl
+
+-- then it is delivered whatever the word is, once no store waits
+pub trapped_hart_drains : turn_of policy.Long (record storing { deliverable = true }) (Some means.Signal) 999999999999
+    ≡ done asked.Drain (Some means.Signal) 0
+trapped_hart_drains = refl
+
+pub trapped_hart_delivers : turn_of policy.Long (record running { deliverable = true }) (Some means.Signal) 999999999999
+    ≡ returned asked.Signal 0
+trapped_hart_delivers = refl
 
 -- a hart held up by the stores of others alone can't act
 pub held_up_by_others : can_act (record running { exec_enabled = false }) true ≡ false

@@ -1,3 +1,4 @@
 mod Allowed
 mod Examples
 pub mod Laws
+mod OwnSignals

@@ -3,6 +3,7 @@ pub mod Acting
 pub mod Aims
 pub mod Beginning
 pub mod Conditions
+pub mod OwnSignals
 pub mod Policies
 pub mod Turns
 pub mod Words

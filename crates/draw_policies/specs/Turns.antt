@@ -14,9 +14,19 @@ use Rattle.draw_policies.specs.declared.aims.Aim.TheVariants as means
 use Rattle.draw_policies.specs.declared.policies.Weights.{Weights}
 use Rattle.draw_policies.specs.declared.turns.Turn.{Turn}
 
--- an event after which the hart means nothing, and register-only instructions may follow without a word
+-- an event of the hart's kernel: before it goes back to the thread it delivers a signal that can be delivered (signal(7)), so that is
+-- what the hart means then; and register-only instructions may follow without a word
 abbrev pub freely : Weights → Choice → Turn
-freely weights c = record { choice = c; aim = None; credit = weights.credit }
+freely weights c = record { choice = c; aim = Some means.Signal; credit = weights.credit }
+
+-- the thread's next instruction, which traps or not: a signal that could be delivered before it waits on for a word, unless the thread
+-- goes to the kernel by it
+abbrev pub executing : Weights → Sight → Bool → Turn
+executing weights seen traps = record {
+  choice = asked.Exec;
+  aim = if seen.deliverable && not traps then None else Some means.Signal;
+  credit = weights.credit;
+}
 
 -- the oldest waiting store enters memory, and no credit is left
 abbrev pub draining : Option Aim → Turn
@@ -59,7 +69,7 @@ meant weights seen held w = option_or (still_due seen held) (new_aim weights see
 -- a hart that means something does it where no store waits; else its oldest store enters memory
 abbrev pub aimed : Sight → Aim → Turn
 aimed seen a =
-    if has_stores seen then draining (Some a) else record { choice = choice_of_aim a; aim = None; credit = 0 }
+    if has_stores seen then draining (Some a) else record { choice = choice_of_aim a; aim = Some means.Signal; credit = 0 }
 
 -- whether the oldest store enters memory by this word
 abbrev pub drains_by : ℕ → Weights → Sight → Bool
@@ -67,21 +77,22 @@ drains_by w weights seen = has_stores seen && nat_lt (drain_of w) weights.drain
 
 -- a hart that means nothing executes an instruction, where it may and no store enters memory by the word; else its oldest store
 -- enters memory
-abbrev pub aimless : Weights → Sight → ℕ → Turn
-aimless weights seen w =
-    if seen.exec_enabled && not (drains_by w weights seen) then freely weights asked.Exec else draining None
+abbrev pub aimless : Weights → Sight → Bool → ℕ → Turn
+aimless weights seen traps w =
+    if seen.exec_enabled && not (drains_by w weights seen) then executing weights seen traps else draining None
 
-abbrev pub turn_meaning : Weights → Sight → ℕ → Option Aim → Turn
-turn_meaning weights seen w None = aimless weights seen w
-turn_meaning weights seen w (Some a) = aimed seen a
+abbrev pub turn_meaning : Weights → Sight → Bool → ℕ → Option Aim → Turn
+turn_meaning weights seen traps w None = aimless weights seen traps w
+turn_meaning weights seen traps w (Some a) = aimed seen a
 
 -- a hart whose thread runs, and waits in no barrier
-abbrev pub running_turn : Weights → Sight → Option Aim → ℕ → Turn
-running_turn weights seen held w = turn_meaning weights seen w (meant weights seen held w)
+abbrev pub running_turn : Weights → Sight → Bool → Option Aim → ℕ → Turn
+running_turn weights seen traps held w = turn_meaning weights seen traps w (meant weights seen held w)
 
--- any hart, where these threads may begin to run there, and that one ran there last; none on an idle hart that has nothing to do
-abbrev pub turn : Weights → Sight → List ℕ → Option Tid → Option Aim → ℕ → Option Turn
-turn weights seen threads last held w =
+-- any hart, whose thread's next instruction traps or not, where these threads may begin to run there, and that one ran there last; none
+-- on an idle hart that has nothing to do
+abbrev pub turn : Weights → Sight → Bool → List ℕ → Option Tid → Option Aim → ℕ → Option Turn
+turn weights seen traps threads last held w =
     if seen.idle then idle_turn weights seen (thread_to_run threads last w)
     else if seen.in_barrier then Some (barrier_turn weights seen)
-    else Some (running_turn weights seen held w)
+    else Some (running_turn weights seen traps held w)

@@ -18,6 +18,6 @@ pub use acting::{can_act, has_stores};
 pub use aims::{Aim, still_due};
 pub use beginning::thread_to_run;
 pub use policies::{Policies, Policy, Weights};
-pub use theorems::{turn_is_allowed, turns_come};
+pub use theorems::{own_signals_come_first, turn_is_allowed, turns_come};
 pub use turns::{Turn, turn_of};
 pub use words::Word;

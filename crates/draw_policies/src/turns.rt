@@ -21,13 +21,29 @@ pub struct Turn {
     pub credit: u16,
 }
 
-/// An event after which the hart means nothing, and register-only instructions may follow.
+/// An event after which the hart means to let a signal be delivered, if one can be, and register-only instructions may follow.
 fn freely(weights: &Weights, choice: Choice) -> Turn
     ensures { result ≡ turns.freely weights.now choice }
 {
     Turn {
         choice,
-        aim: None,
+        aim: Some(Aim::Signal),
+        credit: weights.credit,
+    }
+}
+
+/// The next instruction of the hart's thread, which traps or not.
+fn executing(weights: &Weights, sight: &Sight, traps: bool) -> Turn
+    ensures { result ≡ turns.executing weights.now sight.now traps }
+{
+    let aim = if sight.deliverable && !traps {
+        None
+    } else {
+        Some(Aim::Signal)
+    };
+    Turn {
+        choice: Choice::Exec,
+        aim,
         credit: weights.credit,
     }
 }
@@ -123,7 +139,7 @@ fn aimed(sight: &Sight, aim: Aim) -> Turn
     }
     Turn {
         choice: aim.choice(),
-        aim: None,
+        aim: Some(Aim::Signal),
         credit: 0,
     }
 }
@@ -136,11 +152,11 @@ fn drains_by(word: Word, weights: &Weights, sight: &Sight) -> bool
 }
 
 /// What a running hart does that means nothing.
-fn aimless(weights: &Weights, sight: &Sight, word: Word) -> Turn
-    ensures { result ≡ turns.aimless weights.now sight.now word.0 }
+fn aimless(weights: &Weights, sight: &Sight, traps: bool, word: Word) -> Turn
+    ensures { result ≡ turns.aimless weights.now sight.now traps word.0 }
 {
     if sight.exec_enabled && !drains_by(word, weights, sight) {
-        freely(weights, Choice::Exec)
+        executing(weights, sight, traps)
     } else {
         draining(None)
     }
@@ -148,34 +164,41 @@ fn aimless(weights: &Weights, sight: &Sight, word: Word) -> Turn
 
 /// What a hart does whose thread runs, and waits in no barrier.
 #[inline(always)]
-fn running_turn(weights: &Weights, sight: &Sight, held: Option<Aim>, word: Word) -> Turn
-    ensures { result ≡ turns.running_turn weights.now sight.now held word.0 }
+fn running_turn(
+    weights: &Weights,
+    sight: &Sight,
+    traps: bool,
+    held: Option<Aim>,
+    word: Word,
+) -> Turn
+    ensures { result ≡ turns.running_turn weights.now sight.now traps held word.0 }
 {
     match meant(weights, sight, held, word) {
         Some(aim) => aimed(sight, aim),
-        None => aimless(weights, sight, word),
+        None => aimless(weights, sight, traps, word),
     }
 }
 
-/// What a hart does in its turn, of which this is seen, by one word: these threads may begin to run there,
-/// one ran there last, and it means to do this. None exactly where it is idle, and has no request and no such
-/// thread.
+/// What a hart does in its turn, of which this is seen, by one word: the next instruction of its thread traps (a
+/// call or a fault) or not, these threads may begin to run there, one ran there last, and it means to do this. None
+/// exactly where it is idle, and has no request and no such thread.
 #[inline(always)]
 pub fn turn_of(
     weights: &Weights,
     sight: &Sight,
+    traps: bool,
     threads: &[u32],
     last: Option<Tid>,
     held: Option<Aim>,
     word: Word,
 ) -> Option<Turn>
-    ensures { result ≡ turns.turn weights.now sight.now threads.now last held word.0 }
+    ensures { result ≡ turns.turn weights.now sight.now traps threads.now last held word.0 }
 {
     if sight.idle {
         idle_turn(weights, sight, thread_to_run(threads, last, word))
     } else if sight.in_barrier {
         Some(barrier_turn(weights, sight))
     } else {
-        Some(running_turn(weights, sight, held, word))
+        Some(running_turn(weights, sight, traps, held, word))
     }
 }

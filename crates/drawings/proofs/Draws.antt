@@ -1,6 +1,6 @@
 -- What is drawn is allowed, and where a hart can make an event one is drawn.
 use Rattle.std.proofs.Common.{◌≡◌, ◌⊎◌, inl, inr, ℕ, ◌+◌, ◌/◌, ◌%◌, ◌<◌, Bool, true, false, not, ◌&&◌, ◌||◌, cond, eqb, ltb, length, Option, Some, None, refl, sym, ap, ◌∙◌, subst, arith}
-use Rattle.std.specs.Prelude.{IsSome, is_some, slice_get, slice_index_or}
+use Rattle.std.specs.Prelude.{IsSome, is_none, is_some, slice_get, slice_index_or}
 use Rattle.std.specs.Option.{option_and_then, option_map}
 use Rattle.std.proofs.lemmas.Bool.{and_parts, eq-eqb, false≢true}
 use Rattle.std.proofs.lemmas.Nat.{div_below}
@@ -13,7 +13,7 @@ use Rattle.draw_policies.specs.Words.{hart_place, stay_of}
 use Rattle.draw_policies.specs.declared.turns.Turn.{Turn}
 use Rattle.draw_policies.proofs.Laws.{place_among-below, turn-allowed, turn-comes}
 use Rattle.drawings.specs.Allowed.{AreSettled, IsAllowedOf}
-use Rattle.drawings.specs.Drawings.{Drawn, IsFor, after_word, current, draw, drawn_by_actor, drawn_by_hart, drawn_by_priority, drawn_by_store, drawn_by_word, drawn_of, goes_on, hart_by_word, kept_after, lots_after, next_word, on_credit, stays, turn_at}
+use Rattle.drawings.specs.Drawings.{Drawn, IsFor, after_word, aim_behind, aim_of, current, draw, drawn_by_actor, drawn_by_hart, drawn_by_priority, drawn_by_store, drawn_by_word, drawn_of, goes_on, hart_by_word, kept_after, lots_after, next_word, on_credit, settled_for, stays, turn_at}
 use Rattle.drawings.specs.Priorities.{actors, acts, hart_of, is_enabled, is_hart, leader}
 use Rattle.drawings.specs.Scenes.{Scene, able, is_able, startable}
 use Rattle.drawings.specs.declared.drawing.Drawing.{Drawing}
@@ -28,21 +28,21 @@ Fits scene d (Some x) = IsAllowedOf scene d.opened x
 -- of the turn of a hart that can act
 turn_fits : (scene : Scene) (d : Drawing) (h w : ℕ) (lots : Turn → Lots) (o : Option Turn) → AreSettled scene → h < scene.harts
     → is_able scene d.opened h ≡ true → turn_at scene d h w ≡ o
-    → Fits scene d (option_map (λ (t : Turn). drawn_of h (lots t) d t) o)
-turn_fits scene d h w lots None settled below can e = tt
-turn_fits scene d h w lots (Some t) settled below can e = record {
+    → Fits scene d (option_map (λ (t : Turn). drawn_of h (lots t) (settled_for h scene d) t) o)
+turn_fits scene d h w lots None quiet below can e = tt
+turn_fits scene d h w lots (Some t) quiet below can e = record {
   within = below;
-  allowed = turn-allowed (current d) (scene.sight h) (startable d.opened h scene.scheduling) (slice_index_or d.ran h None)
-      (slice_index_or d.aims h None) w t (settled h below) can e;
+  allowed = turn-allowed (current d) (scene.sight h) (scene.traps h) (startable d.opened h scene.scheduling)
+      (slice_index_or d.ran h None) (aim_of d h) w t (quiet h below) can e;
 }
 
 -- by a word
 word_fits : (scene : Scene) (d : Drawing) (w : ℕ) (o : Option ℕ) → AreSettled scene
     → PassesIfSome (is_able scene d.opened) scene.harts o
-    → Fits scene d (option_and_then (λ h. option_map (drawn_of h (after_word d) d) (turn_at scene d h w)) o)
-word_fits scene d w None settled can = tt
-word_fits scene d w (Some h) settled can =
-    turn_fits scene d h w (λ t. after_word d) (turn_at scene d h w) settled can.0 can.1 refl
+    → Fits scene d (option_and_then (λ h. option_map (drawn_of h (after_word d) (settled_for h scene d)) (turn_at scene d h w)) o)
+word_fits scene d w None quiet can = tt
+word_fits scene d w (Some h) quiet can =
+    turn_fits scene d h w (λ t. after_word d) (turn_at scene d h w) quiet can.0 can.1 refl
 
 hart_passes : (scene : Scene) (d : Drawing) (w : ℕ) → IsFor scene.harts d
     → PassesIfSome (is_able scene d.opened) scene.harts (hart_by_word scene d w)
@@ -65,17 +65,17 @@ hart_drawn scene d w h ready is =
 abbrev may_act : Scene → Drawing → ℕ → Bool
 may_act scene d h =
     (scene.sight h).idle || (scene.sight h).in_barrier || (scene.sight h).exec_enabled
-    || is_some (still_due (scene.sight h) (slice_index_or d.aims h None))
+    || is_some (still_due (scene.sight h) (aim_of d h))
 
 one_fits : (scene : Scene) (d : Drawing) (actor : ℕ) (b : Bool) → AreSettled scene → hart_of actor < scene.harts
     → cond b (acts scene d.opened d.aims (hart_of actor)) (has_stores (scene.sight (hart_of actor))) ≡ true
     → Fits scene d (cond b (drawn_by_hart scene d actor) (Some (drawn_by_store scene d actor)))
-one_fits scene d actor true settled below can =
+one_fits scene d actor true quiet below can =
     let h = hart_of actor in
     let w = next_word d in
-    turn_fits scene d h w (λ (t : Turn). lots_after scene actor h t.choice (after_word d)) (turn_at scene d h w) settled below
+    turn_fits scene d h w (λ (t : Turn). lots_after scene actor h t.choice (after_word d)) (turn_at scene d h w) quiet below
     (and_parts (is_able scene d.opened h) (may_act scene d h) can).0 refl
-one_fits scene d actor false settled below can = record { within = below; allowed = Drains can }
+one_fits scene d actor false quiet below can = record { within = below; allowed = Drains can }
 
 itself : (b acts stores : Bool) → b ≡ true → cond b acts stores ≡ true → acts ≡ true
 itself true acts stores is can = can
@@ -95,46 +95,48 @@ leader_can_act scene d actor is even =
 actor_fits : (scene : Scene) (d : Drawing) (o : Option ℕ) → AreSettled scene
     → PassesIfSome (is_enabled scene d.opened d.aims) (actors scene.harts) o
     → Fits scene d (option_and_then (drawn_by_actor scene d) o)
-actor_fits scene d None settled can = tt
-actor_fits scene d (Some actor) settled can =
+actor_fits scene d None quiet can = tt
+actor_fits scene d (Some actor) quiet can =
     let below : actor < scene.harts + scene.harts = can.0 in
-    one_fits scene d actor (is_hart actor) settled (div_below actor 2 scene.harts (omega arith) (omega arith)) can.1
+    one_fits scene d actor (is_hart actor) quiet (div_below actor 2 scene.harts (omega arith) (omega arith)) can.1
 
 -- on credit
 credit_allows : (scene : Scene) (d : Drawing) → goes_on scene d ≡ true → (scene.sight d.last.0).exec_enabled ≡ true
 credit_allows scene d is =
     let seen = scene.sight d.last.0 in
-    let front = (and_parts (ltb 0 d.credit && seen.exec_enabled && seen.«local») (not (scene.is_inside d.last.0)) is).0 in
+    let apart = not (scene.is_inside d.last.0) in
+    let outside = (and_parts (ltb 0 d.credit && seen.exec_enabled && seen.«local» && apart) (is_none (aim_behind scene d)) is).0 in
+    let front = (and_parts (ltb 0 d.credit && seen.exec_enabled && seen.«local») apart outside).0 in
     let first = (and_parts (ltb 0 d.credit && seen.exec_enabled) seen.«local» front).0 in
     (and_parts (ltb 0 d.credit) seen.exec_enabled first).1
 
 -- whatever is drawn
 any_fits : (scene : Scene) (d : Drawing) (credit priority : Bool) → goes_on scene d ≡ credit → IsFor scene.harts d → AreSettled scene
     → Fits scene d (cond credit (Some (on_credit d)) (cond priority (drawn_by_priority scene d) (drawn_by_word scene d)))
-any_fits scene d true priority is ready settled = record { within = ready.last; allowed = Executes (credit_allows scene d is) }
-any_fits scene d false true is ready settled =
-    actor_fits scene d (leader (is_enabled scene d.opened d.aims) d.lots.priorities (actors scene.harts)) settled
+any_fits scene d true priority is ready quiet = record { within = ready.last; allowed = Executes (credit_allows scene d is) }
+any_fits scene d false true is ready quiet =
+    actor_fits scene d (leader (is_enabled scene d.opened d.aims) d.lots.priorities (actors scene.harts)) quiet
     (leader_passes (is_enabled scene d.opened d.aims) d.lots.priorities (actors scene.harts))
-any_fits scene d false false is ready settled =
+any_fits scene d false false is ready quiet =
     let w = next_word d in
-    word_fits scene d w (hart_by_word scene d w) settled (hart_passes scene d w ready)
+    word_fits scene d w (hart_by_word scene d w) quiet (hart_passes scene d w ready)
 
 pub draw-allowed : (scene : Scene) (d : Drawing) (x : Drawn) → IsFor scene.harts d → AreSettled scene → draw scene d ≡ Some x
     → IsAllowedOf scene d.opened x
 unfolding draw
-draw-allowed scene d x ready settled e =
+draw-allowed scene d x ready quiet e =
     subst (λ (o : Option Drawn). Fits scene d o) e
-    (any_fits scene d (goes_on scene d) (current d).by_priority refl ready settled)
+    (any_fits scene d (goes_on scene d) (current d).by_priority refl ready quiet)
 
 -- the harts of the drawing stay among those of the machine
 turn_ready : (scene : Scene) (d : Drawing) (h : ℕ) (lots : Turn → Lots) (o : Option Turn) → IsFor scene.harts d → h < scene.harts
-    → IsFor scene.harts (kept_after (option_map (λ (t : Turn). drawn_of h (lots t) d t) o) d)
+    → IsFor scene.harts (kept_after (option_map (λ (t : Turn). drawn_of h (lots t) (settled_for h scene d) t) o) d)
 turn_ready scene d h lots None ready below = ready
 turn_ready scene d h lots (Some t) ready below = record { few = ready.few; last = below; opened = ready.opened }
 
 word_ready : (scene : Scene) (d : Drawing) (w : ℕ) (o : Option ℕ) → IsFor scene.harts d
     → PassesIfSome (is_able scene d.opened) scene.harts o
-    → IsFor scene.harts (kept_after (option_and_then (λ h. option_map (drawn_of h (after_word d) d) (turn_at scene d h w)) o) d)
+    → IsFor scene.harts (kept_after (option_and_then (λ h. option_map (drawn_of h (after_word d) (settled_for h scene d)) (turn_at scene d h w)) o) d)
 word_ready scene d w None ready can = ready
 word_ready scene d w (Some h) ready can = turn_ready scene d h (λ t. after_word d) (turn_at scene d h w) ready can.0
 
@@ -175,14 +177,14 @@ mapped f None some = absurd (false≢true some)
 mapped f (Some x) some = refl
 
 turn_drawn : (scene : Scene) (d : Drawing) (h w : ℕ) (lots : Turn → Lots) → is_able scene d.opened h ≡ true
-    → IsSome (option_map (λ (t : Turn). drawn_of h (lots t) d t) (turn_at scene d h w))
+    → IsSome (option_map (λ (t : Turn). drawn_of h (lots t) (settled_for h scene d) t) (turn_at scene d h w))
 turn_drawn scene d h w lots can =
-    mapped (λ (t : Turn). drawn_of h (lots t) d t) (turn_at scene d h w)
-    (turn-comes (current d) (scene.sight h) (startable d.opened h scene.scheduling) (slice_index_or d.ran h None)
-    (slice_index_or d.aims h None) w can)
+    mapped (λ (t : Turn). drawn_of h (lots t) (settled_for h scene d) t) (turn_at scene d h w)
+    (turn-comes (current d) (scene.sight h) (scene.traps h) (startable d.opened h scene.scheduling) (slice_index_or d.ran h None)
+    (aim_of d h) w can)
 
 word_drawn : (scene : Scene) (d : Drawing) (w : ℕ) (o : Option ℕ) → IsSome o → PassesIfSome (is_able scene d.opened) scene.harts o
-    → IsSome (option_and_then (λ h. option_map (drawn_of h (after_word d) d) (turn_at scene d h w)) o)
+    → IsSome (option_and_then (λ h. option_map (drawn_of h (after_word d) (settled_for h scene d)) (turn_at scene d h w)) o)
 word_drawn scene d w None some can = absurd (false≢true some)
 word_drawn scene d w (Some h) some can = turn_drawn scene d h w (λ t. after_word d) can.1
 
@@ -232,7 +234,7 @@ itself_or_store : (scene : Scene) (d : Drawing) (h : ℕ) → is_able scene d.op
 itself_or_store scene d h can =
     let seen = scene.sight h in
     acts_by (is_able scene d.opened h) seen.idle seen.in_barrier seen.exec_enabled
-    (is_some (still_due seen (slice_index_or d.aims h None))) (has_stores seen) can
+    (is_some (still_due seen (aim_of d h))) (has_stores seen) can
     (weaken seen (ltb 0 (length (startable d.opened h scene.scheduling))) seen.idle seen.in_barrier can)
 
 -- its actors by their numbers

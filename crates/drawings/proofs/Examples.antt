@@ -10,6 +10,7 @@ use Rattle.rand_core.specs.Stream.{fill_bytes}
 use Rattle.chooser.proofs.Sights.{idle}
 use Rattle.chooser.specs.Generators.{first_generator, next_generator, word}
 use Rattle.draw_policies.specs.declared.accesses.Access.{Access}
+use Rattle.draw_policies.specs.declared.aims.Aim.TheVariants as means
 use Rattle.draw_policies.specs.declared.policies.Policy.{Policy}
 use Rattle.draw_policies.specs.declared.policies.Policy.TheVariants as policy
 use Rattle.drawings.specs.Drawings.{draw, event_of, kept_after}
@@ -40,6 +41,7 @@ two_harts first second = record {
   harts = 2;
   sight = seen_of first second;
   is_inside = λ h. false;
+  traps = λ h. false;
   next_access = λ h. None;
   oldest_store = λ h. None;
   scheduling = record { order = 1 ∷ 2 ∷ []; affinities = (1, 3) ∷ (2, 3) ∷ [] };
@@ -101,6 +103,30 @@ credit_is_used = refl
 pub not_in_a_sequence : next (record (two_harts running running) { is_inside = λ h. true }) on_credit ≡ event 1 asked.Exec
 unfolding draw first_generator word next_generator fill_bytes stream_of word_bytes u32_at
 not_in_a_sequence = refl
+
+-- where it means to let a signal be delivered, and one can be, that comes before its credit: by the word of `long` it is hart 0's turn
+abbrev signalled : Sight
+signalled = record running { deliverable = true }
+
+abbrev owing : Drawing
+owing = record (starting policy.Long 1) { credit = 2; aims = Some means.Signal ∷ replicate 7 None }
+
+pub signal_comes_before_credit : next (two_harts signalled running) owing ≡ event 0 asked.Signal
+unfolding draw first_generator word next_generator fill_bytes stream_of word_bytes u32_at
+signal_comes_before_credit = refl
+
+pub store_comes_before_signal : next (two_harts (record signalled { stores = 1 }) running) owing ≡ event 0 asked.Drain
+unfolding draw first_generator word next_generator fill_bytes stream_of word_bytes u32_at
+store_comes_before_signal = refl
+
+-- where none can be delivered right behind the event, none is meant any more once another hart acts
+abbrev not_owing : Drawing
+not_owing = record (starting policy.Spread 1) { aims = Some means.Signal ∷ replicate 7 None }
+
+pub aim_is_settled : (kept_after (draw (two_harts running running) not_owing) not_owing).aims
+    ≡ None ∷ Some means.Signal ∷ replicate 6 None
+unfolding draw first_generator word next_generator fill_bytes stream_of word_bytes u32_at
+aim_is_settled = refl
 
 -- by the rule both harts are open, the last hart goes on where it can and else the first that can, and no word is drawn
 abbrev by_rule : Drawing

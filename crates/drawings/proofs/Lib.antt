@@ -2,5 +2,7 @@ mod Actors
 mod Draws
 mod Examples
 pub mod Laws
+mod OwnSignals
 mod Passing
+mod Shapes
 mod TurnSights

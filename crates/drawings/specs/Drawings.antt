@@ -1,16 +1,18 @@
 -- The drawing of events (own): what is kept between them, and the next one. The hart of the next event is the last one's by its
 -- credit; or else the last one's by the word, where it can act; or else any that can, each as likely as the next. What it does is its
 -- turn by the same word.
-use Rattle.std.specs.Prelude.{ℕ, ◌-◌, ◌<◌, ◌≤◌, ◌==◌, ◌&&◌, Bool, not, List, length, Option, Some, None, if◌then◌else◌, nat_lt, slice_get, slice_index_or, slice_set}
+use Rattle.std.specs.Prelude.{ℕ, ◌-◌, ◌<◌, ◌≤◌, ◌==◌, ◌&&◌, Bool, not, List, length, Option, Some, None, if◌then◌else◌, is_none, nat_lt, slice_get, slice_index_or, slice_set}
 use Rattle.std.specs.Option.{option_and_then, option_map, option_map_or}
 use Rattle.mach_types.specs.Events.{begun_by}
 use Rattle.mach_types.specs.declared.events.Choice.{Choice}
 use Rattle.mach_types.specs.declared.events.Choice.TheVariants as asked
 use Rattle.mach_types.specs.declared.events.Tid.{Tid}
 use Rattle.chooser.specs.Generators.{Generator, next_generator, word}
+use Rattle.draw_policies.specs.Aims.{still_due}
 use Rattle.draw_policies.specs.Policies.{weights_of}
 use Rattle.draw_policies.specs.Turns.{draining, turn}
 use Rattle.draw_policies.specs.Words.{hart_place, stay_of}
+use Rattle.draw_policies.specs.declared.aims.Aim.{Aim}
 use Rattle.draw_policies.specs.declared.policies.Policy.TheVariants as policy
 use Rattle.draw_policies.specs.declared.policies.Weights.{Weights}
 use Rattle.draw_policies.specs.declared.turns.Turn.{Turn}
@@ -30,23 +32,42 @@ pub record Drawn : Type 0 where
 abbrev pub current : Drawing → Weights
 current d = if d.left == 0 then weights_of policy.Fair else weights_of d.policy
 
--- whether the last hart goes on by its credit: its next instruction may be executed and touches registers alone, and its thread is
--- inside no sequence, where it might be interrupted
+-- what a hart means to do
+abbrev pub aim_of : Drawing → ℕ → Option Aim
+aim_of d h = slice_index_or d.aims h None
+
+-- what the last hart still means behind its event: nothing that can't be done at once
+abbrev pub aim_behind : Scene → Drawing → Option Aim
+aim_behind scene d = still_due (scene.sight d.last.0) (aim_of d d.last.0)
+
+-- the aims once hart h acts: where it is another than the last one, that gives up what can't be done
+abbrev pub aims_for : ℕ → Scene → Drawing → List (Option Aim)
+aims_for h scene d = if h == d.last.0 then d.aims else slice_set d.aims d.last.0 (aim_behind scene d)
+
+abbrev pub settled_for : ℕ → Scene → Drawing → Drawing
+settled_for h scene d = record d { aims = aims_for h scene d }
+
+-- whether the last hart goes on by its credit: it means nothing, its next instruction may be executed and touches registers alone, and
+-- its thread is inside no sequence, where it might be interrupted
 abbrev pub goes_on : Scene → Drawing → Bool
 goes_on scene d =
-    nat_lt 0 d.credit && (scene.sight d.last.0).exec_enabled && (scene.sight d.last.0).«local» && not (scene.is_inside d.last.0)
+    nat_lt 0 d.credit
+    && (scene.sight d.last.0).exec_enabled
+    && (scene.sight d.last.0).«local»
+    && not (scene.is_inside d.last.0)
+    && is_none (aim_behind scene d)
 
 abbrev pub on_credit : Drawing → Drawn
 on_credit d = record {
   hart = d.last.0;
   choice = asked.Exec;
-  after = record d { left = d.left - 1; credit = d.credit - 1 };
+  after = record d { left = d.left - 1; credit = d.credit - 1; aims = slice_set d.aims d.last.0 None };
 }
 
 -- the turn of hart h by a word
 abbrev pub turn_at : Scene → Drawing → ℕ → ℕ → Option Turn
 turn_at scene d h w =
-    turn (current d) (scene.sight h) (startable d.opened h scene.scheduling) (slice_index_or d.ran h None) (slice_index_or d.aims h None) w
+    turn (current d) (scene.sight h) (scene.traps h) (startable d.opened h scene.scheduling) (slice_index_or d.ran h None) (aim_of d h) w
 
 -- the thread that ran last on each hart, after an event of hart h
 abbrev pub ran_after : ℕ → Choice → List (Option Tid) → List (Option Tid)
@@ -89,7 +110,7 @@ after_word d = record d.lots { generator = generator_after d }
 abbrev pub drawn_by_word : Scene → Drawing → Option Drawn
 drawn_by_word scene d =
     let w = next_word d in
-    option_and_then (λ h. option_map (drawn_of h (after_word d) d) (turn_at scene d h w)) (hart_by_word scene d w)
+    option_and_then (λ h. option_map (drawn_of h (after_word d) (settled_for h scene d)) (turn_at scene d h w)) (hart_by_word scene d w)
 
 -- by priorities: the leader acts, a hart by a word, a store without one; then it and those whose next access races with its own get
 -- new priorities
@@ -99,13 +120,13 @@ lots_after scene actor h c lots = all_drawn (is_drawn_anew scene actor (access_b
 abbrev pub drawn_by_hart : Scene → Drawing → ℕ → Option Drawn
 drawn_by_hart scene d actor =
     let h = hart_of actor in
-    option_map (λ (t : Turn). drawn_of h (lots_after scene actor h t.choice (after_word d)) d t)
+    option_map (λ (t : Turn). drawn_of h (lots_after scene actor h t.choice (after_word d)) (settled_for h scene d) t)
     (turn_at scene d h (next_word d))
 
 abbrev pub drawn_by_store : Scene → Drawing → ℕ → Drawn
 drawn_by_store scene d actor =
     let h = hart_of actor in
-    drawn_of h (lots_after scene actor h asked.Drain d.lots) d (draining (slice_index_or d.aims h None))
+    drawn_of h (lots_after scene actor h asked.Drain d.lots) (settled_for h scene d) (draining (aim_of d h))
 
 abbrev pub drawn_by_actor : Scene → Drawing → ℕ → Option Drawn
 drawn_by_actor scene d actor =

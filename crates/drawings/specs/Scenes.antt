@@ -6,19 +6,16 @@ use Rattle.draw_policies.specs.Acting.{can_act}
 use Rattle.draw_policies.specs.declared.accesses.Access.{Access}
 
 -- how many harts there are; of each hart what a scheduler sees of it, whether its thread is inside a good restartable sequence as
--- the hart sees memory, what its next instruction accesses, and what its oldest waiting store does; and the ready threads with the
--- affinities
+-- the hart sees memory, whether its next instruction traps, what that accesses, and what its oldest waiting store does; and the ready
+-- threads with the affinities
 pub record Scene : Type 0 where
   pub harts : ℕ
   pub sight : ℕ → Sight
   pub is_inside : ℕ → Bool
+  pub traps : ℕ → Bool
   pub next_access : ℕ → Option Access
   pub oldest_store : ℕ → Option Access
   pub scheduling : Scheduling
-
--- whether the thread on hart h may execute its next instruction, which touches registers alone
-abbrev pub goes_freely : Scene → ℕ → Bool
-goes_freely scene h = (scene.sight h).exec_enabled && (scene.sight h).«local»
 
 -- what the turn of a hart goes by, of all that a scheduler sees of it: nothing else is told
 abbrev pub of_turn : Sight → Sight

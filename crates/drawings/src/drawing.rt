@@ -1,6 +1,6 @@
 //! What is kept between drawn events, and the next one.
 
-ghost use Rattle.std.specs.Prelude.{◌≡◌, ◌<◌, ◌≤◌, None, true, slice_index_or};
+ghost use Rattle.std.specs.Prelude.{◌≡◌, ◌<◌, ◌≤◌, [], None, false, true, slice_index_or};
 ghost use Rattle.draw_policies.specs.Turns.{turn};
 ghost use Rattle.drawings.specs.Drawings as drawings;
 ghost use Rattle.drawings.specs.Scenes.{is_able, startable};
@@ -52,24 +52,41 @@ impl Drawing {
         }
     }
 
-    /// Whether the last hart goes on by its credit.
-    pub(crate) fn goes_on<H: Harts>(&self, harts: &H) -> bool
-        requires { self.now.last.0 < (H.scene harts.now).harts }
-        ensures { result ≡ drawings.goes_on (H.scene harts.now) self.now }
+    /// What the last hart still means behind its event: nothing that can't be done at once.
+    #[inline(always)]
+    pub fn aim_behind<H: Harts>(&self, harts: &H) -> Option<Aim>
+        requires harts { self.now.last.0 < (H.scene harts.now).harts }
+        requires few { self.now.last.0 < 8 }
+        ensures { result ≡ drawings.aim_behind (H.scene harts.now) self.now }
     {
-        if self.credit > 0 {
-            harts.goes_freely(self.last) && !harts.is_inside(self.last)
+        let held = self.aims[self.last.0 as usize]?;
+        if harts.is_due(self.last, held) {
+            Some(held)
         } else {
-            false
+            None
+        }
+    }
+
+    /// Gives up what the last hart means, where another one acts than that, and it can't be done at once behind its event.
+    #[inline(always)]
+    pub(crate) fn settle_for<H: Harts>(&mut self, hart: u8, harts: &H)
+        requires harts { self.old.last.0 < (H.scene harts.now).harts }
+        requires few { self.old.last.0 < 8 }
+        ensures { self.new ≡ drawings.settled_for hart (H.scene harts.now) self.old }
+    {
+        if hart != self.last.0 {
+            self.aims[self.last.0 as usize] = self.aim_behind(harts);
         }
     }
 
     /// The last hart goes on by its credit.
     pub fn go_on(&mut self) -> DrawnEvent
-        requires { 0 < self.old.credit }
+        requires credit { 0 < self.old.credit }
+        requires few { self.old.last.0 < 8 }
         ensures event { result ≡ drawings.event_of (drawings.on_credit self.old) }
         ensures kept { self.new ≡ (drawings.on_credit self.old).after }
     {
+        self.aims[self.last.0 as usize] = None;
         self.credit -= 1;
         self.left = self.left.saturating_sub(1);
         DrawnEvent {
@@ -112,7 +129,7 @@ impl Drawing {
         if sight.idle {
             self.idle_turn_at(harts, hart, &sight, word)
         } else {
-            self.turn_with(hart, &sight, &[], word)
+            self.busy_turn_at(harts, hart, &sight, word)
         }
     }
 
@@ -121,25 +138,67 @@ impl Drawing {
     fn idle_turn_at<H: Harts>(&self, harts: &H, hart: u8, sight: &Sight, word: Word) -> Option<Turn>
         requires hart { hart < 8 }
         requires opened { self.now.opened ≤ 8 }
-        ensures { result ≡ turn (drawings.current self.now) sight.now
+        ensures { result ≡ turn (drawings.current self.now) sight.now false
             (startable self.now.opened hart (H.scene harts.now).scheduling)
-            (slice_index_or self.now.ran hart None) (slice_index_or self.now.aims hart None) word.0 }
+            (slice_index_or self.now.ran hart None) (drawings.aim_of self.now hart) word.0 }
     {
         let threads = harts.startable(Hart(hart), self.opened);
-        self.turn_with(hart, sight, &threads, word)
+        self.turn_with(hart, sight, false, &threads, word)
+    }
+
+    /// What a hart that isn't idle and of which this is seen does in its turn.
+    #[inline(always)]
+    fn busy_turn_at<H: Harts>(&self, harts: &H, hart: u8, sight: &Sight, word: Word) -> Option<Turn>
+        requires hart { hart < (H.scene harts.now).harts }
+        requires few { hart < 8 }
+        ensures { result ≡ turn (drawings.current self.now) sight.now ((H.scene harts.now).traps hart) []
+            (slice_index_or self.now.ran hart None) (drawings.aim_of self.now hart) word.0 }
+    {
+        if sight.deliverable {
+            self.turn_signalled(harts, hart, sight, word)
+        } else {
+            self.turn_with(hart, sight, false, &[], word)
+        }
+    }
+
+    /// What a hart of which this is seen does in its turn where a signal can be delivered: there it matters whether its thread's next
+    /// instruction traps.
+    #[inline(never)]
+    fn turn_signalled<H: Harts>(
+        &self,
+        harts: &H,
+        hart: u8,
+        sight: &Sight,
+        word: Word,
+    ) -> Option<Turn>
+        requires hart { hart < (H.scene harts.now).harts }
+        requires few { hart < 8 }
+        ensures { result ≡ turn (drawings.current self.now) sight.now ((H.scene harts.now).traps hart) []
+            (slice_index_or self.now.ran hart None) (drawings.aim_of self.now hart) word.0 }
+    {
+        let traps = harts.traps(Hart(hart));
+        self.turn_with(hart, sight, traps, &[], word)
     }
 
     /// What a hart of which this is seen does in its turn where these threads may begin to run there.
     #[inline(always)]
-    fn turn_with(&self, hart: u8, sight: &Sight, threads: &[u32], word: Word) -> Option<Turn>
+    fn turn_with(
+        &self,
+        hart: u8,
+        sight: &Sight,
+        traps: bool,
+        threads: &[u32],
+        word: Word,
+    ) -> Option<Turn>
         requires { hart < 8 }
-        ensures { result ≡ turn (drawings.current self.now) sight.now threads.now
-            (slice_index_or self.now.ran hart None) (slice_index_or self.now.aims hart None) word.0 }
+        ensures { result ≡ turn (drawings.current self.now) sight.now traps threads.now
+            (slice_index_or self.now.ran hart None) (drawings.aim_of self.now hart) word.0 }
     {
         let place = hart as usize;
         turn_of(
             self.weights(),
             sight,
+            traps,
             threads,
             self.ran[place],
             self.aims[place],

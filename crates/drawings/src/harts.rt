@@ -2,12 +2,13 @@
 
 ghost use Rattle.std.specs.Prelude.{◌≡◌, ◌<◌, ◌≤◌, ◌++◌, ◌∷◌, [], true, if◌then◌else◌, length, slice_get};
 ghost use Rattle.chooser.specs.Cases as cases;
+ghost use Rattle.draw_policies.specs.Aims.{is_due};
 ghost use Rattle.draw_policies.specs.Words.{hart_place};
 ghost use Rattle.drawings.specs.Scenes as scenes;
 ghost use Rattle.drawings.specs.Scenes.{Scene};
 
 use arrayvec::ArrayVec;
-use draw_policies::{Access, Word};
+use draw_policies::{Access, Aim, Word};
 use mach_types::{Hart, Sight};
 
 /// The harts of a machine at a place, as a policy sees them.
@@ -37,10 +38,15 @@ pub trait Harts {
         requires { hart.0 < (scene self.now).harts }
         ensures { result ≡ cases.has_stores ((scene self.now).sight hart.0) };
 
-    /// Whether the thread on a hart may execute its next instruction, which touches registers alone.
-    fn goes_freely(&self, hart: Hart) -> bool
+    /// Whether what a hart means can still be done.
+    fn is_due(&self, hart: Hart, aim: Aim) -> bool
         requires { hart.0 < (scene self.now).harts }
-        ensures { result ≡ scenes.goes_freely (scene self.now) hart.0 };
+        ensures { result ≡ is_due ((scene self.now).sight hart.0) aim };
+
+    /// Whether the next instruction of the thread on a hart traps: it is a call, or makes a fault.
+    fn traps(&self, hart: Hart) -> bool
+        requires { hart.0 < (scene self.now).harts }
+        ensures { result ≡ (scene self.now).traps hart.0 };
 
     /// Whether the thread on a hart is inside a good restartable sequence, as the hart sees memory.
     fn is_inside(&self, hart: Hart) -> bool

@@ -14,22 +14,8 @@ use rand_core::utils::NextWord;
 use rand_xoshiro::Xoshiro256PlusPlus;
 
 impl Drawing {
-    /// The next event, where there is one; else nothing changes.
-    #[tactic(auto, unfolding(crate::specs::Drawings::draw))]
-    pub fn next<H: Harts>(&mut self, harts: &H) -> Option<DrawnEvent>
-        requires { drawings.IsFor (H.scene harts.now).harts self.old }
-        ensures event { result ≡ option_map drawings.event_of (drawings.draw (H.scene harts.now) self.old) }
-        ensures kept { self.new ≡ drawings.kept_after (drawings.draw (H.scene harts.now) self.old) self.old }
-    {
-        if self.goes_on(harts) {
-            Some(self.go_on())
-        } else {
-            self.next_drawn(harts)
-        }
-    }
-
-    /// The same where the last hart doesn't go on by its credit: the event is drawn by priorities or by a
-    /// word.
+    /// The next event where the last hart doesn't go on by its credit: it is drawn by priorities or by a word. Where there is none
+    /// nothing changes.
     #[tactic(auto, unfolding(crate::specs::Drawings::draw))]
     pub fn next_drawn<H: Harts>(&mut self, harts: &H) -> Option<DrawnEvent>
         requires harts { drawings.IsFor (H.scene harts.now).harts self.old }
@@ -73,6 +59,7 @@ impl Drawing {
         let (word, generator) = self.next_word();
         let hart = self.hart_by_word(harts, word)?;
         let turn = self.turn_at(harts, hart, word)?;
+        self.settle_for(hart, harts);
         self.lots.generator = generator;
         Some(self.take_turn(hart, &turn))
     }
@@ -108,6 +95,7 @@ impl Drawing {
         let hart = actor / 2;
         let turn = self.turn_at(harts, hart, word)?;
         let made = access_by(harts, Hart(hart), turn.choice);
+        self.settle_for(hart, harts);
         self.lots.generator = generator;
         self.lots.draw_anew(harts, actor, made);
         Some(self.take_turn(hart, &turn))
@@ -128,6 +116,7 @@ impl Drawing {
             aim: self.aims[hart as usize],
             credit: 0,
         };
+        self.settle_for(hart, harts);
         self.lots.draw_anew(harts, actor, made);
         self.take_turn(hart, &turn)
     }

@@ -1,5 +1,5 @@
 -- A drawn run goes on by each event that is drawn: one is where the run hasn't ended, and it is allowed.
-use Rattle.std.proofs.Common.{◌≡◌, ◌≢◌, ◌+◌, ◌-◌, ◌<◌, ◌≤◌, ◌&&◌, ◌||◌, Bool, true, false, cond, leb, ltb, not, List, [], ◌∷◌, ◌++◌, length, length-append, take, Option, Some, None, Result, Ok, Err, is_some, refl, sym, ap, ◌∙◌, subst, arith}
+use Rattle.std.proofs.Common.{◌≡◌, ◌≢◌, ◌+◌, ◌-◌, ◌<◌, ◌≤◌, ◌&&◌, ◌||◌, Bool, true, false, cond, leb, ltb, not, List, [], ◌∷◌, ◌++◌, length, length-append, take, Option, Some, None, Result, Ok, Err, is_none, is_some, refl, sym, ap, ◌∙◌, subst, arith}
 use Rattle.std.specs.Prelude.{IsSome}
 use Rattle.std.specs.Option.{option_map}
 use Rattle.std.proofs.lemmas.Bool.{false≢true, le-ltb, lt-leb, lt-ltb}
@@ -9,7 +9,8 @@ use Rattle.mach_types.specs.Limits.{InRange}
 use Rattle.mach_types.specs.declared.events.Entry.{Entry}
 use Rattle.mach_types.specs.declared.limits.End.{End}
 use Rattle.mach_types.specs.declared.limits.End.TheVariants.{Unended}
-use Rattle.drawings.specs.Drawings.{Drawn, IsFor, current, draw, drawn_by_priority, drawn_by_word, event_of, kept_after, on_credit}
+use Rattle.draw_policies.specs.declared.aims.Aim.{Aim}
+use Rattle.drawings.specs.Drawings.{Drawn, IsFor, aim_behind, current, draw, drawn_by_priority, drawn_by_word, event_of, kept_after, on_credit}
 use Rattle.drawings.specs.Drawings.{goes_on as on}
 use Rattle.drawings.specs.Scenes.{Scene}
 use Rattle.drawings.specs.declared.drawing.Drawing.{Drawing}
@@ -246,18 +247,28 @@ unfolding draw
 credit_draws scene d is =
     ap (λ (b : Bool). cond b (Some (on_credit d)) (cond (current d).by_priority (drawn_by_priority scene d) (drawn_by_word scene d))) is
 
--- so where there is credit, the hart goes freely, and its thread is inside no sequence
-credit_parts : (credit may own inside : Bool) → (may && own) ≡ true → credit ≡ true → inside ≡ false → (credit && may && own && not inside) ≡ true
-credit_parts credit may own inside free some out = grind arith
+-- so where there is credit, the hart means nothing and goes freely, and its thread is inside no sequence
+credit_parts : (credit may own inside none : Bool) → (may && own) ≡ true → credit ≡ true → inside ≡ false → none ≡ true
+    → (credit && may && own && not inside && none) ≡ true
+credit_parts credit may own inside none free some out empty = grind arith
 
-no_credit : (credit may own inside : Bool) → credit ≡ false → (credit && may && own && not inside) ≡ false
-no_credit credit may own inside none = grind arith
+no_credit : (credit may own inside none : Bool) → credit ≡ false → (credit && may && own && not inside && none) ≡ false
+no_credit credit may own inside none off = grind arith
 
-not_freely : (credit may own inside : Bool) → (may && own) ≡ false → (credit && may && own && not inside) ≡ false
-not_freely credit may own inside free = grind arith
+not_freely : (credit may own inside none : Bool) → (may && own) ≡ false → (credit && may && own && not inside && none) ≡ false
+not_freely credit may own inside none free = grind arith
 
-within : (credit may own inside : Bool) → inside ≡ true → (credit && may && own && not inside) ≡ false
-within credit may own inside is = grind arith
+within : (credit may own inside none : Bool) → inside ≡ true → (credit && may && own && not inside && none) ≡ false
+within credit may own inside none is = grind arith
+
+means_one : (free : Bool) (aim : Option Aim) → is_some aim ≡ true → (free && is_none aim) ≡ false
+means_one true (Some a) is = refl
+means_one false (Some a) is = refl
+means_one free None is = absurd (false≢true is)
+
+means_none : (aim : Option Aim) → is_some aim ≡ false → is_none aim ≡ true
+means_none None is = refl
+means_none (Some a) is = absurd (false≢true (sym is))
 
 module _ (scene : Scene) (d : Drawing) where
   abbrev may : Bool
@@ -266,17 +277,27 @@ module _ (scene : Scene) (d : Drawing) where
   abbrev own : Bool
   own = (scene.sight d.last.0).«local»
 
-  pub goes_by_credit : 0 < d.credit → (may && own) ≡ true → scene.is_inside d.last.0 ≡ false → on scene d ≡ true
-  goes_by_credit some free out = credit_parts (ltb 0 d.credit) may own (scene.is_inside d.last.0) free (lt-ltb 0 d.credit some) out
+  abbrev inside : Bool
+  inside = scene.is_inside d.last.0
+
+  abbrev aim : Option Aim
+  aim = aim_behind scene d
+
+  pub goes_by_credit : 0 < d.credit → (may && own) ≡ true → inside ≡ false → is_some aim ≡ false → on scene d ≡ true
+  goes_by_credit some free out empty =
+      credit_parts (ltb 0 d.credit) may own inside (is_none aim) free (lt-ltb 0 d.credit some) out (means_none aim empty)
 
   pub stops_without : d.credit ≡ 0 → on scene d ≡ false
-  stops_without none = no_credit (ltb 0 d.credit) may own (scene.is_inside d.last.0) (ap (ltb 0) none)
+  stops_without off = no_credit (ltb 0 d.credit) may own inside (is_none aim) (ap (ltb 0) off)
 
-  pub stops_inside : scene.is_inside d.last.0 ≡ true → on scene d ≡ false
-  stops_inside is = within (ltb 0 d.credit) may own (scene.is_inside d.last.0) is
+  pub stops_inside : inside ≡ true → on scene d ≡ false
+  stops_inside is = within (ltb 0 d.credit) may own inside (is_none aim) is
 
   pub stops_unfree : (may && own) ≡ false → on scene d ≡ false
-  stops_unfree is = not_freely (ltb 0 d.credit) may own (scene.is_inside d.last.0) is
+  stops_unfree is = not_freely (ltb 0 d.credit) may own inside (is_none aim) is
+
+  pub stops_owing : is_some aim ≡ true → on scene d ≡ false
+  stops_owing is = means_one (ltb 0 d.credit && may && own && not inside) aim is
 
 -- such an event is the next one
 pub next_on_credit : (m : Manner) (now : Seen) (d : Drawing) → InRange now.setting.limits → IsOnItsWay m now d

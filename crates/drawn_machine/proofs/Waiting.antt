@@ -30,6 +30,7 @@ use Rattle.block_model.proofs.Laws.{IsStep, is_by_kernel, of_kernel, history-app
 use Rattle.drawings.specs.declared.drawing.Drawing.{Drawing}
 use Rattle.drawn_runs.specs.declared.manner.Manner.{Manner}
 use Rattle.drawn_machine.specs.OnTheWay.{GoesOn, IsOnItsWay}
+use Rattle.drawn_machine.specs.declared.hart_clock.Mark.{Mark}
 use Rattle.drawn_machine.specs.Waits.{Clock, clock, clock_after, clock_behind, clock_by, clock_made, counts_of, first_clock, no_waits, oldest_waits, wait_counts, wait_counts_in, waits, waits_behind, waits_by, waits_made, with_wait, with_waits}
 use Rattle.drawn_machine.specs.declared.store_waits.TheConstants.{LONG_WAIT}
 use Rattle.drawn_machine.proofs.Inside.{of_the_machine}
@@ -43,7 +44,7 @@ pub record HasDone (n m most : ℕ) (d : Done) : Type 0 where
   pub executed : length d.executed ≤ most
 
 -- neither
-abbrev IsIdle : Done → Type 0
+abbrev pub IsIdle : Done → Type 0
 IsIdle d = HasDone 0 0 0 d
 
 either : (n m most : ℕ) (b : Bool) (x y : Done) → HasDone n m most x → HasDone n m most y → HasDone n m most (cond b x y)
@@ -80,12 +81,12 @@ one_executed here None free = absurd cc
 one_executed here (Some t) free = executed_effect here t (next_fault here t) (next_effect here t)
 
 -- by its kind
-abbrev IsMadeBy : Maker → Done → Type 0
+abbrev pub IsMadeBy : Maker → Done → Type 0
 IsMadeBy Thread d = HasDone 1 0 1 d
 IsMadeBy Buffer d = HasDone 0 1 0 d
 IsMadeBy Kernel d = IsIdle d
 
-abbrev IsOfKind : Kind → Done → Type 0
+abbrev pub IsOfKind : Kind → Done → Type 0
 IsOfKind k d = IsMadeBy (nature_of k).maker d
 
 idle_event : (here : Here) (c : Choice) → is_by_kernel (maker_of c) ≡ true → IsIdle (done_of c here)
@@ -129,11 +130,11 @@ few_of_kind k d did = few_made (nature_of k).maker d did
 
 -- CLOCKS
 
-clock_own : (h : ℕ) (e : Event) (before : History) → eqb e.entry.hart.0 h ≡ true → clock h (e ∷ before) ≡ clock_after e.done (clock h before)
-clock_own h e before own = ap (λ (b : Bool). cond b (clock_after e.done (clock h before)) (clock h before)) own
+clock_own : (h : ℕ) (e : Event) (before : History) → eqb e.entry.hart.0 h ≡ true → clock h (e ∷ before) ≡ clock_after e (clock h before)
+clock_own h e before own = ap (λ (b : Bool). cond b (clock_after e (clock h before)) (clock h before)) own
 
 clock_apart : (h : ℕ) (e : Event) (before : History) → eqb e.entry.hart.0 h ≡ false → clock h (e ∷ before) ≡ clock h before
-clock_apart h e before apart = ap (λ (b : Bool). cond b (clock_after e.done (clock h before)) (clock h before)) apart
+clock_apart h e before apart = ap (λ (b : Bool). cond b (clock_after e (clock h before)) (clock h before)) apart
 
 -- each waiting store has its mark
 abbrev AreMarked : ℕ → History → Type 0
@@ -144,7 +145,8 @@ marked_own : (s : Setting) (h : ℕ) (e : Event) (before : History) → IsStep s
 marked_own s h e before step own same was =
     let c = clock h before in
     let d = e.done in
-    let new = replicate (length d.executed) (c.instructions + d.instructions) in
+    let mark : Mark = record { instructions = c.instructions + d.instructions; pc = e.entry.pc } in
+    let new = replicate (length d.executed) mark in
     let is : length (clock h (e ∷ before)).marks ≡ length (drop d.drained (c.marks ++ new)) = ap (λ (c : Clock). length c.marks) (clock_own h e before own) in
     let waits : length (waiting h (e ∷ before)) ≡ length (drop d.drained (waiting h before ++ d.executed)) =
     subst (λ (k : ℕ). length (waiting k (e ∷ before)) ≡ length (drop d.drained (waiting k before ++ d.executed))) same
@@ -156,7 +158,7 @@ marked_own s h e before step own same was =
       was,
       length-drop d.drained (c.marks ++ new),
       length-append c.marks new,
-      length-replicate (length d.executed) (c.instructions + d.instructions),
+      length-replicate (length d.executed) mark,
       length-drop d.drained (waiting h before ++ d.executed),
       length-append (waiting h before) d.executed,
     )
@@ -196,36 +198,37 @@ few_instructions s h (e ∷ before) run =
     omega (arith, next)
 
 -- what is counted from outside is what the event did
-same_clock : (n m k n' m' k' : ℕ) (c : Clock) → n ≡ n' → m ≡ m' → k ≡ k' → clock_by n m k c ≡ clock_by n' m' k' c
-same_clock n m k n' m' k' c a b d =
-    ap (λ (x : ℕ). clock_by x m k c) a ∙ ap (λ (x : ℕ). clock_by n' x k c) b ∙ ap (λ (x : ℕ). clock_by n' m' x c) d
+same_clock : (n m k pc n' m' k' : ℕ) (c : Clock) → n ≡ n' → m ≡ m' → k ≡ k' → clock_by n m k pc c ≡ clock_by n' m' k' pc c
+same_clock n m k pc n' m' k' c a b d =
+    ap (λ (x : ℕ). clock_by x m k pc c) a ∙ ap (λ (x : ℕ). clock_by n' x k pc c) b ∙ ap (λ (x : ℕ). clock_by n' m' x pc c) d
 
-unmoved : (c : Clock) → c ≡ clock_by 0 0 0 c
-unmoved c =
+unmoved : (pc : ℕ) (c : Clock) → c ≡ clock_by 0 0 0 pc c
+unmoved pc c =
     let number : c.instructions ≡ c.instructions + 0 = omega arith in
     let list : c.marks ≡ c.marks ++ [] = sym (append-nil c.marks) in
     ap (λ (n : ℕ). let x : Clock = record { instructions = n; marks = c.marks } in x) number
-    ∙ ap (λ (ms : List ℕ). let x : Clock = record { instructions = c.instructions + 0; marks = ms } in x) list
+    ∙ ap (λ (ms : List Mark). let x : Clock = record { instructions = c.instructions + 0; marks = ms } in x) list
 
-unmoved_by : (d : Done) (c : Clock) → IsIdle d → c ≡ clock_after d c
-unmoved_by d c idle =
-    unmoved c
-    ∙ same_clock 0 0 0 d.instructions d.drained (length d.executed) c (sym idle.instructions) (sym idle.drained)
+unmoved_by : (e : Event) (c : Clock) → IsIdle e.done → c ≡ clock_after e c
+unmoved_by e c idle =
+    unmoved e.entry.pc c
+    ∙ same_clock 0 0 0 e.entry.pc e.done.instructions e.done.drained (length e.done.executed) c (sym idle.instructions) (sym idle.drained)
     (let none = idle.executed in omega (arith, none))
 
-behind_made : (m : Maker) (d : Done) (c : Clock) (waiting : ℕ) → IsMadeBy m d → waiting ≡ length c.marks + length d.executed - d.drained
-    → clock_made m waiting c ≡ clock_after d c
-behind_made Thread d c waiting did is =
-    same_clock 1 0 (waiting - length c.marks) d.instructions d.drained (length d.executed) c (sym did.instructions) (sym did.drained)
+behind_made : (m : Maker) (e : Event) (c : Clock) (waiting : ℕ) → IsMadeBy m e.done
+    → waiting ≡ length c.marks + length e.done.executed - e.done.drained → clock_made m e.entry.pc waiting c ≡ clock_after e c
+behind_made Thread e c waiting did is =
+    same_clock 1 0 (waiting - length c.marks) e.entry.pc e.done.instructions e.done.drained (length e.done.executed) c (sym did.instructions)
+    (sym did.drained)
     (omega (arith, is, did.drained))
-behind_made Buffer d c waiting did is =
-    same_clock 0 1 0 d.instructions d.drained (length d.executed) c (sym did.instructions) (sym did.drained)
+behind_made Buffer e c waiting did is =
+    same_clock 0 1 0 e.entry.pc e.done.instructions e.done.drained (length e.done.executed) c (sym did.instructions) (sym did.drained)
     (let none = did.executed in omega (arith, none))
-behind_made Kernel d c waiting did is = unmoved_by d c did
+behind_made Kernel e c waiting did is = unmoved_by e c did
 
-behind_of_kind : (k : Kind) (d : Done) (c : Clock) (waiting : ℕ) → IsOfKind k d → waiting ≡ length c.marks + length d.executed - d.drained
-    → clock_behind k waiting c ≡ clock_after d c
-behind_of_kind k d c waiting did is = behind_made (nature_of k).maker d c waiting did is
+behind_of_kind : (k : Kind) (e : Event) (c : Clock) (waiting : ℕ) → IsOfKind k e.done
+    → waiting ≡ length c.marks + length e.done.executed - e.done.drained → clock_behind k e.entry.pc waiting c ≡ clock_after e c
+behind_of_kind k e c waiting did is = behind_made (nature_of k).maker e c waiting did is
 
 none_entered : (d : Done) (c : Clock) → d.drained ≡ 0 → [] ≡ waits_by d c
 none_entered d c none = ap (λ (n : ℕ). oldest_waits n c) (sym none)
@@ -271,7 +274,7 @@ few_waits_by d c one =
     omega (
       arith,
       one,
-      length-map (take d.drained c.marks) (λ (mark : ℕ). c.instructions - mark),
+      length-map (take d.drained c.marks) (λ (mark : Mark). c.instructions - mark.instructions),
       length-take d.drained c.marks,
     )
 
@@ -338,16 +341,16 @@ module _ (now : Seen) (x : Entry) (cs : List Clock) (ns : List ℕ) (stores : �
   step : IsStep now.setting e before
   step = step_of now.setting e before run_history
 
-  its_clock : c ≡ clock h before
+  pub its_clock : c ≡ clock h before
   its_clock = is.clocks h first_clock here
 
   its_marks : length c.marks ≡ length (waiting h before)
   its_marks = ap (λ (c : Clock). length c.marks) its_clock ∙ marked now.setting h before run_history.0
 
-  its_kind : IsOfKind x.kind e.done
+  pub its_kind : IsOfKind x.kind e.done
   its_kind = of_event now.setting e before step
 
-  its_stores : stores ≡ length c.marks + length e.done.executed - e.done.drained
+  pub its_stores : stores ≡ length c.marks + length e.done.executed - e.done.drained
   its_stores =
       let after : length (waiting h (history now.setting (now.log ++ x ∷ []))) ≡ length (drop e.done.drained (waiting h before ++ e.done.executed)) =
       ap (λ (b : History). length (waiting h b)) (history-append now.setting now.log x) ∙ ap (λ (ws : List Store). length ws) step.waits in
@@ -361,19 +364,19 @@ module _ (now : Seen) (x : Entry) (cs : List Clock) (ns : List ℕ) (stores : �
         length-append (waiting h before) e.done.executed,
       )
 
-  next_clock : clock_behind x.kind stores c ≡ clock h (e ∷ before)
+  next_clock : clock_behind x.kind x.pc stores c ≡ clock h (e ∷ before)
   next_clock =
-      behind_of_kind x.kind e.done c stores its_kind its_stores ∙ ap (clock_after e.done) its_clock
+      behind_of_kind x.kind e c stores its_kind its_stores ∙ ap (clock_after e) its_clock
       ∙ sym (clock_own h e before (eqb_same h))
 
-  next_clocks : (k : ℕ) (d : Clock) → k < length (set cs h (clock_behind x.kind stores c))
-      → get_or (set cs h (clock_behind x.kind stores c)) k d ≡ clock k (e ∷ before)
+  next_clocks : (k : ℕ) (d : Clock) → k < length (set cs h (clock_behind x.kind x.pc stores c))
+      → get_or (set cs h (clock_behind x.kind x.pc stores c)) k d ≡ clock k (e ∷ before)
   next_clocks k d below =
-      let within : k < length cs = omega (arith, below, length-set cs h (clock_behind x.kind stores c)) in
+      let within : k < length cs = omega (arith, below, length-set cs h (clock_behind x.kind x.pc stores c)) in
       elim (cases_eq h k) [
-        | inl same ↦ subst (λ (k : ℕ). get_or (set cs h (clock_behind x.kind stores c)) k d ≡ clock k (e ∷ before)) same
-            (get_or-set_same cs h (clock_behind x.kind stores c) d here ∙ next_clock)
-        | inr apart ↦ get_or-set_other cs h k (clock_behind x.kind stores c) d (λ same. apart (sym same)) ∙ is.clocks k d within
+        | inl same ↦ subst (λ (k : ℕ). get_or (set cs h (clock_behind x.kind x.pc stores c)) k d ≡ clock k (e ∷ before)) same
+            (get_or-set_same cs h (clock_behind x.kind x.pc stores c) d here ∙ next_clock)
+        | inr apart ↦ get_or-set_other cs h k (clock_behind x.kind x.pc stores c) d (λ same. apart (sym same)) ∙ is.clocks k d within
             ∙ sym (clock_apart k e before (ne_eqb h k apart))
       ]
 
@@ -383,11 +386,11 @@ module _ (now : Seen) (x : Entry) (cs : List Clock) (ns : List ℕ) (stores : �
       ∙ ap (with_waits (waits_by e.done (clock h before))) is.counts
       ∙ sym (with-waits-append (waits_by e.done (clock h before)) (waits before) no_waits)
 
-  tracked_by : IsTracked (record now { log = now.log ++ x ∷ [] }) (set cs h (clock_behind x.kind stores c)) (with_waits (waits_behind x.kind c) ns)
+  tracked_by : IsTracked (record now { log = now.log ++ x ∷ [] }) (set cs h (clock_behind x.kind x.pc stores c)) (with_waits (waits_behind x.kind c) ns)
   tracked_by =
       let after = sym (history-append now.setting now.log x) in
       record {
-        harts = omega (arith, length-set cs h (clock_behind x.kind stores c), is.harts);
+        harts = omega (arith, length-set cs h (clock_behind x.kind x.pc stores c), is.harts);
         clocks = λ k d below. next_clocks k d below ∙ ap (clock k) after;
         counts = next_counts ∙ ap wait_counts after;
       }
@@ -424,7 +427,7 @@ pub record IsNextOf (now next : Seen) (x : Entry) : Type 0 where
   pub run : IsBlockRun next.setting next.log
   pub short : next.setting.limits.steps ≤ 1000000
 
-runs_on : (now next : Seen) (x : Entry) → IsNextOf now next x → IsBlockRun now.setting (now.log ++ x ∷ [])
+pub runs_on : (now next : Seen) (x : Entry) → IsNextOf now next x → IsBlockRun now.setting (now.log ++ x ∷ [])
 runs_on now next x is = subst (λ (v : Seen). IsBlockRun v.setting v.log) is.made is.run
 
 pub hart_of_next : (now next : Seen) (x : Entry) → IsNextOf now next x → x.hart.0 < now.setting.limits.harts
@@ -459,7 +462,7 @@ countable now next x cs ns stores is tracked count =
 
 pub tracked_more : (now next : Seen) (x : Entry) (cs ds : List Clock) (ns ms : List ℕ) (stores : ℕ) → IsNextOf now next x
     → IsTracked now cs ns → stores ≡ length (waiting x.hart.0 (history next.setting next.log))
-    → ds ≡ set cs x.hart.0 (clock_behind x.kind stores (get_or cs x.hart.0 first_clock))
+    → ds ≡ set cs x.hart.0 (clock_behind x.kind x.pc stores (get_or cs x.hart.0 first_clock))
     → ms ≡ with_waits (waits_behind x.kind (get_or cs x.hart.0 first_clock)) ns → IsTracked next ds ms
 tracked_more now next x cs ds ns ms stores is tracked count clocks counts =
     let run = runs_on now next x is in
@@ -468,9 +471,9 @@ tracked_more now next x cs ds ns ms stores is tracked count clocks counts =
     count ∙ ap (λ (v : Seen). length (waiting x.hart.0 (history v.setting v.log))) is.made in
     let c = get_or cs x.hart.0 first_clock in
     let by = tracked_by now x cs ns stores tracked run here its in
-    let at_next : IsTracked next (set cs x.hart.0 (clock_behind x.kind stores c)) (with_waits (waits_behind x.kind c) ns) =
-    subst (λ (v : Seen). IsTracked v (set cs x.hart.0 (clock_behind x.kind stores c)) (with_waits (waits_behind x.kind c) ns)) (sym is.made) by in
-    let same_counts = subst (IsTracked next (set cs x.hart.0 (clock_behind x.kind stores c))) (sym counts) at_next in
+    let at_next : IsTracked next (set cs x.hart.0 (clock_behind x.kind x.pc stores c)) (with_waits (waits_behind x.kind c) ns) =
+    subst (λ (v : Seen). IsTracked v (set cs x.hart.0 (clock_behind x.kind x.pc stores c)) (with_waits (waits_behind x.kind c) ns)) (sym is.made) by in
+    let same_counts = subst (IsTracked next (set cs x.hart.0 (clock_behind x.kind x.pc stores c))) (sym counts) at_next in
     subst (λ (ds : List Clock). IsTracked next ds ms) (sym clocks) same_counts
 
 is_next : (s : Setting) (now next : Seen) (x : Entry) → now.setting ≡ s → InRange s.limits → next ≡ record now { log = now.log ++ x ∷ [] }

@@ -1,4 +1,6 @@
 pub mod OnTheWay
+pub mod Overtaken
+pub mod PcSets
 pub mod Preemptions
 pub mod Scenes
 pub mod Waits

@@ -7,37 +7,38 @@ use Rattle.mach_types.specs.declared.events.Maker.{Maker}
 use Rattle.mach_types.specs.declared.events.Maker.TheVariants.{Thread, Buffer, Kernel}
 use Rattle.block_model.specs.Deciding.{history}
 use Rattle.block_model.specs.Here.{Done}
-use Rattle.block_model.specs.History.{History, is_of_hart}
+use Rattle.block_model.specs.History.{Event, History, is_of_hart}
 use Rattle.block_model.specs.Setting.{Seen}
+use Rattle.drawn_machine.specs.declared.hart_clock.Mark.{Mark}
 use Rattle.drawn_machine.specs.declared.store_waits.TheConstants.{LONG_WAIT}
 
 -- what is counted of a hart: how many instructions it executed; and of each of its waiting stores, the oldest first, how many it had
--- executed when that one was, with it
+-- executed when that one was, with it, and the pc of that one's instruction
 pub record Clock : Type 0 where
   pub instructions : ℕ
-  pub marks : List ℕ
+  pub marks : List Mark
 
 abbrev pub first_clock : Clock
 first_clock = record { instructions = 0; marks = [] }
 
--- after so many instructions, stores that entered memory, and stores that were executed
-abbrev pub clock_by : ℕ → ℕ → ℕ → Clock → Clock
-clock_by instructions drained stores c =
+-- after so many instructions, stores that entered memory, and stores that were executed by the instruction at a pc
+abbrev pub clock_by : ℕ → ℕ → ℕ → ℕ → Clock → Clock
+clock_by instructions drained stores pc c =
     let now = c.instructions + instructions in
-    record { instructions = now; marks = drop drained (c.marks ++ replicate stores now) }
+    record { instructions = now; marks = drop drained (c.marks ++ replicate stores (record { instructions = now; pc = pc })) }
 
 -- after an event of the hart
-abbrev pub clock_after : Done → Clock → Clock
-clock_after d c = clock_by d.instructions d.drained (length d.executed) c
+abbrev pub clock_after : Event → Clock → Clock
+clock_after e c = clock_by e.done.instructions e.done.drained (length e.done.executed) e.entry.pc c
 
 -- of hart h
 abbrev pub clock : ℕ → History → Clock
 clock h [] = first_clock
-clock h (e ∷ before) = if is_of_hart h e then clock_after e.done (clock h before) else clock h before
+clock h (e ∷ before) = if is_of_hart h e then clock_after e (clock h before) else clock h before
 
 -- how long the oldest stores waited, so many
 abbrev pub oldest_waits : ℕ → Clock → List ℕ
-oldest_waits drained c = map (λ mark. c.instructions - mark) (take drained c.marks)
+oldest_waits drained c = map (λ (mark : Mark). c.instructions - mark.instructions) (take drained c.marks)
 
 -- those that enter memory by an event of the hart: one at most
 abbrev pub waits_by : Done → Clock → List ℕ
@@ -77,14 +78,14 @@ wait_counts_in m = wait_counts (history m.setting m.log)
 
 -- WHAT IS SEEN OF AN EVENT FROM OUTSIDE
 
--- a clock after an event of its hart, by who makes it, behind which so many stores of the hart wait
-abbrev pub clock_made : Maker → ℕ → Clock → Clock
-clock_made Thread waiting c = clock_by 1 0 (waiting - length c.marks) c
-clock_made Buffer waiting c = clock_by 0 1 0 c
-clock_made Kernel waiting c = c
+-- a clock after an event of its hart, by who makes it, of the instruction at a pc, and behind which so many stores of the hart wait
+abbrev pub clock_made : Maker → ℕ → ℕ → Clock → Clock
+clock_made Thread pc waiting c = clock_by 1 0 (waiting - length c.marks) pc c
+clock_made Buffer pc waiting c = clock_by 0 1 0 pc c
+clock_made Kernel pc waiting c = c
 
-abbrev pub clock_behind : Kind → ℕ → Clock → Clock
-clock_behind k waiting c = clock_made (nature_of k).maker waiting c
+abbrev pub clock_behind : Kind → ℕ → ℕ → Clock → Clock
+clock_behind k pc waiting c = clock_made (nature_of k).maker pc waiting c
 
 -- how long the stores waited that enter memory by it
 abbrev pub waits_made : Maker → Clock → List ℕ

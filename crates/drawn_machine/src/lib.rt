@@ -5,10 +5,14 @@
 
 mod drawn_run;
 mod hart_clock;
+mod pc_set;
 mod seen_harts;
 mod starting_threads;
+mod store_pcs;
 mod store_waits;
 
 pub use drawn_run::{DrawnRun, draw_on, run_drawn};
+pub use pc_set::PcSet;
 pub use seen_harts::SeenHarts;
+pub use store_pcs::StorePcs;
 pub use store_waits::LONG_WAIT;

@@ -4,14 +4,17 @@ ghost use Rattle.std.specs.Prelude.{◌≡◌, ◌<◌, ◌≤◌, ℕ, [], true
 ghost use Rattle.std.specs.Bool.{OnTrue};
 ghost use Rattle.block_model.specs.{Deciding.history, History.waiting, Sights.is_all_taken};
 ghost use Rattle.drawings.specs.Scenes.{is_able, startable};
+ghost use Rattle.drawn_runs.specs.DrawnRuns.{traps_by};
 ghost use Rattle.drawn_machine.specs.Scenes.{AreListed, scene_of};
 
 use crate::starting_threads::startable_threads;
 use arrayvec::ArrayVec;
-use draw_policies::{Access, access_of_effect, access_of_store};
+use draw_policies::{Access, Aim, access_of_effect, access_of_store};
 use drawings::Harts;
 use mach_types::{Hart, Named, Sight};
 use machine_core::Machine;
+use process::Next;
+use rv_inst::asks;
 
 /// The harts of a machine where it stands, as a policy sees them.
 #[derive(Clone, Copy, Drop)]
@@ -28,6 +31,19 @@ fn is_zero(set: Option<u8>) -> bool
 {
     match set {
         Some(left) => left == 0,
+        None => false,
+    }
+}
+
+/// Whether an instruction traps: it is a call, or makes a fault.
+fn traps_by(next: &Next) -> bool
+    ensures { result ≡ traps_by next.now.effect next.now.fault }
+{
+    if next.fault.is_some() {
+        return true;
+    }
+    match &next.effect {
+        Some(effect) => asks(effect).is_call,
         None => false,
     }
 }
@@ -139,8 +155,18 @@ impl Harts for SeenHarts<'_> {
         self.machine.hart(hart).buffer.len() != 0
     }
 
-    fn goes_freely(&self, hart: Hart) -> bool {
-        self.machine.goes_freely(hart)
+    #[inline(always)]
+    fn is_due(&self, hart: Hart, aim: Aim) -> bool {
+        match aim {
+            Aim::Preempt => true,
+            Aim::Take => self.machine.hart(hart).requests != 0,
+            Aim::Signal => self.machine.has_signal(hart),
+        }
+    }
+
+    fn traps(&self, hart: Hart) -> bool {
+        let next = self.machine.next(hart);
+        traps_by(&next)
     }
 
     fn is_inside(&self, hart: Hart) -> bool {

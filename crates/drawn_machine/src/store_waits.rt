@@ -1,10 +1,13 @@
 //! How long the stores of all harts wait, counted while a run is made.
 
-ghost use Rattle.std.specs.Prelude.{◌≡◌, ◌<◌, ◌≤◌, ◌+◌, ◌^◌, All, length, slice_index_or, slice_set};
+ghost use Rattle.std.specs.Prelude.{◌≡◌, ◌<◌, ◌≤◌, ◌+◌, ◌^◌, All, OnOk, length, nat_lt, slice_index_or, slice_set};
+ghost use Rattle.drawn_machine.specs.Overtaken.{pcs_of, stores_with};
 ghost use Rattle.drawn_machine.specs.Waits.{clock_behind, first_clock, no_waits, waits_behind, with_wait, with_waits};
 
 use crate::hart_clock::HartClock;
+use crate::store_pcs::StorePcs;
 use mach_types::Entry;
+use std::alloc::AllocError;
 use std::array;
 
 /// The most harts that a machine has.
@@ -36,8 +39,15 @@ impl StoreWaits {
         }
     }
 
-    /// Counts an event, behind which so many stores of its hart wait.
-    pub(crate) fn count(&mut self, entry: Entry, waiting: u8)
+    /// Counts an event, behind which so many stores of its hart wait, and which may be a load that overtakes those that waited
+    /// before it.
+    pub(crate) fn count(
+        &mut self,
+        entry: Entry,
+        waiting: u8,
+        overtakes: bool,
+        stores: &mut StorePcs,
+    ) -> Result<(), AllocError>
         requires hart { entry.hart.0 < length self.old.clocks }
         requires instructions { (slice_index_or self.old.clocks entry.hart.0 first_clock).instructions < 1000000 }
         requires waiting { waiting ≤ 8 }
@@ -45,15 +55,21 @@ impl StoreWaits {
             ≤ length (slice_index_or self.old.clocks entry.hart.0 first_clock).marks + 1 }
         requires few { All (λ stores. stores < 1000000) self.old.counts }
         ensures clocks { let before = slice_index_or self.old.clocks entry.hart.0 first_clock in
-            self.new.clocks
-            ≡ slice_set self.old.clocks entry.hart.0 (clock_behind entry.kind waiting before) }
+            OnOk result (self.new.clocks
+            ≡ slice_set self.old.clocks entry.hart.0 (clock_behind entry.kind entry.pc waiting before)) }
         ensures counts { let before = slice_index_or self.old.clocks entry.hart.0 first_clock in
-            self.new.counts ≡ with_waits (waits_behind entry.kind before) self.old.counts }
+            OnOk result (self.new.counts ≡ with_waits (waits_behind entry.kind before) self.old.counts) }
+        ensures stores { let before = slice_index_or self.old.clocks entry.hart.0 first_clock in
+            OnOk result (stores.new ≡ stores_with (nat_lt (length before.marks) waiting) entry.pc overtakes
+            (pcs_of before.marks) stores.old) }
     {
-        let clock = &mut self.clocks[usize::from(entry.hart.0)];
-        if let Some(wait) = clock.count(entry.kind, waiting) {
+        let hart = usize::from(entry.hart.0);
+        stores.count(entry.pc, &self.clocks[hart], waiting, overtakes)?;
+        let clock = &mut self.clocks[hart];
+        if let Some(wait) = clock.count(entry.kind, entry.pc, waiting) {
             count_wait(&mut self.counts, wait);
         }
+        Ok(())
     }
 }
 

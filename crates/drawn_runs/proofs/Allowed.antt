@@ -101,7 +101,7 @@ drawn_parts : (over : Bool) (o : Option Drawn) (x : Drawn) → cond over None o 
 drawn_parts true o x is = absurd cc
 drawn_parts false o x is = (refl, is)
 
-drawn_place : (s : Setting) (m : Manner) (before : History) (x : Drawn) → drawn_at s m before ≡ Some x
+pub drawn_place : (s : Setting) (m : Manner) (before : History) (x : Drawn) → drawn_at s m before ≡ Some x
     → (has_ended s before ≡ false) × (draw (scene_at s before) (drawing_at s m before) ≡ Some x)
 unfolding drawn_at
 drawn_place s m before x is = drawn_parts (has_ended s before) (draw (scene_at s before) (drawing_at s m before)) x is

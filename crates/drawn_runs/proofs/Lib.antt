@@ -5,6 +5,7 @@ pub mod Laws
 mod Logs
 mod OneRun
 mod Opened
+mod OwnSignals
 mod Places
 mod ReadyNumbers
 mod Work

@@ -31,7 +31,7 @@ drawn_of : (s : Setting) (before : History) (o : Option Drawn) (e : Entry) → o
 drawn_of s before None e is = absurd cc
 drawn_of s before (Some x) e is = (x, refl, cc)
 
-event_of_entry : (s : Setting) (m : Manner) (before : History) (e : Entry) → drawn_entry s m before ≡ Some e
+pub event_of_entry : (s : Setting) (m : Manner) (before : History) (e : Entry) → drawn_entry s m before ≡ Some e
     → (x : Drawn) × (drawn_at s m before ≡ Some x) × (entry_of s before x ≡ e)
 unfolding drawn_entry
 event_of_entry s m before e is = drawn_of s before (drawn_at s m before) e is

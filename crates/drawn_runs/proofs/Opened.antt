@@ -2,17 +2,14 @@
 -- drawn.
 use Rattle.std.proofs.Common.{◌≡◌, ℕ, ◌<◌, ◌≤◌, Bool, true, false, cond, ltb, [], ◌∷◌, length, Option, Some, None, refl, sym, ◌∙◌, subst}
 use Rattle.std.specs.Prelude.{IsSome}
-use Rattle.std.specs.Option.{option_and_then, option_map}
+use Rattle.std.specs.Option.{option_map}
 use Rattle.std.proofs.lemmas.Bool.{false≢true}
 use Rattle.chooser.specs.Generators.{first_generator}
-use Rattle.draw_policies.specs.declared.turns.Turn.{Turn}
-use Rattle.drawings.specs.Drawings.{Drawn, after_word, current, draw, drawn_by_actor, drawn_by_hart, drawn_by_priority, drawn_by_store, drawn_by_word, drawn_of, goes_on, hart_by_word, kept_after, lots_after, next_word, on_credit, turn_at}
-use Rattle.drawings.specs.Priorities.{actors, hart_of, is_enabled, is_hart, leader}
+use Rattle.drawings.specs.Drawings.{Drawn, draw, kept_after}
 use Rattle.drawings.specs.Scenes.{Scene}
 use Rattle.drawings.specs.Starts.{first_open}
 use Rattle.drawings.specs.declared.drawing.Drawing.{Drawing}
-use Rattle.drawings.specs.declared.priorities.Lots.{Lots}
-use Rattle.drawings.proofs.Laws.{draw-comes}
+use Rattle.drawings.proofs.Laws.{ByStore, ByTurn, IsDrawnBy, OnCredit, draw-comes, draw-shape}
 use Rattle.block_model.specs.Choosing.{has_ended}
 use Rattle.block_model.specs.History.{History}
 use Rattle.block_model.specs.Setting.{Setting}
@@ -22,41 +19,17 @@ use Rattle.drawn_runs.proofs.Able.{SomeAble}
 use Rattle.drawn_runs.proofs.Allowed.{drawing_is_for, opened_within}
 
 -- whatever is drawn
-turn_keeps : (d : Drawing) (h : ℕ) (lots : Turn → Lots) (o : Option Turn)
-    → (kept_after (option_map (λ (t : Turn). drawn_of h (lots t) d t) o) d).opened ≡ d.opened
-turn_keeps d h lots None = refl
-turn_keeps d h lots (Some t) = refl
+shape_keeps : (scene : Scene) (d : Drawing) (x : Drawn) → IsDrawnBy scene d x → x.after.opened ≡ d.opened
+shape_keeps scene d x (OnCredit goes) = refl
+shape_keeps scene d x (ByTurn h w lots t e) = refl
+shape_keeps scene d x (ByStore h lots some) = refl
 
-word_keeps : (scene : Scene) (d : Drawing) (w : ℕ) (o : Option ℕ)
-    → (kept_after (option_and_then (λ h. option_map (drawn_of h (after_word d) d) (turn_at scene d h w)) o) d).opened ≡ d.opened
-word_keeps scene d w None = refl
-word_keeps scene d w (Some h) = turn_keeps d h (λ t. after_word d) (turn_at scene d h w)
-
-one_keeps : (scene : Scene) (d : Drawing) (actor : ℕ) (b : Bool)
-    → (kept_after (cond b (drawn_by_hart scene d actor) (Some (drawn_by_store scene d actor))) d).opened ≡ d.opened
-one_keeps scene d actor true =
-    let h = hart_of actor in
-    turn_keeps d h (λ (t : Turn). lots_after scene actor h t.choice (after_word d)) (turn_at scene d h (next_word d))
-one_keeps scene d actor false = refl
-
-actor_keeps : (scene : Scene) (d : Drawing) (o : Option ℕ)
-    → (kept_after (option_and_then (drawn_by_actor scene d) o) d).opened ≡ d.opened
-actor_keeps scene d None = refl
-actor_keeps scene d (Some actor) = one_keeps scene d actor (is_hart actor)
-
-any_keeps : (scene : Scene) (d : Drawing) (credit priority : Bool)
-    → (kept_after (cond credit (Some (on_credit d)) (cond priority (drawn_by_priority scene d) (drawn_by_word scene d))) d).opened
-    ≡ d.opened
-any_keeps scene d true priority = refl
-any_keeps scene d false true =
-    actor_keeps scene d (leader (is_enabled scene d.opened d.aims) d.lots.priorities (actors scene.harts))
-any_keeps scene d false false =
-    let w = next_word d in
-    word_keeps scene d w (hart_by_word scene d w)
+kept_opened : (scene : Scene) (d : Drawing) (o : Option Drawn) → draw scene d ≡ o → (kept_after o d).opened ≡ d.opened
+kept_opened scene d None e = refl
+kept_opened scene d (Some x) e = shape_keeps scene d x (draw-shape scene d x e)
 
 draw_keeps : (scene : Scene) (d : Drawing) → (kept_after (draw scene d) d).opened ≡ d.opened
-unfolding draw
-draw_keeps scene d = any_keeps scene d (goes_on scene d) (current d).by_priority
+draw_keeps scene d = kept_opened scene d (draw scene d) refl
 
 -- so at each place
 opened_either : (b : Bool) (x y : Drawing) (n : ℕ) → x.opened ≡ n → y.opened ≡ n → (cond b x y).opened ≡ n

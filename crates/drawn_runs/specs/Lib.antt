@@ -1,3 +1,4 @@
 pub mod DrawnRuns
 pub mod Manners
+pub mod OwnSignals
 pub mod WholeRuns

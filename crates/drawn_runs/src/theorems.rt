@@ -1,13 +1,16 @@
 //! Laws of drawn runs, each as the contract of a function that does nothing.
 
-ghost use Rattle.std.specs.Prelude.{◌≡◌, ◌<◌, ◌≤◌, ◌++◌, [], ◌∷◌, false, List, Some, Ok, IsSome, length};
+ghost use Rattle.std.specs.Prelude.{◌≡◌, ◌<◌, ◌≤◌, ◌++◌, [], ◌∷◌, false, true, List, Some, Ok, IsSome, length};
+ghost use Rattle.mach_types.specs.declared.events.Choice.TheVariants as asked;
 ghost use Rattle.mach_types.specs.declared.events.Entry.{Entry};
+ghost use Rattle.chooser.specs.Cases.{emptied_before};
 ghost use Rattle.block_model.specs.Choosing.{has_ended};
 ghost use Rattle.block_model.specs.Deciding.{decide, history};
 ghost use Rattle.block_model.specs.{Run.IsBlockRun, Setting.Setting};
 ghost use Rattle.drawings.specs.Drawings.{Drawn};
 ghost use Rattle.drawn_runs.specs.declared.manner.Manner.{Manner};
-ghost use Rattle.drawn_runs.specs.DrawnRuns.{IsDrawn, drawn_at, drawn_entry, entry_of};
+ghost use Rattle.drawn_runs.specs.DrawnRuns.{IsDrawn, drawn_at, drawn_entry, entry_of, scene_at};
+ghost use Rattle.drawn_runs.specs.OwnSignals.{owes};
 ghost use Rattle.drawn_runs.specs.WholeRuns.{IsDrawnRun};
 
 /// What is drawn at a place of a block run is allowed there.
@@ -32,6 +35,17 @@ pub fn drawn_runs_go_on()
         → s.limits.harts ≤ 8 → IsBlockRun s log → IsDrawn s m log
         → drawn_entry s m (history s log) ≡ Some e
         → IsBlockRun s (log ++ e ∷ []) × IsDrawn s m (log ++ e ∷ []) }
+{}
+
+/// A signal that a thread sends to itself, or unmasks, and that of its fault, is delivered before anything else is done on its hart: where
+/// a hart owes its thread a signal, its next event that is drawn is that its oldest waiting store enters memory, and where none waits
+/// the delivery. A thread that waits in a barrier is delivered its signal behind that.
+pub fn own_signals_come_at_once()
+    ensures { (s : Setting) (m : Manner) (log : List Entry) (x : Drawn) → 0 < s.limits.harts
+        → s.limits.harts ≤ 8 → IsDrawn s m log → drawn_at s m (history s log) ≡ Some x
+        → owes s m x.hart (history s log) ≡ true
+        → ((scene_at s (history s log)).sight x.hart).in_barrier ≡ false
+        → x.choice ≡ emptied_before ((scene_at s (history s log)).sight x.hart) asked.Signal }
 {}
 
 /// Whole drawn runs of one manner that begin with the same entries, no fewer than a script made, go on alike: without a script there

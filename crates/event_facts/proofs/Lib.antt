@@ -3,10 +3,13 @@ mod Due
 mod Entered
 mod EventDeeds
 mod FactExamples
+mod FoundReasons
 mod FreeFacts
 mod KernelDeeds
 mod KernelFacts
 mod KernelLosses
+mod KillingCalls
+mod Killings
 mod KeptLines
 mod KeptPieces
 mod LinesOfBytes

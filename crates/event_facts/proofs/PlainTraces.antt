@@ -1,5 +1,5 @@
--- A plain event is no fault and no call, has nothing to do with requests of barriers, interrupts no thread, and leaves
--- the kernel's record as it was.
+-- A plain event is no fault and no call, has nothing to do with requests of barriers, interrupts no thread, ends no process, and
+-- leaves the kernel's record as it was.
 use Rattle.std.proofs.Common.{◌≡◌, ℕ, [], ap, ◌∙◌, refl, Option, Some, None}
 use Rattle.std.specs.Option.{option_map, option_to_list}
 use Rattle.mach_types.specs.Kernel.Signals.{Signalling}
@@ -43,6 +43,10 @@ same_kernel c here (Drain w) is = ap (λ (d : Done). d.kernel) (drain_done c her
 pub none_interrupted : (c : Choice) (here : Here) (p : PlainEvent) → plain_event_of c here ≡ Some p → (done_of c here).interrupted ≡ None
 none_interrupted c here (Instruction e) is = ap (λ (d : Done). d.interrupted) (instruction_done c here e (executes c here e is))
 none_interrupted c here (Drain w) is = ap (λ (d : Done). d.interrupted) (drain_done c here w (drains c here w is))
+
+pub none_ended : (c : Choice) (here : Here) (p : PlainEvent) → plain_event_of c here ≡ Some p → (done_of c here).ended ≡ None
+none_ended c here (Instruction e) is = ap (λ (d : Done). d.ended) (instruction_done c here e (executes c here e is))
+none_ended c here (Drain w) is = ap (λ (d : Done). d.ended) (drain_done c here w (drains c here w is))
 
 -- the kernel writes nothing in it
 pub none_of_kernel : (c : Choice) (here : Here) (p : PlainEvent) → plain_event_of c here ≡ Some p → (before : Option AreaBefore) (after : Here) (t : ℕ)

@@ -21,9 +21,10 @@ use Rattle.event_facts.specs.Trace.{trace_of}
 use Rattle.event_facts.specs.declared.areas.AreaField.TheVariants.{CpuIdStart, CpuId, NodeId, MmCid}
 use Rattle.event_facts.specs.declared.calls.SystemCall.{SystemCall}
 use Rattle.event_facts.specs.declared.facts.Fact.{Fact}
-use Rattle.event_facts.specs.declared.facts.Fact.TheVariants.{Register, KernelWrote, Faulted, Called, Answered, Refused, NoAnswer, Interrupted, DeliveryKills, SignalPosted, ThreadChanged, ThreadRegister, AreaWord}
+use Rattle.event_facts.specs.declared.facts.Fact.TheVariants.{Register, KernelWrote, Faulted, Called, Answered, Refused, NoAnswer, Interrupted, DeliveryKills, SignalPosted, ThreadChanged, ThreadRegister, AreaWord, Killed}
 use Rattle.event_facts.specs.declared.faults.FaultWhy.TheVariants.{NotReadable}
 use Rattle.event_facts.specs.declared.interruptions.Interruption.TheVariants.{Nothing}
+use Rattle.event_facts.specs.declared.killing.KillWhy.TheVariants.{NoHandler}
 use Rattle.event_facts.specs.declared.threads.ThreadChange.{ThreadChange}
 use Rattle.event_facts.specs.declared.threads.ThreadChange.TheVariants.{Created, Ended, Runs, MadeReady}
 
@@ -81,7 +82,7 @@ calls_told = refl
 
 -- it loads 8 bytes at 8, where nothing can be read: SIGSEGV, which is 11
 fault_told : told (program (0x03 ∷ 0x33 ∷ 0x80 ∷ 0x00 ∷ [])) [] (by kind.Run 0x100B0 ∷ by kind.Exec 0x100B0 ∷ [])
-    ≡ (Interrupted Nothing ∷ became 1 Runs ∷ []) ∷ (Faulted 11 NotReadable 8 ∷ []) ∷ []
+    ≡ (Interrupted Nothing ∷ became 1 Runs ∷ []) ∷ (Faulted 11 NotReadable 8 ∷ Killed NoHandler ∷ []) ∷ []
 unfolding trace_of signal_facts thread_facts other_registers facts_of read_facts done end_of meaning row_of rows are_readable number_at
 fault_told = refl
 
@@ -124,7 +125,7 @@ signals_told : told (program sends) [] signal_log ≡
     ∷ (Register 10 1 ∷ [])
     ∷ (Register 11 10 ∷ [])
     ∷ (Called (call 130 1 10 0) ∷ Answered 0 ∷ SignalPosted 10 (thread 1) ∷ Register 10 0 ∷ [])
-    ∷ (Interrupted Nothing ∷ DeliveryKills 10 ∷ [])
+    ∷ (Interrupted Nothing ∷ DeliveryKills 10 ∷ Killed NoHandler ∷ [])
     ∷ []
 unfolding all_signals trace_of signal_facts thread_facts other_registers facts_of read_facts done end_of meaning row_of rows are_readable number_at
 signals_told = refl

@@ -7,6 +7,7 @@ pub mod Faults
 pub mod Freely
 pub mod Interruptions
 pub mod KernelEvents
+pub mod Killing
 pub mod Lines
 pub mod OtherRegisters
 pub mod Pending

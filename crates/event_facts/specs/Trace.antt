@@ -1,5 +1,5 @@
 -- All that is told of an event (own), in order: what is read at the place before it, what is read at the place after it, and its facts of
--- memory, of reservations and of registers.
+-- memory, of reservations and of registers; and last why it ended the process by a signal, where it did.
 use Rattle.std.specs.Prelude.{◌≡◌, List, ◌∷◌, ◌++◌}
 use Rattle.mach_types.specs.Events.{choice_of}
 use Rattle.mach_types.specs.declared.events.Choice.{Choice}
@@ -14,6 +14,7 @@ use Rattle.event_facts.specs.Calls.{answer_facts, call_by, call_facts}
 use Rattle.event_facts.specs.Facts.{facts_of}
 use Rattle.event_facts.specs.Faults.{fault_facts}
 use Rattle.event_facts.specs.Interruptions.{came_by, interrupted_facts}
+use Rattle.event_facts.specs.Killing.{killed_facts}
 use Rattle.event_facts.specs.OtherRegisters.{AreRegisters, other_registers}
 use Rattle.event_facts.specs.Pending.{all_pending, delivered_by, delivered_facts, signal_facts}
 use Rattle.event_facts.specs.Requests.{begun_facts, request_facts}
@@ -49,6 +50,7 @@ trace_of s before entry =
     facts_before (choice_of entry) here
     ++ facts_after s (event s before entry ∷ before) entry here
     ++ facts_of s before entry
+    ++ killed_facts (choice_of entry) here
 
 -- what is kept of the place before an entry
 pub record IsBefore (entry : Entry) (here : Here) (x : Before) : Type 0 where

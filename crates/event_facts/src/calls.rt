@@ -24,7 +24,7 @@ use rv_inst::Effect;
 use std::alloc::AllocError;
 
 /// The number of rt_sigreturn(2).
-const RT_SIGRETURN: u64 = 139;
+pub(crate) const RT_SIGRETURN: u64 = 139;
 
 /// The greatest error number (Linux, MAX_ERRNO).
 const LAST_ERRNO: u64 = 4095;

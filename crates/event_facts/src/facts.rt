@@ -8,6 +8,7 @@ use crate::areas::AreaField;
 use crate::calls::SystemCall;
 use crate::faults::FaultWhy;
 use crate::interruptions::Interruption;
+use crate::killing::KillWhy;
 use crate::threads::ThreadChange;
 use mach_types::{Hart, Store, Tid};
 use std::alloc::AllocError;
@@ -150,6 +151,8 @@ pub enum Fact {
     /// The call has no answer: its thread or the process ended, or the thread goes on with what stands in a
     /// signal frame.
     NoAnswer,
+    /// The event ended the process by a signal, since this was the case.
+    Killed(KillWhy),
 }
 
 impl Source {

@@ -11,6 +11,7 @@ use crate::calls::SystemCall;
 use crate::facts::Fact;
 use crate::kept_reservations::{all_reservations, push_all_lost_from, reservation_in};
 use crate::kernel_writes::push_kernel_writes;
+use crate::killing::{push_killed, why_killing};
 use crate::lines::Lines;
 use crate::own_registers::push_own_registers;
 use crate::places::{push_after, push_before};
@@ -136,6 +137,7 @@ pub(crate) fn tell_kernel(
 {
     let line = machine.log().len() as u32 + 1;
     let before = push_before(alloc, facts, machine, entry)?;
+    let why = why_killing(machine, entry, before.call, before.came);
     let reserved = all_reservations(alloc, machine)?;
     let written = make_kernel(alloc, machine, entry, before.call)?;
     push_after(facts, machine, entry, &before)?;
@@ -148,6 +150,7 @@ pub(crate) fn tell_kernel(
         &written,
         line,
     )?;
+    push_killed(facts, machine, why)?;
     lines.note_kernel(&written, line)?;
     Ok(())
 }

@@ -20,6 +20,7 @@ mod interruptions;
 mod kept_reservations;
 mod kernel_events;
 mod kernel_writes;
+mod killing;
 mod lines;
 mod long_writes;
 mod other_registers;
@@ -42,9 +43,12 @@ pub use facts::{Fact, Source};
 pub use faults::FaultWhy;
 pub use interruptions::{Interruption, WrongWord};
 pub use kernel_writes::push_kernel_writes;
+pub use killing::KillWhy;
 pub use lines::{Lines, Numbered};
 pub use places::{Before, push_after, push_before};
 pub use telling::{PlainEvent, plain_event, tell};
-pub use theorems::{lines_are_told_rightly, plain_events_are_told_by_their_facts};
+pub use theorems::{
+    kills_are_told_with_their_reason, lines_are_told_rightly, plain_events_are_told_by_their_facts,
+};
 pub use threads::ThreadChange;
 pub use tracing::{trace, trace_freely};

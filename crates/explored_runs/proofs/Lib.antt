@@ -1,6 +1,7 @@
 mod Batches
 pub mod Counts
 mod DecileExamples
+pub mod DrawnOutcomes
 pub mod Examples
 mod Fields
 pub mod OneExploration

@@ -4,6 +4,7 @@ use Rattle.std.specs.Prelude.{ℕ, ◌≤◌, ◌+◌, ◌*◌, ◌==◌, ◌&&�
 use Rattle.std.specs.List.{list_any}
 use Rattle.mach_types.specs.declared.limits.End.{End}
 use Rattle.mach_types.specs.declared.limits.End.TheVariants.{Exit, Killed, Stuck, Limit, Unended}
+use Rattle.drawn_machine.specs.Overtaken.{no_stores, stores_and}
 use Rattle.drawn_machine.specs.Waits.{no_waits}
 use Rattle.explored_runs.specs.declared.explored.Explored.{Explored}
 use Rattle.explored_runs.specs.declared.explored.Found.{Found}
@@ -26,7 +27,7 @@ nothing = record {
   found = [];
   others = None;
   runs = 0;
-  tried = record { harts = replicate 9 0; switches = 0; preemptions = 0; inside = 0; waits = no_waits };
+  tried = record { harts = replicate 9 0; switches = 0; preemptions = 0; inside = 0; waits = no_waits; stores = no_stores };
 }
 
 -- whether two ends are one
@@ -79,7 +80,7 @@ added (sum ∷ sums) [] = sum ∷ sums
 added (sum ∷ sums) (count ∷ counts) = (sum + count) ∷ added sums counts
 
 -- how many runs had threads on exactly so many harts, with one run more; and the sums of the switches, of the preemptions, of those
--- inside sequences, and of the stores that waited so long
+-- inside sequences, and of the stores that waited so long; and all stores that were executed or overtaken in one of the runs
 abbrev pub tried_after : Tally → Tried → Tried
 tried_after t tried = record {
   harts = slice_set tried.harts t.harts (slice_index tried.harts t.harts + 1);
@@ -87,6 +88,7 @@ tried_after t tried = record {
   preemptions = tried.preemptions + t.preemptions;
   inside = tried.inside + t.inside;
   waits = added tried.waits t.waits;
+  stores = stores_and t.stores tried.stores;
 }
 
 -- what is told after one run more

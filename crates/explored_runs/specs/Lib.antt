@@ -1,5 +1,6 @@
 pub mod Accounts
 pub mod Deciles
+pub mod DrawnOutcomes
 pub mod Explorations
 pub mod Explored
 pub mod Jobs

@@ -1,13 +1,15 @@
 -- What was tried in a run (own): on how many harts threads ran, how often another hart went on, how often a thread was preempted, and
--- inside a restartable sequence, and how many stores waited how long.
+-- inside a restartable sequence, how many stores waited how long, and which stores loads overtook.
 use Rattle.std.specs.Prelude.{ℕ, zero, suc, ◌≤◌, ◌+◌, ◌==◌, ◌&&◌, Bool, List, [], ◌∷◌, All, count_by, if◌then◌else◌}
 use Rattle.std.specs.List.{list_any}
 use Rattle.mach_types.specs.Events.{is_preempt, is_run}
 use Rattle.mach_types.specs.declared.events.Entry.{Entry}
 use Rattle.block_model.specs.Deciding.{history}
 use Rattle.block_model.specs.Setting.{Setting}
+use Rattle.drawn_machine.specs.Overtaken.{stores_of}
 use Rattle.drawn_machine.specs.Preemptions.{left_inside}
 use Rattle.drawn_machine.specs.Waits.{wait_counts}
+use Rattle.drawn_machine.specs.declared.store_pcs.StorePcs.{StorePcs}
 use Rattle.explored_runs.specs.declared.tallies.Tally.{Tally}
 
 -- whether a thread began to run on hart h
@@ -40,16 +42,20 @@ pub record IsShort (t : Tally) : Type 0 where
   pub inside : t.inside ≤ 1000000
   pub waits : All (λ (stores : ℕ). stores ≤ 1000000) t.waits
 
--- what was tried in a run on so many harts, where so often a thread left its hart inside a sequence, and so many stores waited so long
-abbrev pub tally_with : ℕ → List Entry → ℕ → List ℕ → Tally
-tally_with harts log inside waits = record {
+-- what was tried in a run on so many harts, where so often a thread left its hart inside a sequence, so many stores waited so long, and
+-- these stores were executed and overtaken
+abbrev pub tally_with : ℕ → List Entry → ℕ → List ℕ → StorePcs → Tally
+tally_with harts log inside waits stores = record {
   harts = harts_in log harts;
   switches = switches_in log;
   preemptions = preemptions_in log;
   inside = inside;
   waits = waits;
+  stores = stores;
 }
 
 -- what was tried in a run
 abbrev pub tally_of : Setting → List Entry → Tally
-tally_of s log = tally_with s.limits.harts log (left_inside s (history s log)) (wait_counts (history s log))
+tally_of s log =
+    let whole = history s log in
+    tally_with s.limits.harts log (left_inside s whole) (wait_counts whole) (stores_of s whole)

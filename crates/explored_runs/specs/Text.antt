@@ -3,6 +3,7 @@ use Rattle.std.specs.Prelude.{ℕ, ◌+◌, ◌==◌, List, [], ◌∷◌, ◌++
 use Rattle.std.specs.Fmt.{decimal}
 use Rattle.std.specs.List.{flat_map}
 use Rattle.draw_policies.specs.Policies.{word_of}
+use Rattle.drawn_machine.specs.declared.store_pcs.StorePcs.{StorePcs}
 use Rattle.drawn_machine.specs.declared.store_waits.TheConstants.{LONG_WAIT}
 use Rattle.place_text.specs.Ends.{end_line, number_line}
 use Rattle.place_text.specs.Fields.{line}
@@ -55,10 +56,15 @@ wait_field wait = if nat_lt wait LONG_WAIT then decimal wait else decimal wait +
 abbrev pub waited_line : List ℕ → List ℕ
 waited_line counts = line (codes "waited") (map wait_field (deciles counts))
 
+-- `overtaken N of M`: of how many plain stores that were executed, told apart by their pcs, how many a load overtook
+abbrev pub overtaken_line : StorePcs → List ℕ
+overtaken_line stores =
+    line (codes "overtaken") (decimal (length stores.overtaken) ∷ codes "of" ∷ decimal (length stores.executed) ∷ [])
+
 -- the whole text
 unfoldable pub explored_text : Apart → Account → List ℕ
 explored_text apart a =
     number_line (codes "outcomes") (length a.found) ++ flat_map (found_text apart) a.found ++ others_text a.others
     ++ number_line (codes "runs") a.runs ++ line (codes "harts") (harts_fields 0 a.tried.harts)
     ++ number_line (codes "switches") a.tried.switches ++ preemptions_line a.tried.preemptions a.tried.inside
-    ++ waited_line a.tried.waits
+    ++ waited_line a.tried.waits ++ overtaken_line a.tried.stores

@@ -4,6 +4,7 @@ ghost use Rattle.std.specs.Prelude.{◌≡◌, ◌<◌, ◌^◌, IfOk, IfSome, O
 ghost use Rattle.explored_runs.specs.Tallies.{IsShort};
 ghost use Rattle.explored_runs.specs.Accounts.{IsWithin, account_of, came_to, first_of, found_after, has_enough, nothing, others_after, told, with_other};
 
+use crate::lengths::Lengths;
 use crate::made::Made;
 use crate::printed::Printed;
 use crate::tallies::Tried;
@@ -51,6 +52,8 @@ pub struct Explored {
     pub runs: u64,
     /// How many entries their logs have together, 2^64 - 1 at most. It isn't told.
     pub(crate) steps: u64,
+    /// How many of them ended at the limit, and how long the others are. That isn't told either.
+    pub(crate) lengths: Lengths,
     /// What was tried in them.
     pub tried: Tried,
 }
@@ -65,7 +68,8 @@ impl Explored {
             others: None,
             runs: 0,
             steps: 0,
-            tried: Tried::nothing(),
+            lengths: Lengths::new(),
+            tried: Tried::nothing(alloc),
         })
     }
 
@@ -88,7 +92,8 @@ impl Explored {
     {
         self.runs += 1;
         self.steps = self.steps.saturating_add(u64::from(made.steps));
-        self.tried.count(&made.tally);
+        self.lengths.count(made.end, made.steps);
+        self.tried.count(&made.tally)?;
         tell_outcome(&mut self.found, &mut self.others, made)
     }
 }

@@ -4,7 +4,7 @@ ghost use Rattle.std.specs.Prelude.{◌≡◌, ◌≤◌, length, All, IfOk};
 ghost use Rattle.mach_types.specs.Limits.{InRange};
 ghost use Rattle.elf_load.specs.Images.{IsBootable};
 ghost use Rattle.block_model.specs.Setting.{setting_of};
-ghost use Rattle.drawn_machine.specs.{Preemptions.left_inside_in, Waits.wait_counts_in};
+ghost use Rattle.drawn_machine.specs.{Overtaken.stores_in, Preemptions.left_inside_in, Waits.wait_counts_in};
 ghost use Rattle.explored_runs.specs.Made.{IsMadeAt, kept, made_by};
 
 use crate::exploration::{Apart, Exploration};
@@ -61,19 +61,28 @@ fn made_by(alloc: Global, apart: Apart, manner: &Manner, run: &DrawnRun) -> Resu
     requires inside { run.now.left_inside ≡ left_inside_in run.now.machine }
     requires few { run.now.left_inside ≤ 1000000 }
     requires waits { run.now.waits ≡ wait_counts_in run.now.machine }
+    requires stores { run.now.stores ≡ stores_in run.now.machine }
     requires few_waits { All (λ stores. stores ≤ 1000000) run.now.waits }
     ensures { IfOk result
         (λ made. made ≡ made_by apart manner.now run.now.machine.setting run.now.machine.log) }
 {
     let machine = &run.machine;
     let log = machine.log();
+    let tally = Tally::of(
+        alloc,
+        machine.harts(),
+        log,
+        run.left_inside,
+        &run.waits,
+        &run.stores,
+    )?;
     Ok(Made {
         seed: manner.seed,
         policy: manner.policy,
         steps: log.len() as u32,
         console: Printed::copied(alloc, kept(apart, machine.console()))?,
         end: machine.end(),
-        tally: Tally::of(alloc, machine.harts(), log, run.left_inside, &run.waits)?,
+        tally,
     })
 }
 

@@ -12,6 +12,7 @@ use crate::exploration::Exploration;
 use crate::explored::Explored;
 use crate::jobs::{Batch, Job, new_jobs, take_batch};
 use crate::rounds::Round;
+use crate::saying::{progress_of, say_limited, say_outcomes};
 use crate::task::Task;
 use elf_load::Image;
 use mach_types::Limits;
@@ -32,7 +33,8 @@ const BATCHES: u64 = 32;
 /// Makes the runs of an exploration on so many host threads, and tells what they come to.
 ///
 /// The runs are made in rounds and told in the order of their seeds, so that what is told is what [`crate::explore`] tells.
-/// Fails only where memory is short. Between the rounds the sink hears how far it is, and nothing is put there.
+/// Fails only where memory is short. Between the rounds the sink hears how far it is, and where that takes
+/// long what was found so far; nothing is put there.
 pub fn explore_on<R: Threads + Sync, K: Sink>(
     alloc: Global,
     rt: &R,
@@ -56,9 +58,15 @@ pub fn explore_on<R: Threads + Sync, K: Sink>(
     };
     let mut explored = Explored::nothing(alloc)?;
     let mut all = new_jobs(&task, jobs)?;
+    let mut said = 0;
     'rounds: while explored.runs < exploration.runs && !explored.has_enough(exploration.until) {
-        sink.show_progress(explored.runs, exploration.runs);
+        if sink.show_progress(&progress_of(&explored, exploration.runs)) {
+            said = say_outcomes(alloc, sink, &explored.found, said);
+        }
         tell_round(&mut explored, &mut all, rt, &task)?;
+    }
+    if sink.show_progress(&progress_of(&explored, exploration.runs)) {
+        say_limited(alloc, sink, &explored, limits.steps);
     }
     Ok(explored)
 }

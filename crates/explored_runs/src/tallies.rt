@@ -1,10 +1,11 @@
 //! What was tried in a run, and in all runs.
 
-ghost use Rattle.std.specs.Prelude.{◌≡◌, ◌≤◌, ◌<◌, ◌^◌, length, All, IfOk};
+ghost use Rattle.std.specs.Prelude.{◌≡◌, ◌≤◌, ◌<◌, ◌^◌, length, All, IfOk, OnOk};
 ghost use Rattle.explored_runs.specs.Accounts.{nothing, tried_after};
 ghost use Rattle.explored_runs.specs.Tallies.{IsShort, harts_in, preemptions_in, ran_on, switches_from, switches_in, tally_with};
 
 use crate::waits::Waits;
+use drawn_machine::StorePcs;
 use mach_types::{Entry, Hart};
 use std::alloc::{AllocError, Global};
 
@@ -22,6 +23,8 @@ pub(crate) struct Tally {
     /// By the number of instructions that a hart executed behind one of its stores until that entered memory, 0 to 255: how many
     /// stores waited so long, at the last place for [`drawn_machine::LONG_WAIT`] instructions or more.
     waits: Waits,
+    /// Which stores were executed, and which of them a load overtook.
+    stores: StorePcs,
 }
 
 /// What was tried in all runs.
@@ -38,23 +41,26 @@ pub struct Tried {
     /// By the number of instructions that a hart executed behind one of its stores until that entered memory, 0 to 255: how many
     /// stores waited so long, at the last place for [`drawn_machine::LONG_WAIT`] instructions or more.
     pub waits: [u64; 256],
+    /// Which stores were executed, and which of them a load overtook.
+    pub stores: StorePcs,
 }
 
 impl Tally {
-    /// What was tried in the run of a log, on so many harts, where so often a thread was preempted inside a sequence, and so many
-    /// stores waited so long.
+    /// What was tried in the run of a log, on so many harts, where so often a thread was preempted inside a sequence, so many stores
+    /// waited so long, and these stores were executed and overtaken.
     pub(crate) fn of(
         alloc: Global,
         harts: u8,
         log: &[Entry],
         inside: u32,
         waits: &[u32; 256],
+        stores: &StorePcs,
     ) -> Result<Tally, AllocError>
         requires harts { harts ≤ 8 }
         requires log { length log.now ≤ 1000000 }
         requires inside { inside ≤ 1000000 }
         requires waits { All (λ stores. stores ≤ 1000000) waits.now }
-        ensures is { IfOk result (λ tally. tally ≡ tally_with harts log.now inside waits.now) }
+        ensures is { IfOk result (λ tally. tally ≡ tally_with harts log.now inside waits.now stores.now) }
         ensures short { IfOk result IsShort }
     {
         Ok(Tally {
@@ -63,6 +69,7 @@ impl Tally {
             preemptions: preemptions(log) as u64,
             inside: u64::from(inside),
             waits: Waits::of(alloc, waits)?,
+            stores: StorePcs::copied(alloc, stores)?,
         })
     }
 }
@@ -70,7 +77,7 @@ impl Tally {
 impl Tried {
     /// Nothing.
     #[tactic(auto, unfolding(drawn_machine::specs::Waits::no_waits))]
-    pub(crate) fn nothing() -> Tried
+    pub(crate) fn nothing(alloc: Global) -> Tried
         ensures { result ≡ nothing.tried }
     {
         Tried {
@@ -79,24 +86,26 @@ impl Tried {
             preemptions: 0,
             inside: 0,
             waits: [0; 256],
+            stores: StorePcs::new(alloc),
         }
     }
 
     /// Counts one run more.
-    pub(crate) fn count(&mut self, tally: &Tally)
+    pub(crate) fn count(&mut self, tally: &Tally) -> Result<(), AllocError>
         requires short { IsShort tally.now }
         requires harts { All (λ runs. runs < 2 ^ 63) self.old.harts }
         requires switches { self.old.switches < 2 ^ 63 }
         requires preemptions { self.old.preemptions < 2 ^ 63 }
         requires inside { self.old.inside < 2 ^ 63 }
         requires waits { All (λ stores. stores < 2 ^ 63) self.old.waits }
-        ensures { self.new ≡ tried_after tally.now self.old }
+        ensures { OnOk result (self.new ≡ tried_after tally.now self.old) }
     {
         self.harts[tally.harts as usize] += 1;
         self.switches += tally.switches;
         self.preemptions += tally.preemptions;
         self.inside += tally.inside;
         tally.waits.add_to(&mut self.waits);
+        self.stores.add(&tally.stores)
     }
 }
 

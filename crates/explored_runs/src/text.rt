@@ -7,12 +7,12 @@ ghost use Rattle.place_text.specs.Ends.{number_line};
 ghost use Rattle.place_text.specs.Fields.{behind, line};
 ghost use Rattle.step_log.specs.Text.{space};
 ghost use Rattle.explored_runs.specs.{Accounts.account_of, Deciles.deciles};
-ghost use Rattle.explored_runs.specs.Text.{console_part, explored_text, found_line, found_text, harts_fields, others_text, wait_field, waited_line};
+ghost use Rattle.explored_runs.specs.Text.{console_part, explored_text, found_line, found_text, harts_fields, others_text, wait_field, waited_line, overtaken_line};
 
 use crate::deciles::{TENTHS, decile, total_of};
 use crate::exploration::Apart;
 use crate::explored::{Explored, Found, Others};
-use drawn_machine::LONG_WAIT;
+use drawn_machine::{LONG_WAIT, StorePcs};
 use place_text::fields::{begin_line, push_named_number, push_number, push_word};
 use place_text::push_end;
 use std::alloc::{AllocError, Global};
@@ -39,6 +39,7 @@ pub fn explored_text(
     let inside = explored.tried.inside;
     push_two_counts(&mut text, b"preemptions", preemptions, b"inside", inside)?;
     push_waited(&mut text, &explored.tried.waits)?;
+    push_overtaken(&mut text, &explored.tried.stores)?;
     Ok(text)
 }
 
@@ -149,6 +150,20 @@ fn push_harts_fields(text: &mut Vec<u8>, harts: &[u64]) -> Result<(), AllocError
         }
     }
     Ok(())
+}
+
+/// Appends the line of how many of the stores that were executed a load overtook.
+fn push_overtaken(text: &mut Vec<u8>, stores: &StorePcs) -> Result<(), AllocError>
+    ensures { OnOk result (text.new.items ≡ text.old.items ++ overtaken_line stores.now) }
+{
+    let overtaken = stores.overtaken.len() as u64;
+    push_two_counts(
+        text,
+        b"overtaken",
+        overtaken,
+        b"of",
+        stores.executed.len() as u64,
+    )
 }
 
 /// Appends the line of how long stores waited.

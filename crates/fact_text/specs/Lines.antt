@@ -8,13 +8,15 @@ use Rattle.event_facts.specs.declared.areas.AreaField.{AreaField}
 use Rattle.event_facts.specs.declared.areas.AreaField.TheVariants as field
 use Rattle.event_facts.specs.declared.calls.SystemCall.{SystemCall}
 use Rattle.event_facts.specs.declared.facts.Fact.{Fact}
-use Rattle.event_facts.specs.declared.facts.Fact.TheVariants.{Read, Waits, Entered, KernelWrote, Zeroed, Reserved, Used, Failed, Ended, Lost, Register, Faulted, RequestsTaken, BarrierReturns, Called, Answered, Refused, AnsweredLater, BarrierBegins, Interrupted, HandlerEntered, DeliveryKills, SignalPosted, SignalDropped, ThreadChanged, ThreadRegister, AreaWord, NoAnswer}
+use Rattle.event_facts.specs.declared.facts.Fact.TheVariants.{Read, Waits, Entered, KernelWrote, Zeroed, Reserved, Used, Failed, Ended, Lost, Register, Faulted, RequestsTaken, BarrierReturns, Called, Answered, Refused, AnsweredLater, BarrierBegins, Interrupted, HandlerEntered, DeliveryKills, SignalPosted, SignalDropped, ThreadChanged, ThreadRegister, AreaWord, NoAnswer, Killed}
 use Rattle.event_facts.specs.declared.faults.FaultWhy.{FaultWhy}
 use Rattle.event_facts.specs.declared.faults.FaultWhy.TheVariants.{NotAligned, NotExecutable, NoInstruction, Breakpoint, MisalignedJump, MisalignedAccess, NotReadable, NotWritable}
 use Rattle.event_facts.specs.declared.facts.Source.{Source}
 use Rattle.event_facts.specs.declared.facts.Source.TheVariants.{Start, Memory, Waiting}
 use Rattle.event_facts.specs.declared.interruptions.Interruption.{Interruption}
 use Rattle.event_facts.specs.declared.interruptions.Interruption.TheVariants as came
+use Rattle.event_facts.specs.declared.killing.KillWhy.{KillWhy}
+use Rattle.event_facts.specs.declared.killing.KillWhy.TheVariants.{Bad, AreaWords, NoHandler, Masked, FrameNotWritable, FrameNotReadable, CallInside}
 use Rattle.event_facts.specs.declared.threads.ThreadChange.{ThreadChange}
 use Rattle.event_facts.specs.declared.threads.ThreadChange.TheVariants as becomes
 use Rattle.fact_text.specs.CallNames.{argument_count, call_name, errno_name}
@@ -170,6 +172,20 @@ field_word field.MmCid = codes "mm_cid"
 abbrev pub area_line : AreaField → ℕ → List ℕ
 area_line f value = line (codes "  area") (field_word f ∷ value_text value ∷ [])
 
+-- why an event ended its process by a signal: what was bad at an interruption has the word that it has there
+abbrev pub kill_word : KillWhy → List ℕ
+kill_word (Bad why) = bad_word why
+kill_word AreaWords = codes "area-words"
+kill_word NoHandler = codes "no-handler"
+kill_word Masked = codes "masked"
+kill_word FrameNotWritable = codes "frame-not-writable"
+kill_word FrameNotReadable = codes "frame-not-readable"
+kill_word CallInside = codes "call-inside"
+
+-- `killed WHY`
+abbrev pub killed_line : KillWhy → List ℕ
+killed_line why = line (codes "  killed") (kill_word why ∷ [])
+
 -- the line of a fact
 abbrev pub fact_line : Fact → List ℕ
 fact_line (Read at size value source) = read_line at size value source
@@ -200,6 +216,7 @@ fact_line (ThreadChanged tid change) = thread_line tid.0 change
 fact_line (ThreadRegister tid n value) = thread_register_line tid.0 n value
 fact_line (AreaWord f value) = area_line f value
 fact_line NoAnswer = codes "  no answer\n"
+fact_line (Killed why) = killed_line why
 
 -- the lines of facts, in order
 unfoldable pub facts_text : List Fact → List ℕ

@@ -8,7 +8,7 @@ ghost use Rattle.place_text.specs.Fields.{behind, value_text};
 
 use crate::call_names::{argument_count, call_name, errno_name};
 use event_facts::{
-    AreaField, Fact, FaultWhy, Interruption, Source, SystemCall, ThreadChange, WrongWord,
+    AreaField, Fact, FaultWhy, Interruption, KillWhy, Source, SystemCall, ThreadChange, WrongWord,
 };
 use mach_types::{BadWhy, Hart, Store, Tid};
 use place_text::fields::{
@@ -397,6 +397,32 @@ fn push_area(text: &mut Vec<u8>, field: AreaField, value: u64) -> Result<(), All
     Ok(())
 }
 
+/// The word of why an event ended its process by a signal.
+fn kill_word(why: KillWhy) -> &'static [u8]
+    ensures { result.now ≡ spec.kill_word why }
+{
+    match why {
+        KillWhy::Bad(why) => bad_word(why),
+        KillWhy::AreaWords => b"area-words",
+        KillWhy::NoHandler => b"no-handler",
+        KillWhy::Masked => b"masked",
+        KillWhy::FrameNotWritable => b"frame-not-writable",
+        KillWhy::FrameNotReadable => b"frame-not-readable",
+        KillWhy::CallInside => b"call-inside",
+    }
+}
+
+/// Appends the line of why an event ended its process by a signal.
+#[inline(never)]
+fn push_kill(text: &mut Vec<u8>, why: KillWhy) -> Result<(), AllocError>
+    ensures { OnOk result (text.new.items ≡ text.old.items ++ spec.killed_line why) }
+{
+    text.extend_from_slice(b"  killed")?;
+    push_word(text, kill_word(why))?;
+    text.push(b'\n')?;
+    Ok(())
+}
+
 /// Appends the line of a fact.
 pub fn push_fact(text: &mut Vec<u8>, fact: &Fact) -> Result<(), AllocError>
     ensures { OnOk result (text.new.items ≡ text.old.items ++ spec.fact_line fact.now) }
@@ -437,6 +463,7 @@ pub fn push_fact(text: &mut Vec<u8>, fact: &Fact) -> Result<(), AllocError>
         }
         Fact::AreaWord { field, value } => push_area(text, field, value),
         Fact::NoAnswer => text.extend_from_slice(b"  no answer\n"),
+        Fact::Killed(why) => push_kill(text, why),
     }
 }
 

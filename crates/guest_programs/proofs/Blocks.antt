@@ -29,7 +29,7 @@ use Rattle.urcu_lib.specs.declared.regs.SyncRegs.{SyncRegs}
 use Rattle.guest_programs.specs.declared.registers.TheConstants.{GP, SCRATCH, SLOT, SLOTS}
 use Rattle.guest_names.specs.declared.names.Name.{Name}
 use Rattle.guest_names.specs.declared.names.Name.TheVariants.{Counter, List as Lists, Pool, Dekker, Signals, Migrate, Ring, Urcu}
-use Rattle.guest_programs.specs.Blocks.{HoldsBlock, block_alone, bound_by, descriptor_of, start_word}
+use Rattle.guest_programs.specs.Blocks.{ImageHoldsBlock, block_alone, bound_by, descriptor_of, start_word}
 use Rattle.guest_programs.specs.Programs.{data_words}
 use Rattle.guest_programs.specs.Guests.{HoldsBlocks}
 use Rattle.guest_programs.specs.Steps.{guest_lines, slots_of}
@@ -82,7 +82,7 @@ holds_block : (block : Slots → ℕ → List Line) (table n count first : ℕ) 
     → block_alone (block (slots_of table) 0) ≡ take count (drop n held)
     → descriptor_of (block (slots_of table) 0) (0x10000 + 4 * n) ≡ take 4 (drop first words)
     → list_all (λ x. nat_lt x (2 ^ 64)) (descriptor_of (block (slots_of table) 0) (0x10000 + 4 * n)) ≡ true
-    → HoldsBlock block pages
+    → ImageHoldsBlock block pages
 holds_block block table n count first pages held words low some few placed stand read is described small = record {
   slots = slots_of table;
   at = 0x10000 + 4 * n;
@@ -176,6 +176,8 @@ holds Urcu n pages stand read = record {
   read = reading;
   sync = waiting;
   readers = 3;
+  some = omega arith;
+  few = omega arith;
   are_read = are_reading;
   are_sync = are_waiting;
   lock_at = 0x10000 + 4 * 133;

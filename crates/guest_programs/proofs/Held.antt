@@ -3,8 +3,6 @@ use Rattle.std.proofs.Common.{◌≡◌, ℕ, zero, suc, ◌+◌, ◌*◌, ◌<�
 use Rattle.std.proofs.Common.{subst, arith, Option, Some, Bool, true, false, cond, take, drop, get_or}
 use Rattle.std.proofs.Common.{length-append, slice_set}
 use Rattle.std.specs.Int.{to_le_bytes, w32}
-use Rattle.std.specs.List.{flat_map}
-use Rattle.std.proofs.lemmas.List.{get_or_append_left, get_or-append-add}
 use Rattle.std.proofs.lemmas.Option.{slice_get-get_or, slice_get_within}
 use Rattle.rv_asm.specs.Assembly.{AreAssembled, Assembly}
 use Rattle.rv_asm.specs.declared.item.Item.{Item}

@@ -9,6 +9,7 @@ pub mod Files
 pub mod Finished
 pub mod GuestCode
 pub mod Held
+pub mod LibraryBlocks
 pub mod ListLog
 pub mod Pages
 pub mod Rooms

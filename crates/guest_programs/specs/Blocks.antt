@@ -1,5 +1,5 @@
 -- Blocks that stand in a program (own).
-use Rattle.std.specs.Prelude.{ℕ, ◌≡◌, ◌≢◌, ◌+◌, ◌-◌, ◌*◌, ◌%◌, ◌^◌, ◌<◌, List, [], ◌∷◌, replicate, slice_get}
+use Rattle.std.specs.Prelude.{ℕ, ◌≡◌, ◌≢◌, ◌+◌, ◌-◌, ◌*◌, ◌%◌, ◌^◌, ◌<◌, ◌≤◌, List, [], ◌∷◌, replicate, slice_get}
 use Rattle.std.specs.Prelude.{slice_set, Option, Some, None, if◌then◌else◌, unwrap_or}
 use Rattle.mach_types.specs.Bytes.{word_at}
 use Rattle.elf_load.specs.Start.{loaded_byte}
@@ -47,12 +47,14 @@ descriptor_of lines at =
 abbrev pub start_word : List ImagePage → ℕ → Option ℕ
 start_word pages at = word_at (λ a. Some (loaded_byte pages a)) at 8
 
--- a program holds the three blocks of user-space RCU for so many readers: for some registers, word k of each block,
+-- a program holds the three blocks of user-space RCU for so many readers, 1 to 63: for some registers, word k of each block,
 -- from some address on, is its instruction k
 pub record HoldsRcu (pages : List ImagePage) : Type 0 where
   pub read : ReadRegs
   pub sync : SyncRegs
   pub readers : ℕ
+  pub some : 1 ≤ readers
+  pub few : readers ≤ 63
   pub are_read : AreReadRegs read
   pub are_sync : AreSyncRegs sync
   pub lock_at : ℕ
@@ -62,9 +64,9 @@ pub record HoldsRcu (pages : List ImagePage) : Type 0 where
   pub unlocks : AreHeld (code_of pages) unlock_at (unlock_block read)
   pub syncs : AreHeld (code_of pages) sync_at (sync_block sync readers)
 
--- a program holds a block of some lines: for some registers and some descriptor, word k of the block, from some
+-- an image holds a block of some lines: for some registers and some descriptor, word k of the block, from some
 -- address on, is its instruction k, and the descriptor is that of the block
-pub record HoldsBlock (block : Slots → ℕ → List Line) (pages : List ImagePage) : Type 0 where
+pub record ImageHoldsBlock (block : Slots → ℕ → List Line) (pages : List ImagePage) : Type 0 where
   pub slots : Slots
   pub at : ℕ
   pub are_slots : AreSlots slots

@@ -13,21 +13,21 @@ use Rattle.percpu_lib.specs.Frees.{free_lines}
 use Rattle.percpu_lib.specs.Pops.{pop_lines}
 use Rattle.percpu_lib.specs.Pushes.{push_lines}
 use Rattle.percpu_lib.specs.Rings.{ring_get_lines, ring_put_lines}
-use Rattle.guest_programs.specs.Blocks.{HoldsBlock, HoldsRcu, start_word}
+use Rattle.guest_programs.specs.Blocks.{ImageHoldsBlock, HoldsRcu, start_word}
 use Rattle.guest_programs.specs.Programs.{IsGuestElf}
 use Rattle.guest_programs.specs.declared.fault.GuestFault.{GuestFault}
 use Rattle.guest_programs.specs.declared.fault.GuestFault.TheVariants.{BadSize, NoMemory}
 
 -- the blocks that the program of a guest holds
 abbrev pub HoldsBlocks : Name → List ImagePage → Type 0
-HoldsBlocks Counter pages = HoldsBlock add_lines pages
-HoldsBlocks Lists pages = HoldsBlock push_lines pages × HoldsBlock pop_lines pages
-HoldsBlocks Pool pages = HoldsBlock alloc_lines pages × HoldsBlock free_lines pages
+HoldsBlocks Counter pages = ImageHoldsBlock add_lines pages
+HoldsBlocks Lists pages = ImageHoldsBlock push_lines pages × ImageHoldsBlock pop_lines pages
+HoldsBlocks Pool pages = ImageHoldsBlock alloc_lines pages × ImageHoldsBlock free_lines pages
 HoldsBlocks Dekker pages = Unit {0}
-HoldsBlocks Signals pages = HoldsBlock add_lines pages
-HoldsBlocks Migrate pages = HoldsBlock add_lines pages
-HoldsBlocks Ring pages = HoldsBlock (λ p base. ring_put_lines p base 4) pages
-    × HoldsBlock (λ p base. ring_get_lines p base 4) pages
+HoldsBlocks Signals pages = ImageHoldsBlock add_lines pages
+HoldsBlocks Migrate pages = ImageHoldsBlock add_lines pages
+HoldsBlocks Ring pages = ImageHoldsBlock (λ p base. ring_put_lines p base 4) pages
+    × ImageHoldsBlock (λ p base. ring_get_lines p base 4) pages
 HoldsBlocks Urcu pages = HoldsRcu pages
 
 -- where the size stands in memory

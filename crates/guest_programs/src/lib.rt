@@ -30,6 +30,6 @@ pub use fault::GuestFault;
 pub use guest_names::Name;
 pub use making::make;
 pub use theorems::{
-    counters_use_their_block, lists_use_their_block, made_files_hold_their_code,
-    made_files_start_their_programs, readers_are_waited_for,
+    counters_use_their_block, lists_use_their_block, made_files_hold_their_blocks,
+    made_files_hold_their_code, made_files_start_their_programs, readers_are_waited_for,
 };

@@ -6,6 +6,7 @@ ghost use Rattle.mach_types.specs.declared.limits.Limits.{Limits};
 ghost use Rattle.mach_types.specs.declared.sequences.Area.{Area};
 ghost use Rattle.elf_load.specs.Images.{IsImage};
 ghost use Rattle.elf_load.specs.declared.image.Image.{Image};
+ghost use Rattle.elf_load.specs.declared.image.ImagePage.{ImagePage};
 ghost use Rattle.rv_asm.specs.Assembly.{AreAssembled, Assembly, empty};
 ghost use Rattle.block_model.specs.Acts.{Sequence, sequence_on};
 ghost use Rattle.block_model.specs.Deciding.{event, history};
@@ -15,9 +16,11 @@ ghost use Rattle.block_model.specs.Setting.{Setting, setting_of};
 ghost use Rattle.alone_laws.specs.Entering.{IsIn};
 ghost use Rattle.alone_laws.specs.Uses.{CanAlwaysBegin, Placed};
 ghost use Rattle.percpu_lib.specs.Adds.{add_range, cell_seen, placed_add};
+ghost use Rattle.percpu_lib.specs.Kinds.{Kind, form_of, lines_of};
 ghost use Rattle.percpu_lib.specs.Lines.{AreEmitted};
 ghost use Rattle.percpu_lib.specs.Pops.{pop_form};
 ghost use Rattle.percpu_lib.specs.Pushes.{node_of, push_form};
+ghost use Rattle.percpu_lib.specs.RingKinds.{RingKind, ring_form_of, ring_lines_of};
 ghost use Rattle.percpu_lib.specs.Used.{IsWellUsed};
 ghost use Rattle.percpu_lib.specs.Uses.{HoldsAdd, SharesArea, cells_of};
 ghost use Rattle.percpu_lib.specs.declared.slots.Slots.{Slots};
@@ -27,6 +30,9 @@ ghost use Rattle.urcu_lib.specs.Uses.{HoldsUrcu};
 ghost use Rattle.urcu_lib.specs.declared.regs.SyncRegs.{SyncRegs};
 ghost use Rattle.guest_names.specs.declared.names.Name.TheVariants.{Counter, List as Lists, Urcu as UrcuGuest};
 ghost use Rattle.guest_names.specs.declared.names.Name.{Name};
+ghost use Rattle.guest_programs.specs.Blocks.{ImageHoldsBlock};
+ghost use Rattle.guest_programs.specs.Guests.{IsGuestFile};
+ghost use Rattle.guest_programs.specs.LibraryBlocks.{AreOfLibrary, IsOfForm};
 ghost use Rattle.guest_programs.specs.Programs.{IsGuestElf, data_bytes, guest_program};
 ghost use Rattle.guest_programs.specs.Steps.{guest_lines};
 ghost use Rattle.guest_programs.specs.declared.layout.TheConstants.{CODE};
@@ -46,6 +52,19 @@ pub fn made_files_start_their_programs()
         → IsImage file image
         → (setting_of image limits).program
         ≡ record (guest_program elf.code (data_bytes elf.asm n)) { phdr = image.phdr } }
+{}
+
+/// The blocks that an image holds are those of which the laws of `percpu_lib` and `urcu_lib` speak.
+pub fn made_files_hold_their_blocks()
+    // each block of `percpu_lib`
+    ensures block { (kind : Kind) (pages : List ImagePage) (b : ImageHoldsBlock (lines_of kind) pages)
+        → IsOfForm (form_of kind) (lines_of kind) pages b }
+    // each ring block of four words
+    ensures ring { (kind : RingKind) (pages : List ImagePage) (b : ImageHoldsBlock (ring_lines_of kind 4) pages)
+        → IsOfForm (ring_form_of kind 4) (ring_lines_of kind 4) pages b }
+    // so each block that is found in the image of a made file
+    ensures file { (name : Name) (n : ℕ) (file : List ℕ) → (made : IsGuestFile name n file) → (image : Image)
+        → (is : IsImage file image) → AreOfLibrary name image.pages.items (made.holds image is) }
 {}
 
 /// What `HoldsAdd` asks is met by a made guest: there are a block run of the counter guest for the size 1 and a thread of it

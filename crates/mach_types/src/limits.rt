@@ -1,8 +1,5 @@
 //! The limits of a run, and how it ends.
 
-ghost use Rattle.std.specs.Prelude.{◌↔◌, IsTrue};
-ghost use Rattle.mach_types.specs.Limits.{InRange};
-
 /// The limits of a run (own).
 #[derive(Clone, Copy, Drop)]
 pub struct Limits {
@@ -12,17 +9,6 @@ pub struct Limits {
     pub frames: u32,
     /// How many events the log can hold, 1 to 1,000,000.
     pub steps: u32,
-}
-
-impl Limits {
-    /// Whether each limit is in its range.
-    pub fn is_in_range(&self) -> bool
-        ensures { IsTrue result ↔ (InRange self.now) }
-    {
-        (1..=8).contains(&self.harts)
-            && (128..=16_384).contains(&self.frames)
-            && (1..=1_000_000).contains(&self.steps)
-    }
 }
 
 /// How a run ends.

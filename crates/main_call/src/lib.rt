@@ -1,4 +1,4 @@
-//! The top call by its exit status alone: over any devices, and over those in memory that never fail.
+//! The top call, also by its exit status alone: over any devices, and over those in memory that never fail.
 #![tactic(auto)]
 
 mod status;
@@ -6,3 +6,4 @@ mod sure;
 
 pub use status::rseq_main;
 pub use sure::{sure_main, sure_quiet};
+pub use top_call::{rseq_explained, rseq_quiet};

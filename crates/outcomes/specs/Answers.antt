@@ -1,15 +1,16 @@
 -- The answer to a command before it is written: its output, or the fault that is due.
 use Rattle.std.specs.Prelude.{ℕ, List, Option, Result, Ok, Err, IfSome}
 use Rattle.std.specs.declared.io.ErrorKind.{ErrorKind}
-use Rattle.outcomes.specs.declared.faults.Fault.{Fault}
-use Rattle.outcomes.specs.declared.reasons.Reason.{Reason}
+use Rattle.call_reasons.specs.declared.faults.Fault.{Fault}
+use Rattle.call_reasons.specs.declared.reasons.Reason.{Reason}
 use Rattle.outcomes.specs.Causes.{IsCause}
 use Rattle.outcomes.specs.Delivery.{IsDelivered}
 use Rattle.outcomes.specs.Outputs.{IsOutput}
 use Rattle.outcomes.specs.Programs.{Files}
-use Rattle.outcomes.specs.Reasons.{IsReasonOf, fault_told, reason_status}
-use Rattle.outcomes.specs.Statuses.{fault_status}
-use Rattle.outcomes.specs.Text.{fault_line}
+use Rattle.outcomes.specs.Reasons.{IsReasonOf}
+use Rattle.call_reasons.specs.Reasons.{fault_told, reason_status}
+use Rattle.call_reasons.specs.Statuses.{fault_status}
+use Rattle.call_reasons.specs.FaultLines.{fault_line}
 
 -- the text is the output of the words, or the fault has its cause
 abbrev pub IsAnswer : Files → List (List ℕ) → (List ℕ → ℕ) → (List ℕ → ℕ) → Result (List ℕ) Fault → Type 0

@@ -6,14 +6,15 @@ use Rattle.elf_load.specs.declared.image.Image.{Image}
 use Rattle.guest_names.specs.Guests.{is_size}
 use Rattle.outside.specs.Counts.{Rose}
 use Rattle.block_model.specs.Setting.{setting_of}
-use Rattle.outcomes.specs.declared.faults.Fault.{Fault}
-use Rattle.outcomes.specs.declared.faults.Fault.TheVariants.{Usage, Read, Memory, Big, Elf, Script, Guest}
+use Rattle.call_reasons.specs.declared.faults.Fault.{Fault}
+use Rattle.call_reasons.specs.declared.faults.Fault.TheVariants.{Usage, Read, Memory, Big, Elf, Script, Guest}
 use Rattle.command_words.specs.Commands.{Command}
 use Rattle.outcomes.specs.Needs as need
 use Rattle.outcomes.specs.PairFiles.{AfterBoth, AfterFirst, IsPairScriptRefused}
-use Rattle.outcomes.specs.Programs.{Files, IsProgram, IsRefused, IsScript, IsTooBig, most_program_bytes}
-use Rattle.outcomes.specs.Programs.{most_script_bytes}
-use Rattle.outcomes.specs.Runs.{IsFirstBadLine}
+use Rattle.outcomes.specs.Programs.{Files, IsProgram, IsRefused, IsScript, IsTooBig}
+use Rattle.call_reasons.specs.Reasons.{most_program_bytes}
+use Rattle.call_reasons.specs.Reasons.{most_script_bytes}
+use Rattle.whole_runs.specs.Runs.{IsFirstBadLine}
 use Rattle.command_words.specs.Words.{command_of}
 
 -- a program that is needed is refused for this fault: of a pair the first one that is

@@ -3,20 +3,19 @@ use Rattle.std.specs.Prelude.{ℕ, ◌≡◌, ◌⊎◌, List, Option, Some, Non
 use Rattle.std.specs.declared.io.ErrorKind.{ErrorKind}
 use Rattle.mach_types.specs.declared.limits.Limits.{Limits}
 use Rattle.elf_load.specs.Faults.{first_fault}
-use Rattle.block_model.specs.Setting.{Setting}
 use Rattle.guest_names.specs.Guests.{is_size}
-use Rattle.shared_procs.specs.Pairs.{PairSetting}
 use Rattle.outside.specs.Counts.{Rose}
 use Rattle.outside.specs.Told.{Gained, GainedPrefix}
 use Rattle.command_words.specs.declared.commands.Guest.{Guest as AskedGuest}
-use Rattle.outcomes.specs.declared.reasons.Explained.{Explained}
-use Rattle.outcomes.specs.declared.reasons.FileRole.{FileRole}
-use Rattle.outcomes.specs.declared.reasons.LineFault.{LineFault}
-use Rattle.outcomes.specs.declared.reasons.Reason.{Reason}
-use Rattle.outcomes.specs.declared.reasons.Reason.TheVariants.{Words, Unread, NoMemory, TooBig, Elf, Script, Guest, Unwritten}
+use Rattle.call_reasons.specs.declared.reasons.Explained.{Explained}
+use Rattle.call_reasons.specs.declared.reasons.FileRole.{FileRole}
+use Rattle.call_reasons.specs.declared.reasons.Reason.{Reason}
+use Rattle.call_reasons.specs.declared.reasons.Reason.TheVariants.{Words, Unread, NoMemory, TooBig, Elf, Script, Guest, Unwritten}
 use Rattle.outcomes.specs.ElfPlaces.{place_of}
-use Rattle.outcomes.specs.Programs.{Files, IsTooBig, most_program_bytes}
-use Rattle.outcomes.specs.Reasons.{IsBadLine, IsBadLineOfPair, IsRefusedAbout, most_bytes, reason_status}
+use Rattle.outcomes.specs.Programs.{Files, IsTooBig}
+use Rattle.call_reasons.specs.Reasons.{most_program_bytes}
+use Rattle.outcomes.specs.Reasons.{IsRefusedAbout}
+use Rattle.call_reasons.specs.Reasons.{most_bytes, reason_status}
 
 -- the status was due and the sink gained the whole text
 pub record IsWritten (old new : Option (List ℕ)) (text : List ℕ) (due answered : ℕ) : Type 0 where
@@ -97,25 +96,6 @@ IsTakeReason files name file limits old new said (Elf other fault about) =
 IsTakeReason files name file limits old new said (Script number fault) = ⊥
 IsTakeReason files name file limits old new said (Guest number) = ⊥
 IsTakeReason files name file limits old new said (Unwritten trouble) = ⊥
-
--- why a script isn't played to its end: memory is short, or a line is bad
-abbrev pub IsScriptReason : (ℕ → LineFault → Type 0) → Reason → Type 0
-IsScriptReason IsBad (Words fault) = ⊥
-IsScriptReason IsBad (Unread file trouble) = ⊥
-IsScriptReason IsBad NoMemory = Unit {0}
-IsScriptReason IsBad (TooBig file) = ⊥
-IsScriptReason IsBad (Elf file fault about) = ⊥
-IsScriptReason IsBad (Script number fault) = IsBad number fault
-IsScriptReason IsBad (Guest number) = ⊥
-IsScriptReason IsBad (Unwritten trouble) = ⊥
-
--- of a script of one process: one of its lines is the first bad one
-abbrev pub IsPlayReason : Setting → List ℕ → Reason → Type 0
-IsPlayReason s text reason = IsScriptReason (IsBadLine s text) reason
-
--- the same of a script of a pair
-abbrev pub IsPairPlayReason : PairSetting → List ℕ → Reason → Type 0
-IsPairPlayReason s text reason = IsScriptReason (IsBadLineOfPair s text) reason
 
 -- why the file of a guest isn't made: memory is short, or the guest doesn't take its size
 abbrev pub IsGuestReason : AskedGuest → Reason → Type 0

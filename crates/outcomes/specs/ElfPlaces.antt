@@ -7,9 +7,9 @@ use Rattle.elf_load.specs.declared.fault.ElfFault.{ElfFault}
 use Rattle.elf_load.specs.declared.fault.ElfFault.TheVariants as elf
 use Rattle.elf_load.specs.declared.program_headers.ProgramHeader.{ProgramHeader}
 use Rattle.elf_load.specs.Fields.{e_entry, program_headers}
-use Rattle.outcomes.specs.declared.reasons.ElfPlace.{ElfPlace}
-use Rattle.outcomes.specs.declared.reasons.ElfPlace.TheVariants.{Segment, Entry, Frames}
-use Rattle.outcomes.specs.declared.reasons.Span.{Span}
+use Rattle.call_reasons.specs.declared.reasons.ElfPlace.{ElfPlace}
+use Rattle.call_reasons.specs.declared.reasons.ElfPlace.TheVariants.{Segment, Entry, Frames}
+use Rattle.call_reasons.specs.declared.reasons.Span.{Span}
 
 -- so many addresses or bytes from a first one: up to the one behind the last, or to the greatest number
 abbrev pub span_of : ℕ → ℕ → Span

@@ -17,9 +17,8 @@ use Rattle.command_words.specs.declared.commands.Guest.{Guest}
 use Rattle.command_words.specs.declared.commands.Trial.{Trial}
 use Rattle.command_words.specs.Commands.{trial_limits}
 use Rattle.outcomes.specs.Programs.{IsGood}
-use Rattle.outcomes.specs.Rounds.{IsRoundsRun}
-use Rattle.outcomes.specs.Summary.{summary_text}
-use Rattle.outcomes.specs.Text.{console_text}
+use Rattle.whole_runs.specs.Rounds.{IsRoundsRun}
+use Rattle.run_texts.specs.LogTexts.{trial_text, tried_text}
 
 -- the bytes are a file of the guest, which takes its size
 pub record IsGuestOutput (guest : Guest) (written : List ℕ) : Type 0 where
@@ -32,14 +31,6 @@ pub record IsGuestImage (guest : Guest) (limits : Limits) (image : Image) : Type
   pub made : IsGuestOutput guest bytes
   pub good : IsGood limits bytes
   pub loaded : IsImage bytes image
-
--- what is shown of a trial: the console, and the summary of the log
-abbrev pub trial_text : Setting → List ℕ → List Entry → End → List ℕ
-trial_text s bytes log end = console_text bytes ++ summary_text s.limits.harts (acts_of s log) log end
-
--- of a log, with the console and the end that it comes to
-abbrev pub tried_text : Setting → List Entry → List ℕ
-tried_text s log = trial_text s (console s (history s log)) log (end_of s (history s log))
 
 -- what a trial starts from, where this is the image of its guest
 abbrev pub setting_tried : Trial → Image → Setting

@@ -8,15 +8,6 @@ pub mod Needs
 pub mod Outcome
 pub mod Outputs
 pub mod PairFiles
-pub mod PairText
-pub mod Places
-pub mod PlayedPairs
 pub mod Programs
 pub mod Reasons
-pub mod Rounds
-pub mod Runs
-pub mod Statuses
-pub mod Summary
-pub mod Text
 pub mod Told
-pub mod Traces

@@ -3,13 +3,13 @@ use Rattle.std.specs.Prelude.{ℕ, ◌≡◌, ◌≢◌, ◌⊎◌, List, Option
 use Rattle.elf_load.specs.declared.fault.ElfFault.{ElfFault}
 use Rattle.outside.specs.Counts.{NeverFalls, NoneFalls, Rose}
 use Rattle.outside.specs.Told.{Gained, GainedPrefix}
-use Rattle.outcomes.specs.declared.faults.Fault.{Fault}
-use Rattle.outcomes.specs.declared.faults.Fault.TheVariants.{Usage, Read, Memory, Big, Elf, Script, Guest}
+use Rattle.call_reasons.specs.declared.faults.Fault.{Fault}
+use Rattle.call_reasons.specs.declared.faults.Fault.TheVariants.{Usage, Read, Memory, Big, Elf, Script, Guest}
 use Rattle.outcomes.specs.Causes.{HasBigFile, IsCause, IsOutsideGuest, IsRefusalOf, IsScriptRefusalOf, ReadFailed}
 use Rattle.outcomes.specs.Needs.{needs_in}
 use Rattle.outcomes.specs.Outputs.{IsOutput, IsPlainOutput}
 use Rattle.outcomes.specs.Programs.{Files}
-use Rattle.outcomes.specs.Text.{fault_line}
+use Rattle.call_reasons.specs.FaultLines.{fault_line}
 use Rattle.outcomes.specs.Told.{TellsBadScript, TellsBigFile, TellsFaultyProgram, TellsGoodFiles}
 use Rattle.command_words.specs.Words.{command_of}
 

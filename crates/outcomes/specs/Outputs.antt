@@ -24,20 +24,13 @@ use Rattle.command_words.specs.Words.{command_of}
 use Rattle.outcomes.specs.Explorations.{IsExploreOutput}
 use Rattle.outcomes.specs.Guests.{IsGuestOutput, IsPlainTrialOutput, IsTrialOutput}
 use Rattle.outcomes.specs.PairFiles.{IsPairOutput}
-use Rattle.outcomes.specs.Places.{asked_place}
-use Rattle.outcomes.specs.Programs.{Files, IsProgram, IsScript, asks_of}
-use Rattle.outcomes.specs.Runs.{IsChosenRun, IsSoloRun, IsPlayedRun}
-use Rattle.outcomes.specs.Summary.{act_line, summary_text}
-use Rattle.outcomes.specs.Text.{output_text}
-use Rattle.outcomes.specs.Traces.{trace_text}
-
--- the output text of a log: its lines, and the console and the end that it comes to
-abbrev pub log_output : Setting → List Entry → List ℕ
-log_output s log = output_text (console s (history s log)) log (end_of s (history s log))
-
--- the summary of a log: its acts counted for each hart, its barriers, and the end that it comes to
-abbrev pub log_summary : Setting → List Entry → List ℕ
-log_summary s log = summary_text s.limits.harts (acts_of s log) log (end_of s (history s log))
+use Rattle.run_texts.specs.Places.{asked_place}
+use Rattle.outcomes.specs.Programs.{Files, IsProgram, IsScript}
+use Rattle.whole_runs.specs.Asks.{asks_of}
+use Rattle.whole_runs.specs.Runs.{IsChosenRun, IsSoloRun, IsPlayedRun}
+use Rattle.run_texts.specs.Summary.{act_line, summary_text}
+use Rattle.run_texts.specs.Text.{output_text}
+use Rattle.run_texts.specs.Traces.{trace_text}
 
 -- what is shown of a log with this console and this end
 abbrev pub text_of : Shown → Setting → List ℕ → List Entry → End → List ℕ

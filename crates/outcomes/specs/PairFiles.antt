@@ -4,8 +4,8 @@ use Rattle.elf_load.specs.declared.image.Image.{Image}
 use Rattle.shared_procs.specs.Pairs.{pair_setting_of}
 use Rattle.shared_procs.specs.PairRuns.{PairSeen}
 use Rattle.command_words.specs.Commands.{PairRun}
-use Rattle.outcomes.specs.PairText.{pair_output}
-use Rattle.outcomes.specs.PlayedPairs.{IsFirstBadOfPair, IsPlayedPair}
+use Rattle.run_texts.specs.PairText.{pair_output}
+use Rattle.whole_runs.specs.PlayedPairs.{IsFirstBadOfPair, IsPlayedPair}
 use Rattle.outcomes.specs.Programs.{Files, IsProgram, IsScript}
 
 -- both programs were taken, and these are their images

@@ -1,25 +1,15 @@
 -- The files that a command names: a program, whose image it runs, and a script.
-use Rattle.std.specs.Prelude.{ℕ, ◌≡◌, ◌<◌, ◌≤◌, All, List, Option, None, Some, IfSome, length, map}
-use Rattle.std.specs.Option.{option_map}
+use Rattle.std.specs.Prelude.{ℕ, ◌≡◌, ◌<◌, ◌≤◌, All, List, Option, None, Some, IfSome, length}
+use Rattle.call_reasons.specs.Reasons.{most_program_bytes, most_script_bytes}
 use Rattle.mach_types.specs.declared.limits.Limits.{Limits}
 use Rattle.elf_load.specs.declared.fault.ElfFault.{ElfFault}
 use Rattle.elf_load.specs.declared.image.Image.{Image}
 use Rattle.elf_load.specs.Faults.{first_fault}
 use Rattle.elf_load.specs.Images.{IsImage}
-use Rattle.step_log.specs.Script.{line_meaning, lines_of}
-use Rattle.step_log.specs.declared.fields.Line.{Line}
-use Rattle.block_model.specs.Replay.{Ask}
 
 -- the bytes of the file of each name, where a shelf tells them
 abbrev pub Files : Type 0
 Files = List ℕ → Option (List ℕ)
-
--- how many bytes a program's file may have, and a script's (own)
-abbrev pub most_program_bytes : ℕ
-most_program_bytes = 8388608
-
-abbrev pub most_script_bytes : ℕ
-most_script_bytes = 67108864
 
 -- the file of this name was read as these bytes: they are its bytes, where the shelf tells them
 abbrev pub IsReadAs : Files → List ℕ → List ℕ → Type 0
@@ -57,14 +47,3 @@ pub record IsRefused (files : Files) (name : List ℕ) (limits : Limits) (fault 
 pub record IsScript (files : Files) (name text : List ℕ) : Type 0 where
   pub read : IsReadAs files name text
   pub fits : length text ≤ most_script_bytes
-
--- what a line of a script asks for
-abbrev pub ask_of : Line → Ask
-ask_of line = record { hart = line.hart; choice = line.choice; check = line.check }
-
--- what each line of a script asks for; none at a malformed one
-abbrev pub ask_in : List ℕ → Option Ask
-ask_in line = option_map ask_of (line_meaning line)
-
-abbrev pub asks_of : List ℕ → List (Option Ask)
-asks_of text = map ask_in (lines_of text)

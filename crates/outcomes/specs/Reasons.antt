@@ -1,110 +1,33 @@
 -- Why a call gives no output, exactly: the reason that goes with its status (own).
-use Rattle.std.specs.Prelude.{ℕ, ◌≡◌, ◌↔◌, List, Option, Some, None, Result, Ok, Err, IfSome, IsSome, if◌then◌else◌}
+use Rattle.std.specs.Prelude.{ℕ, ◌≡◌, ◌↔◌, List, Option, Some, None, IfSome, IsSome}
 use Rattle.std.specs.declared.io.ErrorKind.{ErrorKind}
-use Rattle.mach_types.specs.declared.events.Entry.{Entry}
-use Rattle.mach_types.specs.declared.events.Tid.{Tid}
 use Rattle.mach_types.specs.declared.limits.Limits.{Limits}
 use Rattle.elf_load.specs.declared.fault.ElfFault.{ElfFault}
-use Rattle.block_model.specs.Deciding.{decide, history}
-use Rattle.block_model.specs.Replay.{Ask, is_as_said}
-use Rattle.block_model.specs.Setting.{Setting, setting_of}
-use Rattle.block_model.specs.declared.refusals.Refused.{Refused}
-use Rattle.block_model.specs.declared.refusals.Refused.TheVariants as barred
-use Rattle.shared_procs.specs.Pairs.{Pair, PairSetting, pair_setting_of}
-use Rattle.shared_procs.specs.PairRuns.{pair_decide}
-use Rattle.shared_procs.specs.declared.outcomes.PairRefused.{PairRefused}
-use Rattle.shared_procs.specs.declared.outcomes.PairRefused.TheVariants as two
+use Rattle.block_model.specs.Setting.{setting_of}
+use Rattle.shared_procs.specs.Pairs.{pair_setting_of}
 use Rattle.outside.specs.Counts.{Rose}
 use Rattle.command_words.specs.declared.faults.WordsFault.{WordsFault}
 use Rattle.command_words.specs.Commands.{PairRun}
 use Rattle.command_words.specs.WordFaults.{words_fault}
 use Rattle.command_words.specs.Words.{command_of}
-use Rattle.outcomes.specs.declared.faults.Fault.{Fault}
-use Rattle.outcomes.specs.declared.faults.Fault.TheVariants as told
-use Rattle.outcomes.specs.declared.reasons.ElfPlace.{ElfPlace}
-use Rattle.outcomes.specs.declared.reasons.Explained.{Explained}
-use Rattle.outcomes.specs.declared.reasons.FileRole.{FileRole}
-use Rattle.outcomes.specs.declared.reasons.FileRole.TheVariants as role
-use Rattle.outcomes.specs.declared.reasons.LineFault.{LineFault}
-use Rattle.outcomes.specs.declared.reasons.LineFault.TheVariants as line
-use Rattle.outcomes.specs.declared.reasons.Reason.{Reason}
-use Rattle.outcomes.specs.declared.reasons.Reason.TheVariants.{Words, Unread, NoMemory, TooBig, Elf, Script, Guest, Unwritten}
+use Rattle.call_reasons.specs.declared.reasons.ElfPlace.{ElfPlace}
+use Rattle.call_reasons.specs.declared.reasons.Explained.{Explained}
+use Rattle.call_reasons.specs.declared.reasons.FileRole.{FileRole}
+use Rattle.call_reasons.specs.declared.reasons.FileRole.TheVariants as role
+use Rattle.call_reasons.specs.declared.reasons.LineFault.{LineFault}
+use Rattle.call_reasons.specs.declared.reasons.Reason.{Reason}
+use Rattle.call_reasons.specs.declared.reasons.Reason.TheVariants.{Words, Unread, NoMemory, TooBig, Elf, Script, Guest, Unwritten}
 use Rattle.outcomes.specs.Causes.{IsBigScript, IsOutsideGuest, IsScriptRefused, IsUnreadScript}
 use Rattle.outcomes.specs.ElfPlaces.{place_of}
 use Rattle.outcomes.specs.Needs as need
 use Rattle.outcomes.specs.Outcome.{Call, CouldNotWrite, IsOutcome, WrotePrefix, WroteText}
 use Rattle.outcomes.specs.Outputs.{IsOutput}
 use Rattle.outcomes.specs.PairFiles.{AfterBoth, AfterFirst, IsPairScriptRefused}
-use Rattle.outcomes.specs.PlayedPairs.{IsFirstBadOfPair, pair_at}
-use Rattle.outcomes.specs.Programs.{Files, IsRefused, IsTooBig, most_program_bytes, most_script_bytes}
-use Rattle.outcomes.specs.Runs.{IsFirstBadLine}
-use Rattle.outcomes.specs.Text.{fault_line}
-
--- how many bytes a file of this role may have
-abbrev pub most_bytes : FileRole → ℕ
-most_bytes role.Program = most_program_bytes
-most_bytes role.SecondProgram = most_program_bytes
-most_bytes role.Script = most_script_bytes
-
--- the exit status that goes with a reason
-abbrev pub reason_status : Reason → ℕ
-reason_status (Words fault) = 2
-reason_status (Elf file fault about) = 3
-reason_status (Script number fault) = 4
-reason_status (Unread file trouble) = 5
-reason_status (Unwritten trouble) = 6
-reason_status NoMemory = 7
-reason_status (TooBig file) = 8
-reason_status (Guest number) = 9
-
--- the fault whose line is written; none where no line could be written
-abbrev pub fault_told : Reason → Option Fault
-fault_told (Words fault) = Some told.Usage
-fault_told (Unread file trouble) = Some told.Read
-fault_told NoMemory = Some told.Memory
-fault_told (TooBig file) = Some told.Big
-fault_told (Elf file fault about) = Some (told.Elf fault)
-fault_told (Script number fault) = Some (told.Script number)
-fault_told (Guest number) = Some (told.Guest number)
-fault_told (Unwritten trouble) = None
-
--- what is wrong with a line by what is decided of its event: the event isn't allowed, or its entry isn't as the
--- line says; none where nothing is
-abbrev pub decided_fault : Option (Tid × ℕ) → Result Entry Refused → Option LineFault
-decided_fault check (Err refused) = Some (line.Refused refused)
-decided_fault check (Ok e) = if is_as_said check e then None else Some (line.Differs e)
-
--- what is wrong with a line of a script after a log: it can't be read, or what is decided of it; none where
--- nothing is
-abbrev pub line_fault : Setting → List Entry → Option Ask → Option LineFault
-line_fault s log None = Some line.Malformed
-line_fault s log (Some ask) = decided_fault ask.check (decide s (history s log) ask.hart.0 ask.choice)
-
--- the line of this number is the first bad one of a script, and this is what is wrong with it
-pub record IsBadLine (s : Setting) (text : List ℕ) (number : ℕ) (fault : LineFault) : Type 0 where
-  pub first : IsFirstBadLine s text number
-  pub why : line_fault s first.log first.line ≡ Some fault
-
--- what is wrong with a line by what is decided of its event where two processes stand: no process goes on, the event isn't allowed
--- for another reason, or its entry isn't as the line says; none where nothing is
-abbrev pub refusal_of_pair : PairRefused → LineFault
-refusal_of_pair two.Ended = line.NoneGoesOn
-refusal_of_pair two.Full = line.Refused barred.Full
-refusal_of_pair (two.NotEnabled why) = line.Refused (barred.NotEnabled why)
-
-abbrev pub decided_for_pair : Option (Tid × ℕ) → Result Entry PairRefused → Option LineFault
-decided_for_pair check (Err refused) = Some (refusal_of_pair refused)
-decided_for_pair check (Ok e) = if is_as_said check e then None else Some (line.Differs e)
-
--- what is wrong with a line of a script there: it can't be read, or what is decided of it
-abbrev pub line_fault_of_pair : PairSetting → Pair → Option Ask → Option LineFault
-line_fault_of_pair s m None = Some line.Malformed
-line_fault_of_pair s m (Some ask) = decided_for_pair ask.check (pair_decide s m ask.hart.0 ask.choice)
-
--- the line of this number is the first bad one of a script of a pair, and this is what is wrong with it
-pub record IsBadLineOfPair (s : PairSetting) (text : List ℕ) (number : ℕ) (fault : LineFault) : Type 0 where
-  pub first : IsFirstBadOfPair s text number
-  pub why : line_fault_of_pair s (pair_at s first.log) first.line ≡ Some fault
+use Rattle.whole_runs.specs.PlayedPairs.{pair_at}
+use Rattle.outcomes.specs.Programs.{Files, IsRefused, IsTooBig}
+use Rattle.call_reasons.specs.Reasons.{fault_told, most_program_bytes, most_script_bytes, reason_status}
+use Rattle.call_reasons.specs.FaultLines.{fault_line}
+use Rattle.whole_runs.specs.BadLines.{line_fault, line_fault_of_pair}
 
 -- the file of this role couldn't be read: the count of faults of the program's name rose, or that of the
 -- script's after the program was taken; of a pair that of a file's name after those before it were taken

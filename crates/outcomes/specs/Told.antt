@@ -11,9 +11,10 @@ use Rattle.block_model.specs.Setting.{setting_of}
 use Rattle.shared_procs.specs.Pairs.{pair_setting_of}
 use Rattle.command_words.specs.Commands.{PairRun}
 use Rattle.outcomes.specs.Needs.{Needs, Nothing, Program, Script, Guest, Pair}
-use Rattle.outcomes.specs.PlayedPairs.{IsFirstBadOfPair, IsPlayedPair}
-use Rattle.outcomes.specs.Programs.{Files, IsFaulty, IsGood, most_program_bytes, most_script_bytes}
-use Rattle.outcomes.specs.Runs.{IsFirstBadLine, IsPlayedRun}
+use Rattle.whole_runs.specs.PlayedPairs.{IsFirstBadOfPair, IsPlayedPair}
+use Rattle.outcomes.specs.Programs.{Files, IsFaulty, IsGood}
+use Rattle.call_reasons.specs.Reasons.{most_program_bytes, most_script_bytes}
+use Rattle.whole_runs.specs.Runs.{IsFirstBadLine, IsPlayedRun}
 
 -- the file of this name is told, and its bytes are a program that the loader takes
 pub record TellsGood (files : Files) (name : List ℕ) (limits : Limits) : Type 0 where

@@ -1,11 +1,5 @@
 //! What a call comes to: its output, or why there is none, and the exit status that goes with it.
 //!
 //! The definitions stand in `specs/`, one subject a file. They speak of words, files and devices, and of logs by
-//! `block_model`; no command is run here.
+//! `block_model`; no code runs here.
 #![tactic(auto)]
-
-mod faults;
-mod reasons;
-
-pub use faults::Fault;
-pub use reasons::{ElfPlace, Explained, FileRole, LineFault, Reason, Span};

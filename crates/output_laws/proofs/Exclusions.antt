@@ -11,9 +11,9 @@ use Rattle.elf_load.specs.Images.{IsImage}
 use Rattle.block_model.specs.Replay.{played_read}
 use Rattle.block_model.specs.Setting.{Setting, setting_of}
 use Rattle.block_model.proofs.Laws.{is_bad, one_setting, played_read-all, run_is_played}
-use Rattle.outcomes.specs.declared.faults.Fault.{Fault}
-use Rattle.outcomes.specs.declared.faults.Fault.TheVariants as fault
-use Rattle.outcomes.specs.declared.faults.Fault.TheVariants.{Usage, Read, Memory, Big, Elf}
+use Rattle.call_reasons.specs.declared.faults.Fault.{Fault}
+use Rattle.call_reasons.specs.declared.faults.Fault.TheVariants as fault
+use Rattle.call_reasons.specs.declared.faults.Fault.TheVariants.{Usage, Read, Memory, Big, Elf}
 use Rattle.outcomes.specs.Causes.{HasBigFile, IsBigScript, IsCauseOf, IsRefusalOf, IsScriptRefusalOf}
 use Rattle.outcomes.specs.Causes.{IsOutsideGuest, IsScriptRefused, ReadFailed}
 use Rattle.outcomes.specs.Needs.{Needs, Nothing, Program, Script, Guest, Pair, needs_by, needs_of}
@@ -26,9 +26,11 @@ use Rattle.output_laws.proofs.PairExclusions.{no_refusal_when_big_pair, no_refus
 use Rattle.output_laws.proofs.PairExclusions.{unused_when_bad_line_of_pair, unused_when_big_pair}
 use Rattle.outcomes.specs.Outputs.{IsLogOf, IsOutputOf}
 use Rattle.outcomes.specs.Programs.{Files, IsFaulty, IsGood, IsProgram, IsReadAs, IsRefused, IsScript}
-use Rattle.outcomes.specs.Programs.{IsTooBig, asks_of, most_program_bytes, most_script_bytes}
-use Rattle.outcomes.specs.Runs.{IsFirstBadLine, IsPlayedRun}
-use Rattle.outcomes.specs.Statuses.{fault_status}
+use Rattle.outcomes.specs.Programs.{IsTooBig}
+use Rattle.whole_runs.specs.Asks.{asks_of}
+use Rattle.call_reasons.specs.Reasons.{most_program_bytes, most_script_bytes}
+use Rattle.whole_runs.specs.Runs.{IsFirstBadLine, IsPlayedRun}
+use Rattle.call_reasons.specs.Statuses.{fault_status}
 use Rattle.outcomes.specs.Told.{TellsBadScript, TellsBig, TellsBigFile, TellsBoth, TellsFaulty}
 use Rattle.outcomes.specs.Told.{TellsFaultyProgram, TellsGood, TellsGoodFiles}
 use Rattle.command_words.specs.Commands as words

@@ -4,8 +4,9 @@ use Rattle.std.specs.Prelude.{IfSome}
 use Rattle.mach_types.specs.declared.limits.Limits.{Limits}
 use Rattle.elf_load.specs.declared.fault.ElfFault.{ElfFault}
 use Rattle.elf_load.specs.declared.image.Image.{Image}
-use Rattle.outcomes.specs.Programs.{Files, IsFaulty, IsGood, IsProgram, IsReadAs, IsRefused, IsTooBig, most_program_bytes}
-use Rattle.outcomes.specs.Programs.{most_script_bytes}
+use Rattle.outcomes.specs.Programs.{Files, IsFaulty, IsGood, IsProgram, IsReadAs, IsRefused, IsTooBig}
+use Rattle.call_reasons.specs.Reasons.{most_program_bytes}
+use Rattle.call_reasons.specs.Reasons.{most_script_bytes}
 use Rattle.outcomes.specs.Told.{TellsBig, TellsFaulty}
 
 -- a file that is told was read as it is

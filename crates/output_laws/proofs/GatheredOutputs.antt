@@ -10,9 +10,10 @@ use Rattle.log_gather.specs.Gathered.{gathered}
 use Rattle.log_gather.proofs.Laws.{gathered_run, same_console, same_end}
 use Rattle.command_words.specs.Shown.{Shown, Gathered}
 use Rattle.command_words.specs.Commands.{Run}
-use Rattle.outcomes.specs.Outputs.{IsPlayOutput, IsRunOutput, log_output, setting_for, shown_text}
+use Rattle.outcomes.specs.Outputs.{IsPlayOutput, IsRunOutput, setting_for, shown_text}
+use Rattle.run_texts.specs.LogTexts.{log_output}
 use Rattle.outcomes.specs.Programs.{Files, IsReadAs}
-use Rattle.outcomes.specs.Text.{output_text}
+use Rattle.run_texts.specs.Text.{output_text}
 use Rattle.output_laws.proofs.Repeats.{block_run_of, output_again}
 
 -- the gathered log of a run comes to the console and the end that are shown with it

@@ -1,3 +1,5 @@
+mod Agreement
+mod DrawnOutputs
 mod Exclusions
 mod FileExclusions
 mod GatheredOutputs
@@ -6,7 +8,9 @@ mod OneExploration
 mod OneOutput
 mod OnePairRun
 mod PairExclusions
+mod PairReplays
 mod PlainOutputs
 mod ReadLines
 mod Repeats
 mod RoundRuns
+mod ToldCauses

@@ -1,13 +1,13 @@
 -- Told files have one output.
-use Rattle.std.proofs.Common.{◌≡◌, ℕ, List, [], ◌∷◌, ◌++◌, length, refl, sym, ap, ◌∙◌, subst, ap₂, Option, Some, None, Ok}
-use Rattle.std.proofs.Common.{arith, false, map}
+use Rattle.std.proofs.Common.{◌≡◌, ℕ, List, [], ◌++◌, length, refl, sym, ap, ◌∙◌, subst, ap₂, Option, Some, None, Ok}
+use Rattle.std.proofs.Common.{arith, false}
 use Rattle.std.specs.Prelude.{IsSome, IfSome}
 use Rattle.mach_types.specs.declared.events.Entry.{Entry}
 use Rattle.mach_types.specs.declared.limits.Limits.{Limits}
 use Rattle.elf_load.specs.declared.image.Image.{Image}
 use Rattle.elf_load.specs.Images.{IsImage}
 use Rattle.block_model.specs.Plain.{PlainRun, plain_run}
-use Rattle.block_model.specs.Replay.{Ask, played_read, script_of}
+use Rattle.block_model.specs.Replay.{played_read, script_of}
 use Rattle.block_model.specs.Setting.{Setting, setting_of}
 use Rattle.block_model.proofs.Laws.{one_setting, played_read-all, run_is_played}
 use Rattle.drawn_runs.specs.Manners.{manner_behind, manner_for}
@@ -23,11 +23,12 @@ use Rattle.shared_procs.specs.Pairs.{PairSetting, pair_setting_of}
 use Rattle.shared_procs.specs.PairRuns.{PairSeen}
 use Rattle.outcomes.specs.Needs.{Needs, Nothing, Program, Script, Guest, Pair, needs_by, needs_of}
 use Rattle.outcomes.specs.PairFiles.{HasPairRun}
-use Rattle.outcomes.specs.PairText.{pair_output}
-use Rattle.outcomes.specs.PlayedPairs.{IsPlayedPair}
+use Rattle.run_texts.specs.PairText.{pair_output}
+use Rattle.whole_runs.specs.PlayedPairs.{IsPlayedPair}
 use Rattle.outcomes.specs.Outputs.{IsDrawnAfter, IsOutputOf, IsPlainOutputOf, IsPlainRunOf, plain_text, setting_for}
-use Rattle.outcomes.specs.Programs.{Files, IsProgram, asks_of}
-use Rattle.outcomes.specs.Runs.{IsPlayedRun}
+use Rattle.outcomes.specs.Programs.{Files, IsProgram}
+use Rattle.whole_runs.specs.Asks.{asks_of}
+use Rattle.whole_runs.specs.Runs.{IsPlayedRun}
 use Rattle.outcomes.specs.Told.{AreTold, TellsGood, TellsGoodFiles}
 use Rattle.output_laws.proofs.Exclusions.{AreUsed, used_by_output}
 use Rattle.output_laws.proofs.OneExploration.{one_account}
@@ -36,13 +37,13 @@ use Rattle.output_laws.proofs.PlainOutputs.{plain_output_of}
 use Rattle.output_laws.proofs.ReadLines.{same_asks}
 
 -- two readings of one told file are one
-one_reading : (o : Option (List ℕ)) (a b : List ℕ) → IsSome o → IfSome o (λ told. a ≡ told)
+pub one_reading : (o : Option (List ℕ)) (a b : List ℕ) → IsSome o → IfSome o (λ told. a ≡ told)
     → IfSome o (λ told. b ≡ told) → a ≡ b
 one_reading None a b told first second = absurd cc
 one_reading (Some bytes) a b told first second = first ∙ sym second
 
 -- a program that is told starts in one way
-one_start : (files : Files) (name : List ℕ) (limits : Limits) (a b : Image) → IsSome (files name)
+pub one_start : (files : Files) (name : List ℕ) (limits : Limits) (a b : Image) → IsSome (files name)
     → IsProgram files name limits a → IsProgram files name limits b
     → setting_of a limits ≡ setting_of b limits
 one_start files name limits a b told first second =
@@ -162,13 +163,13 @@ one_output files command a b no_run told first second =
     (plain_output_of files command b second)
 
 -- what was read is what is told
-read_is_told : (o : Option (List ℕ)) (bytes : List ℕ) → IsSome o → IfSome o (λ told. bytes ≡ told)
+pub read_is_told : (o : Option (List ℕ)) (bytes : List ℕ) → IsSome o → IfSome o (λ told. bytes ≡ told)
     → o ≡ Some bytes
 read_is_told None bytes told read = absurd cc
 read_is_told (Some x) bytes told read = ap Some (sym read)
 
 -- a program that was taken is told, and good
-abbrev taken_is_good : (files : Files) (name : List ℕ) (limits : Limits) (image : Image) → IsSome (files name)
+abbrev pub taken_is_good : (files : Files) (name : List ℕ) (limits : Limits) (image : Image) → IsSome (files name)
     → IsProgram files name limits image → TellsGood files name limits
 taken_is_good files name limits image told taken = record {
   bytes = taken.bytes;
@@ -176,7 +177,7 @@ taken_is_good files name limits image told taken = record {
   good = taken.good;
 }
 
-used_are_good : (files : Files) (needs : Needs) → ¬ (needs ≡ Nothing) → AreTold files needs
+pub used_are_good : (files : Files) (needs : Needs) → ¬ (needs ≡ Nothing) → AreTold files needs
     → AreUsed files needs → TellsGoodFiles files needs
 used_are_good files Nothing some told used = absurd (some refl)
 used_are_good files (Program program limits) some told used = taken_is_good files program limits used.0 told used.1
@@ -221,7 +222,7 @@ some_need program (words.Workers seed) limits none = absurd cc
 some_need program (words.Drawn seed draws) limits none = absurd cc
 some_need program (words.DrawnAfter name seed draws) limits none = absurd cc
 
-needs_some : (files : Files) (command : Option words.Command) (written : List ℕ) → IsOutputOf files command written
+pub needs_some : (files : Files) (command : Option words.Command) (written : List ℕ) → IsOutputOf files command written
     → ¬ (needs_of command ≡ Nothing)
 needs_some files None written output none = absurd output
 needs_some files (Some (words.Runs run)) written output none = some_need run.program run.source run.limits none

@@ -1,14 +1,15 @@
 -- A script makes one log of a pair.
-use Rattle.std.proofs.Common.{◌≡◌, ◌∙◌, ℕ, Bool, true, false, List, [], ◌∷◌, ◌++◌, Option, Some, None, Ok, refl, sym, ap, ap₂, subst}
+use Rattle.std.proofs.Common.{◌≡◌, ◌∙◌, ℕ, ◌+◌, ◌<◌, Bool, true, false, List, [], ◌∷◌, ◌++◌, Some, None, Ok, length, inl, inr, refl, sym, ap, ap₂, subst}
+use Rattle.std.proofs.lemmas.Bool.{cases_order}
 use Rattle.std.specs.Prelude.{if◌then◌else◌}
 use Rattle.mach_types.specs.Events.{choice_of}
 use Rattle.mach_types.specs.declared.events.Entry.{Entry}
 use Rattle.block_model.specs.Replay.{Ask, AllAnswer, Answers, is_as_said}
 use Rattle.shared_procs.specs.Pairs.{Pair, PairSetting}
 use Rattle.shared_procs.specs.PairRuns.{IsPairRunHistory, PairHistory, event_two, pair_after, pair_decide, pair_history}
-use Rattle.outcomes.proofs.PairLogs.{decided, on}
-use Rattle.outcomes.specs.PlayedPairs.{IsFirstBadOfPair, IsPlayedPair, checked_two, made_two, pair_at}
-use Rattle.output_laws.proofs.ReadLines.{line_among, same_asks}
+use Rattle.whole_runs.proofs.PairLogs.{decided, on}
+use Rattle.whole_runs.specs.PlayedPairs.{IsFirstBadOfPair, IsPlayedPair, checked_two, made_two, pair_at}
+use Rattle.output_laws.proofs.ReadLines.{line_among, line_within, same_asks}
 
 -- the entry at a place is the one that the line asks for which it answers
 asked : (s : PairSetting) (m : Pair) (line : Ask) (e : Entry) → pair_decide s m e.hart.0 (choice_of e) ≡ Ok e
@@ -81,6 +82,27 @@ allowed_not_bad_pair s text log n run bad =
     never_bad s [] bad.earlier found.ask found.later log bad.log
     (subst (λ (lines : List Ask). AllAnswer lines log) found.parts run.answers) bad.answers run.pair_run bad.pair_run
     (ap (made_two s (pair_at s bad.log)) (sym found.says) ∙ bad.refused)
+
+-- and one line is the first bad one: where fewer lines stand before one, it is among those before the other
+longer_not_bad : (s : PairSetting) (text : List ℕ) (n m : ℕ) → (bad : IsFirstBadOfPair s text n) → (other : IsFirstBadOfPair s text m)
+    → ¬ (length bad.earlier < length other.earlier)
+unfolding pair_history
+longer_not_bad s text n m bad other fewer =
+    let found = line_within other.earlier bad.earlier bad.line bad.later (other.line ∷ other.later) fewer
+    (sym other.parts ∙ bad.parts) in
+    never_bad s [] bad.earlier found.ask found.later other.log bad.log
+    (subst (λ (lines : List Ask). AllAnswer lines other.log) found.parts other.answers) bad.answers other.pair_run bad.pair_run
+    (ap (made_two s (pair_at s bad.log)) (sym found.says) ∙ bad.refused)
+
+pub one_bad_line : (s : PairSetting) (text : List ℕ) (n m : ℕ) → IsFirstBadOfPair s text n → IsFirstBadOfPair s text m → n ≡ m
+one_bad_line s text n m bad other =
+    elim (cases_order (length bad.earlier) (length other.earlier)) as (λ _. n ≡ m) [
+      | inl same ↦ bad.number ∙ ap (λ k. k + 1) same ∙ sym other.number
+      | inr differ ↦ elim differ as (λ _. n ≡ m) [
+        | inl fewer ↦ absurd (longer_not_bad s text n m bad other fewer)
+        | inr more ↦ absurd (longer_not_bad s text m n other bad more)
+      ]
+    ]
 
 -- and one log
 pub one_played_pair : (s : PairSetting) (text : List ℕ) (a b : List Entry) → IsPlayedPair s text a → IsPlayedPair s text b

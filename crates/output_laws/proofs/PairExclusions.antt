@@ -13,8 +13,9 @@ use Rattle.command_words.specs.Commands.{PairRun}
 use Rattle.outcomes.specs.Causes.{HasBigFile, IsRefusalOf}
 use Rattle.outcomes.specs.Needs.{Pair}
 use Rattle.outcomes.specs.PairFiles.{AreTaken, HasPairRun, IsPairScriptRefused}
-use Rattle.outcomes.specs.PlayedPairs.{IsFirstBadOfPair, IsPlayedPair}
-use Rattle.outcomes.specs.Programs.{Files, IsProgram, IsScript, most_script_bytes}
+use Rattle.whole_runs.specs.PlayedPairs.{IsFirstBadOfPair, IsPlayedPair}
+use Rattle.outcomes.specs.Programs.{Files, IsProgram, IsScript}
+use Rattle.call_reasons.specs.Reasons.{most_script_bytes}
 use Rattle.outcomes.specs.Told.{TellsAllowedPair, TellsBadLineOfPair, TellsBigFile, TellsFaultyProgram, TellsGood, TellsPair}
 use Rattle.output_laws.proofs.FileExclusions.{big_program, big_refused, big_script_read, faulty_fits, faulty_program, good_not_refused}
 use Rattle.output_laws.proofs.FileExclusions.{not_big, program_fits, read_as_told}

@@ -13,9 +13,10 @@ use Rattle.command_words.specs.Shown.{Shown}
 use Rattle.command_words.specs.Commands.{Command, Runs, Makes, Tries, Explores, Pairs, Source, Rule, Script, Workers, Drawn, DrawnAfter}
 use Rattle.outcomes.specs.Outputs.{IsDrawnAfter, IsLogOf, IsOutputOf, IsPlainOutputOf, IsPlainRunOf, IsPlainRunOver, plain_text}
 use Rattle.outcomes.specs.Outputs.{setting_for, shown_text, text_of}
-use Rattle.outcomes.specs.Guests.{setting_tried, trial_text, tried_text}
+use Rattle.outcomes.specs.Guests.{setting_tried}
+use Rattle.run_texts.specs.LogTexts.{trial_text, tried_text}
 use Rattle.outcomes.specs.Programs.{Files}
-use Rattle.outcomes.specs.Runs.{IsChosenRun}
+use Rattle.whole_runs.specs.Runs.{IsChosenRun}
 
 -- of a machine that says of a log what is read from it, the same is shown as of the log
 shows_alike : (shown : Shown) (s : Setting) (log : List Entry) (run : PlainRun) → run.log ≡ log

@@ -1,5 +1,5 @@
 -- The lines of a script that can be read.
-use Rattle.std.proofs.Common.{◌≡◌, List, [], ◌∷◌, ◌++◌, map, Option, Some, refl, sym, ap₂}
+use Rattle.std.proofs.Common.{◌≡◌, ◌<◌, List, [], ◌∷◌, ◌++◌, length, map, Option, Some, refl, sym, ap₂, arith}
 use Rattle.block_model.specs.Replay.{Ask}
 
 -- a script that can be read asks for one list of events
@@ -30,4 +30,18 @@ line_among (x ∷ lines) (y ∷ earlier) line later is =
     let first : x ≡ y = cc in
     let rest : map Some lines ≡ map Some earlier ++ line ∷ later = cc in
     let found = line_among lines earlier line later rest in
+    record { ask = found.ask; later = found.later; says = found.says; parts = ap₂ (λ z zs. z ∷ zs) first found.parts }
+
+-- one that stands in a script behind fewer lines than can be read is among these
+pub line_within : (lines earlier : List Ask) (line : Option Ask) (later behind : List (Option Ask))
+    → length earlier < length lines → map Some lines ++ behind ≡ map Some earlier ++ line ∷ later
+    → IsLineAmong lines earlier line
+line_within [] earlier line later behind fewer is = absurd (omega arith)
+line_within (x ∷ lines) [] line later behind fewer is =
+    let first : Some x ≡ line = cc in
+    record { ask = x; later = lines; says = sym first; parts = refl }
+line_within (x ∷ lines) (y ∷ earlier) line later behind fewer is =
+    let first : x ≡ y = cc in
+    let rest : map Some lines ++ behind ≡ map Some earlier ++ line ∷ later = cc in
+    let found = line_within lines earlier line later behind (omega (arith, fewer)) rest in
     record { ask = found.ask; later = found.later; says = found.says; parts = ap₂ (λ z zs. z ∷ zs) first found.parts }

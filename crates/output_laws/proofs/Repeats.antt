@@ -25,9 +25,12 @@ use Rattle.block_model.specs.Setting.{Setting, setting_of}
 use Rattle.block_model.proofs.Laws.{HaveBytes, all_addresses, all_harts, all_threads, answers_itself, image_bytes, within_limit}
 use Rattle.command_words.specs.Shown.{Shown, Output}
 use Rattle.command_words.specs.Commands.{Run, Source, Rule, Script, Workers, Drawn, DrawnAfter}
-use Rattle.outcomes.specs.Outputs.{IsLogOf, IsPlayOutput, IsRunOutput, log_output, setting_for, shown_text}
-use Rattle.outcomes.specs.Programs.{Files, IsProgram, IsReadAs, ask_in, ask_of, asks_of, most_script_bytes}
-use Rattle.outcomes.specs.Runs.{IsPlayedRun}
+use Rattle.outcomes.specs.Outputs.{IsLogOf, IsPlayOutput, IsRunOutput, setting_for, shown_text}
+use Rattle.run_texts.specs.LogTexts.{log_output}
+use Rattle.outcomes.specs.Programs.{Files, IsProgram, IsReadAs}
+use Rattle.whole_runs.specs.Asks.{ask_in, ask_of, asks_of}
+use Rattle.call_reasons.specs.Reasons.{most_script_bytes}
+use Rattle.whole_runs.specs.Runs.{IsPlayedRun}
 
 -- the entry of a program lies in a segment, and so is an address of 64 bits
 entry_within : (n entry : ℕ) (h : ProgramHeader) → is_misplaced n h ≡ false → has_code entry h ≡ true
@@ -55,7 +58,7 @@ entry_fits files name limits image taken =
     (entry_small taken.bytes limits.frames taken.good.no_fault)
 
 -- each entry of a block run can be printed
-printable : (es : List Entry) → All IsPrintable es → AllByRecursion IsPrintable es
+pub printable : (es : List Entry) → All IsPrintable es → AllByRecursion IsPrintable es
 printable [] fits = tt
 printable (e ∷ es) fits =
     (fits zero e (omega arith), printable es (λ k d lt. fits (suc k) d (omega (arith, lt))))
@@ -90,7 +93,7 @@ line_fits e p =
           e.tid.0 p.thread,
     )
 
-lines_fit : (log : List Entry) → AllByRecursion IsPrintable log → length (log_text log) ≤ 38 * length log
+pub lines_fit : (log : List Entry) → AllByRecursion IsPrintable log → length (log_text log) ≤ 38 * length log
 lines_fit [] fits = omega arith
 lines_fit (e ∷ es) fits =
     let first = line_fits e fits.0 in
@@ -115,7 +118,7 @@ asks_split : (lines : List (List ℕ)) → map ask_in lines ≡ map (option_map 
 asks_split [] = refl
 asks_split (l ∷ ls) = let rest = asks_split ls in cc
 
-log_asks : (log : List Entry) → AllByRecursion IsPrintable log
+pub log_asks : (log : List Entry) → AllByRecursion IsPrintable log
     → asks_of (log_text log) ≡ map Some (script_of log)
 log_asks log fits = asks_split (lines_of (log_text log))
     ∙ ap (map (option_map ask_of)) (log_meanings log fits) ∙ asks_same log
@@ -132,7 +135,7 @@ played_again s log run fits =
           log;
     }
 
-taken_again : (files later : Files) (program : List ℕ) (limits : Limits) (image : Image)
+pub taken_again : (files later : Files) (program : List ℕ) (limits : Limits) (image : Image)
     → later program ≡ files program → IsProgram files program limits image
     → IsProgram later program limits image
 taken_again files later program limits image same taken = record {

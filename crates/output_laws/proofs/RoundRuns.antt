@@ -7,8 +7,8 @@ use Rattle.block_model.specs.Deciding.{history}
 use Rattle.block_model.specs.Run.{IsBlockRun}
 use Rattle.block_model.specs.Setting.{Setting}
 use Rattle.block_model.proofs.Laws.{chosen_more, chosen_start, start_run}
-use Rattle.outcomes.specs.Rounds.{IsRoundsRun, after_round, after_rounds, after_turn, after_turns, log_by_rounds}
-use Rattle.outcomes.specs.Runs.{IsChosenRun}
+use Rattle.whole_runs.specs.Rounds.{IsRoundsRun, after_round, after_rounds, after_turn, after_turns, log_by_rounds}
+use Rattle.whole_runs.specs.Runs.{IsChosenRun}
 
 -- a log of choices that are allowed
 abbrev AreChoices : Setting → ℕ → List Entry → Type 0

@@ -1,16 +1,29 @@
 //! Laws of the outputs, each as the contract of a function that does nothing.
 
-ghost use Rattle.std.specs.Prelude.{◌≡◌, false, ℕ, List, Option};
+ghost use Rattle.std.specs.Prelude.{◌≡◌, false, ℕ, List, Option, All, IsSome};
 ghost use Rattle.mach_types.specs.{declared.events.Entry.Entry, Limits.InRange};
 ghost use Rattle.step_log.specs.Grammar.{log_text};
 ghost use Rattle.block_model.specs.Setting.{Setting};
 ghost use Rattle.log_gather.specs.Gathered.{gathered};
+ghost use Rattle.draw_policies.specs.Policies.{policy_for};
+ghost use Rattle.draw_policies.specs.declared.policies.Policies.{Policies};
+ghost use Rattle.explored_runs.specs.declared.explored.Found.{Found};
+ghost use Rattle.outcomes.specs.Explorations.{IsExploreOutput};
 ghost use Rattle.outcomes.specs.Needs.{needs_of};
+ghost use Rattle.outcomes.specs.Outcome.{Call, IsOutcome};
+ghost use Rattle.outcomes.specs.PairFiles.{IsPairOutput};
 ghost use Rattle.outcomes.specs.Outputs.{IsOutput, IsOutputOf, IsPlainOutput, IsPlayOutput, IsRunOutput};
-ghost use Rattle.outcomes.specs.{Outputs.setting_for, Programs.Files, Programs.IsReadAs, Rounds.IsRoundsRun};
-ghost use Rattle.outcomes.specs.{Runs.IsChosenRun, Told.AreTold, Told.TellsGoodFiles};
+ghost use Rattle.outcomes.specs.Outputs.{setting_for};
+ghost use Rattle.outcomes.specs.Programs.{Files, IsReadAs};
+ghost use Rattle.whole_runs.specs.Rounds.{IsRoundsRun};
+ghost use Rattle.whole_runs.specs.Runs.{IsChosenRun};
+ghost use Rattle.outcomes.specs.Told.{AreTold, TellsGoodFiles};
+ghost use Rattle.output_laws.specs.Agreement.{AreAlike, HasOneOutput, IsOneStatus, WroteOneText};
+ghost use Rattle.output_laws.specs.DrawnOutcomes.{HasOutcome, drawing};
+ghost use Rattle.output_laws.specs.PairEntries.{FitsEntry};
 ghost use Rattle.command_words.specs.Shown.{Gathered, Output};
-ghost use Rattle.command_words.specs.Commands.{Command, Run, depends_on_turns};
+ghost use Rattle.command_words.specs.declared.commands.Settings.{Settings};
+ghost use Rattle.command_words.specs.Commands.{Command, PairRun, Run, depends_on_turns};
 
 /// The log lines of the output of a run, read as a script by `play` with the same program and limits, are allowed at
 /// every line and give the same output text. The shelf of the later call has the same program, and those
@@ -31,6 +44,16 @@ pub fn gathered_log_replays()
         → (output : IsRunOutput files run written)
         → IsReadAs later script (log_text (gathered (setting_for run output.image) output.log))
         → IsPlayOutput later run.program script run.limits written }
+{}
+
+/// The log lines of an output of `pair`, read as a script by `pair` with the same programs and limits, are allowed at every line and
+/// give the same output text, where the numbers of the log fit the types that they have in the program.
+pub fn printed_pair_replays()
+    ensures { (files later : Files) (pair : PairRun) (script written : List ℕ) → InRange pair.limits
+        → later pair.first ≡ files pair.first → later pair.second ≡ files pair.second
+        → (output : IsPairOutput files pair written) → All FitsEntry output.seen.log
+        → IsReadAs later script (log_text output.seen.log)
+        → IsPairOutput later (record pair { script = script }) written }
 {}
 
 /// Where a shelf tells the files that a command needs, and it needs nothing else, there is one output, unless its log
@@ -57,4 +80,32 @@ pub fn rounds_make_one_log()
     ensures chosen { (s : Setting) (seed : ℕ) (log : List Entry) → IsRoundsRun s seed log → IsChosenRun s seed log }
     ensures one { (s : Setting) (seed : ℕ) (log other : List Entry)
         → IsRoundsRun s seed log → IsRoundsRun s seed other → log ≡ other }
+{}
+
+/// The seed of an outcome that `explore` tells, drawn by `draw` with the policy that is told with it, or with the policies of the
+/// exploration, and with all else as the exploration has it, comes to that outcome.
+pub fn explored_outcomes_are_drawn()
+    // there is such an output
+    ensures some { (files later : Files) (program written : List ℕ) (settings : Settings) (policies : Policies)
+        → later program ≡ files program → (output : IsExploreOutput files program settings written)
+        → All (λ (f : Found). policy_for policies f.seed ≡ f.policy → (text : List ℕ)
+        × IsRunOutput later (drawing program settings policies f) text × HasOutcome settings f text)
+        output.account.found }
+    // and each output is such a one, where the shelf tells the program
+    ensures each { (files later : Files) (program written : List ℕ) (settings : Settings) (policies : Policies)
+        → later program ≡ files program → IsSome (later program)
+        → (output : IsExploreOutput files program settings written)
+        → All (λ (f : Found). policy_for policies f.seed ≡ f.policy → (text : List ℕ)
+        → IsRunOutput later (drawing program settings policies f) text → HasOutcome settings f text)
+        output.account.found }
+{}
+
+/// Two calls on the same words and the same files, where these are told and no device fails: they answer one status, unless memory runs
+/// out in one of them. So it is of `rseq_main` and `rseq_quiet`, whose answers are outcomes both.
+pub fn calls_agree()
+    ensures status { (a b : Call) (status other : ℕ) → AreAlike a b → IsOutcome a status → IsOutcome b other
+        → IsOneStatus status other }
+    // and where they answer one status, they write one text, but for the output of a run by workers or of a guest
+    ensures text { (a b : Call) (status : ℕ) → AreAlike a b → IsOutcome a status → IsOutcome b status
+        → (status ≡ 0 → HasOneOutput a) → WroteOneText a b }
 {}

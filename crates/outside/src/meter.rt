@@ -1,60 +1,87 @@
-//! A line on standard error that says how far a call is.
+//! What standard error says while a call takes long.
 
+use crate::progress::Progress;
 use std::cell::Cell;
 use std::time::{Clock, Instant};
 
-/// How long the line stands at least before it is written again, in milliseconds.
+/// How long the line of progress stands at least before it is written again, in milliseconds.
 const STANDS: u128 = 100;
 
-/// What is written over the line, as long as the longest one.
-const CLEARED: &str = "\r                                        \r";
+/// From when on a call takes long, in milliseconds.
+const LONG: u128 = 1_000;
 
-/// A line on standard error, for a person at a terminal, that says how many runs of an exploration are made.
+/// What is written over the line, as long as the longest one.
+const CLEARED: &str = "\r                                                    \r";
+
+/// What standard error says of an exploration for a person who waits for it.
 ///
-/// It is written ten times a second at most, and for the first time a tenth of a second after it was first
-/// asked for. Where it can't be written, nobody is told.
+/// At a terminal that is a line that says how many runs are made, and how many outcomes they came to. It is written ten times a second
+/// at most, and for the first time a tenth of a second after it was first asked for. Terminal or not, other lines may be said. Where
+/// nothing can be written, nobody is told.
 #[derive(Drop)]
 pub struct Meter<R: Eprint + Clock> {
     rt: R,
-    /// Whether somebody looks: else nothing is ever written.
+    /// Whether standard error is a terminal: else the line of progress is never written.
     is_watched: bool,
-    /// When the line was written last, or first asked for.
+    /// When it was first asked for.
+    first: Cell<Option<Instant>>,
+    /// When it was written last, or first asked for.
     last: Cell<Option<Instant>>,
-    /// Whether the line stands there.
+    /// Whether it stands there.
     is_shown: Cell<bool>,
 }
 
 impl<R: Eprint + Clock> Meter<R> {
-    /// A meter that isn't shown yet. Whether it ever is says `is_watched`: whether standard error is a terminal.
+    /// A meter that has said nothing yet. Whether it ever shows progress says `is_watched`: whether standard error is a terminal.
     pub fn new(rt: R, is_watched: bool) -> Meter<R> {
         Meter {
             rt,
             is_watched,
+            first: Cell::new(None),
             last: Cell::new(None),
             is_shown: Cell::new(false),
         }
     }
 
-    /// Says how many runs are made of how many, where it is time.
-    pub fn show(&self, made: u64, all: u64) {
-        if self.is_watched && self.is_due() {
-            let _ = eprint!(self.rt; "\rrseq_run: {made} of {all} runs");
-            self.is_shown.set(true);
+    /// Shows how far a call is, where it is time, and answers whether it takes long. Where the clock can't be read, it is never time,
+    /// and nothing takes long.
+    pub fn show(&self, progress: &Progress) -> bool {
+        let Ok(now) = Instant::now(&self.rt) else {
+            return false;
+        };
+        if self.is_watched && self.is_due(now) {
+            self.write(progress);
         }
+        self.takes_long(now)
     }
 
-    /// Takes the line away, where it stands.
+    /// Writes a line that stays, in place of the line of progress, which comes below it when it is time again.
+    pub fn say(&self, line: &str) {
+        self.clear();
+        let _ = self.rt.eprint(line);
+    }
+
+    /// Takes the line of progress away, where it stands.
     pub fn clear(&self) {
         if self.is_shown.replace(false) {
             let _ = self.rt.eprint(CLEARED);
         }
     }
 
-    /// Whether it is time to write the line. Where the clock can't be read, it never is.
-    fn is_due(&self) -> bool {
-        let Ok(now) = Instant::now(&self.rt) else {
-            return false;
-        };
+    /// Writes the line of progress.
+    fn write(&self, progress: &Progress) {
+        let Progress {
+            made,
+            all,
+            outcomes,
+        } = *progress;
+        let plural = if outcomes == 1 { "" } else { "s" };
+        let _ = eprint!(self.rt; "\rrseq_run: {made} of {all} runs, {outcomes} outcome{plural}");
+        self.is_shown.set(true);
+    }
+
+    /// Whether it is time to write the line.
+    fn is_due(&self, now: Instant) -> bool {
         let last = self.last.get();
         if let Some(last) = last
             && now.duration_since(last).as_millis() < STANDS
@@ -63,5 +90,16 @@ impl<R: Eprint + Clock> Meter<R> {
         }
         self.last.set(Some(now));
         last.is_some()
+    }
+
+    /// Whether the call takes long by now.
+    fn takes_long(&self, now: Instant) -> bool {
+        match self.first.get() {
+            Some(first) => now.duration_since(first).as_millis() >= LONG,
+            None => {
+                self.first.set(Some(now));
+                false
+            }
+        }
     }
 }

@@ -1,12 +1,13 @@
-//! A sink that shows how far a call is.
+//! A sink that shows how far a call is, and says what it found.
 
 use crate::faults::Failed;
 use crate::meter::Meter;
+use crate::progress::Progress;
 use crate::traits::Sink;
 use std::io::ErrorKind;
 use std::time::Clock;
 
-/// A sink with a meter, which shows the runs that are made until the first bytes are put.
+/// A sink with a meter, which shows the runs that are made until the first bytes are put, and says what they came to.
 #[derive(Drop)]
 pub struct MeteredSink<K: Sink, R: Eprint + Clock> {
     sink: K,
@@ -36,7 +37,11 @@ impl<K: Sink, R: Eprint + Clock> Sink for MeteredSink<K, R> {
         self.sink.trouble()
     }
 
-    fn show_progress(&self, made: u64, all: u64) {
-        self.meter.show(made, all);
+    fn show_progress(&self, progress: &Progress) -> bool {
+        self.meter.show(progress)
+    }
+
+    fn say(&self, line: &str) {
+        self.meter.say(line);
     }
 }

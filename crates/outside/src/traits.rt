@@ -6,6 +6,7 @@ ghost use Rattle.outside.specs.Told.{Gained, Moved};
 ghost use Rattle.std.specs.declared.io.ErrorKind.{ErrorKind};
 
 use crate::faults::{Failed, StartFault};
+use crate::progress::Progress;
 use mach_types::Hart;
 use std::io::ErrorKind;
 
@@ -93,11 +94,17 @@ pub trait Sink {
     fn trouble(&self) -> Option<ErrorKind>
         ensures { result ≡ last_trouble self.now };
 
-    /// Hears that so many runs are made, of as many as there will be at most, before a text of them is written.
+    /// Hears how far an exploration is, before its text is written, and answers whether it takes so long that what it found so far is
+    /// to be said.
     ///
-    /// It has no meaning: nothing is appended, and no fault comes of it. A device may show it to a person, and by
-    /// default nothing is done. (own)
-    fn show_progress(&self, _made: u64, _all: u64) {}
+    /// It has no meaning: nothing is appended, and no fault comes of it. A device may show it to a person. By default nothing is done,
+    /// and nothing takes long. (own)
+    fn show_progress(&self, _progress: &Progress) -> bool {
+        false
+    }
+
+    /// Hears a line for a person, with its newline. It has no meaning either, and by default nothing is done. (own)
+    fn say(&self, _line: &str) {}
 }
 
 /// What a worker passes once before each turn that it asks for, outside the turn.

@@ -4,7 +4,7 @@ ghost use Rattle.std.specs.Prelude.{◌≡◌, ◌<◌, ◌≤◌, ◌↔◌, []
 ghost use Rattle.outside.specs.Counts.{NoneFalls, Rose, StartedRose};
 ghost use Rattle.outside.specs.Told.{Moved};
 
-use outcomes::FileRole;
+use call_reasons::FileRole;
 use outside::{Failed, Shelf, StartFault, fetch};
 use std::alloc::Global;
 use std::io::ErrorKind;

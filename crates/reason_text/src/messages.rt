@@ -1,13 +1,15 @@
-//! The text of a reason, for a person: one line or two, and the usage behind them where the words are wrong.
+//! The text of a reason, for a person: one line or two. The usage follows where there is no word, or help is asked for.
 
 mod lines;
+mod nearest;
 mod programs;
 mod shown;
 mod words;
 
+use call_reasons::{FileRole, Reason};
 use command_words::{Command, PairRun, Source, WordsError, read_words};
 use lines::push_line_fault;
-use outcomes::{FileRole, Reason};
+pub(crate) use nearest::Nearest;
 use programs::push_elf_fault;
 use shown::Shown;
 use std::alloc::{AllocError, Global};

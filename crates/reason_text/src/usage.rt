@@ -1,5 +1,6 @@
 //! The usage of all commands, and help. Both go over the table of commands, and name none.
 
+use crate::messages::Nearest;
 use command_words::{COMMANDS, CommandKind, ShownKind, SourceKind, command_kind};
 use std::alloc::{AllocError, Global};
 use std::fmt::Write;
@@ -60,6 +61,23 @@ fn words_of_shown(kind: CommandKind) -> &'static str {
             ..
         } => " [--from N] [--to N]",
         _ => "",
+    }
+}
+
+/// Looks whether an option that a command takes might have been meant.
+pub(crate) fn look_at_options(nearest: &mut Nearest, command: &str) {
+    if let Some(kind) = command_kind(command) {
+        look_at_words(nearest, words_behind(kind));
+        look_at_words(nearest, words_of_shown(kind));
+    }
+}
+
+/// The same of the options among the words of a line of usage, each of which stands in brackets.
+fn look_at_words(nearest: &mut Nearest, words: &'static str) {
+    for word in words.split(' ') {
+        if let Some(option) = word.strip_prefix('[') {
+            nearest.look_at(option);
+        }
     }
 }
 

@@ -4,7 +4,7 @@
 //! programs together by a script, and prints both consoles, the log, and how each process and the pair ended.
 #![tactic(auto)]
 
-use outcomes::{Explained, Fault, Reason};
+use call_reasons::{Explained, Fault, Reason};
 use outside::{FileShelf, Meter, MeteredSink, OpenGate, OutSink};
 use reason_text::{AtHand, Keep, Keeping, KeepingShelf, OUT_OF_MEMORY, brief, explain, usage_text};
 use std::alloc::Global;

@@ -9,18 +9,22 @@ use Rattle.elf_load.specs.declared.image.Image.{Image}
 use Rattle.elf_load.specs.Faults.{first_fault}
 use Rattle.outside.specs.Counts.{NeverFalls, NoneFalls, Rose}
 use Rattle.block_model.specs.Setting.{setting_of}
-use Rattle.outcomes.specs.declared.reasons.FileRole.{FileRole}
-use Rattle.outcomes.specs.declared.reasons.FileRole.TheVariants as role
-use Rattle.outcomes.specs.declared.reasons.Reason.{Reason}
-use Rattle.outcomes.specs.declared.reasons.Reason.TheVariants.{Words, Unread, NoMemory, TooBig, Elf, Script, Guest, Unwritten}
+use Rattle.call_reasons.specs.declared.reasons.FileRole.{FileRole}
+use Rattle.call_reasons.specs.declared.reasons.FileRole.TheVariants as role
+use Rattle.call_reasons.specs.declared.reasons.Reason.{Reason}
+use Rattle.call_reasons.specs.declared.reasons.Reason.TheVariants.{Words, Unread, NoMemory, TooBig, Elf, Script, Guest, Unwritten}
 use Rattle.outcomes.specs.Causes.{HasBigFile, IsCause, IsRefusalOf, IsScriptRefusalOf, ReadFailed}
-use Rattle.outcomes.specs.Delivery.{IsFileReason, IsLoadReason, IsPlayReason, IsTakeReason}
+use Rattle.outcomes.specs.Delivery.{IsFileReason, IsLoadReason, IsTakeReason}
+use Rattle.whole_runs.specs.PlayReasons.{IsPlayReason}
 use Rattle.outcomes.specs.ElfPlaces.{place_of}
 use Rattle.outcomes.specs.Needs as need
-use Rattle.outcomes.specs.Programs.{Files, IsProgram, IsReadAs, IsScript, IsTooBig, most_program_bytes}
-use Rattle.outcomes.specs.Programs.{most_script_bytes}
-use Rattle.outcomes.specs.Reasons.{IsBadLine, IsBig, IsReasonFor, IsReasonOf, IsRefusalAbout}
-use Rattle.outcomes.specs.Reasons.{IsScriptRefusalFor, IsUnread, fault_told, most_bytes}
+use Rattle.outcomes.specs.Programs.{Files, IsProgram, IsReadAs, IsScript, IsTooBig}
+use Rattle.call_reasons.specs.Reasons.{most_program_bytes}
+use Rattle.call_reasons.specs.Reasons.{most_script_bytes}
+use Rattle.whole_runs.specs.BadLines.{IsBadLine}
+use Rattle.outcomes.specs.Reasons.{IsBig, IsReasonFor, IsReasonOf, IsRefusalAbout}
+use Rattle.outcomes.specs.Reasons.{IsScriptRefusalFor, IsUnread}
+use Rattle.call_reasons.specs.Reasons.{fault_told, most_bytes}
 
 -- a count that rose after it didn't fall rose
 pub rose_later : (old mid new : ℕ) → NeverFalls old mid → NeverFalls mid new → Rose mid new → Rose old new

@@ -1,11 +1,11 @@
 -- The outcome of a call and the reason that goes with it, from what was answered and how it was delivered.
 use Rattle.std.proofs.Common.{◌≡◌, ◌∙◌, ℕ, inl, inr, List, Option, None, refl, sym, ap, subst, Some, Result, Ok, Err}
 use Rattle.std.specs.declared.io.ErrorKind.{ErrorKind}
-use Rattle.outcomes.specs.declared.faults.Fault.{Fault}
-use Rattle.outcomes.specs.declared.faults.Fault.TheVariants as told
-use Rattle.outcomes.specs.declared.reasons.Explained.{Explained}
-use Rattle.outcomes.specs.declared.reasons.Reason.{Reason}
-use Rattle.outcomes.specs.declared.reasons.Reason.TheVariants.{Words, Unread, NoMemory, TooBig, Elf, Script, Guest, Unwritten}
+use Rattle.call_reasons.specs.declared.faults.Fault.{Fault}
+use Rattle.call_reasons.specs.declared.faults.Fault.TheVariants as told
+use Rattle.call_reasons.specs.declared.reasons.Explained.{Explained}
+use Rattle.call_reasons.specs.declared.reasons.Reason.{Reason}
+use Rattle.call_reasons.specs.declared.reasons.Reason.TheVariants.{Words, Unread, NoMemory, TooBig, Elf, Script, Guest, Unwritten}
 use Rattle.std.specs.Option.{is_some}
 use Rattle.std.specs.Prelude.{IfErr, IfOk, IfSome, IsSome}
 use Rattle.command_words.specs.Commands.{Command}
@@ -17,8 +17,9 @@ use Rattle.outcomes.specs.Outcome.{Call, IsOutcome, WrotePrefix, WroteText}
 use Rattle.outcomes.specs.Needs.{needs_of}
 use Rattle.outcomes.specs.Outputs.{IsOutput, IsOutputOf}
 use Rattle.outcomes.specs.Programs.{Files}
-use Rattle.outcomes.specs.Text.{fault_line}
-use Rattle.outcomes.specs.Reasons.{IsExplained, IsReason, IsReasonFor, IsReasonOf, IsUntold, Troubles, WroteLine, fault_told, reason_status}
+use Rattle.call_reasons.specs.FaultLines.{fault_line}
+use Rattle.outcomes.specs.Reasons.{IsExplained, IsReason, IsReasonFor, IsReasonOf, IsUntold, Troubles, WroteLine}
+use Rattle.call_reasons.specs.Reasons.{fault_told, reason_status}
 use Rattle.top_call.proofs.Causes.{cause_of, is_told}
 use Rattle.top_call.proofs.Outcomes.{IsKept, told_outcome}
 

@@ -2,8 +2,8 @@
 use Rattle.std.proofs.Common.{◌≡◌, ℕ, ◌⊎◌, inl, inr, List, refl, sym, ap, ◌∙◌, subst}
 use Rattle.std.proofs.Common.{None, Result, Ok, Err}
 use Rattle.outside.specs.Counts.{NeverFalls, NoneFalls}
-use Rattle.outcomes.specs.declared.faults.Fault.{Fault}
-use Rattle.outcomes.specs.declared.faults.Fault.TheVariants.{Usage, Read, Memory, Big, Elf, Script, Guest}
+use Rattle.call_reasons.specs.declared.faults.Fault.{Fault}
+use Rattle.call_reasons.specs.declared.faults.Fault.TheVariants.{Usage, Read, Memory, Big, Elf, Script, Guest}
 use Rattle.outcomes.specs.Answers.{IsAnswer, IsTold}
 use Rattle.outcomes.specs.Causes.{HasBigFile, IsCause, IsCauseOf}
 use Rattle.outcomes.specs.Delivery.{IsCutShort, IsDelivered, IsWritten}
@@ -12,8 +12,8 @@ use Rattle.outcomes.specs.Outcome.{Call, CouldNotRead, IsDue, IsElfLine, IsGuest
 use Rattle.outcomes.specs.Outcome.{Wrote, WroteText}
 use Rattle.outcomes.specs.Outputs.{IsOutput, IsOutputOf}
 use Rattle.outcomes.specs.Programs.{Files}
-use Rattle.outcomes.specs.Statuses.{fault_status}
-use Rattle.outcomes.specs.Text.{fault_line}
+use Rattle.call_reasons.specs.Statuses.{fault_status}
+use Rattle.call_reasons.specs.FaultLines.{fault_line}
 use Rattle.command_words.specs.Words.{command_of}
 use Rattle.output_laws.proofs.Laws.{fault_when_good, left_by_bad_line, left_by_big, left_by_faulty, left_by_outside, status_left}
 use Rattle.output_laws.proofs.Laws.{unused_when_bad_line, unused_when_big}

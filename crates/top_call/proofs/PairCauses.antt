@@ -7,16 +7,19 @@ use Rattle.outside.specs.Counts.{NoneFalls}
 use Rattle.shared_procs.specs.Pairs.{PairSetting, pair_setting_of}
 use Rattle.shared_procs.specs.PairRuns.{IsPairRun, PairSeen}
 use Rattle.command_words.specs.Commands.{PairRun}
-use Rattle.outcomes.specs.declared.reasons.FileRole.TheVariants as role
-use Rattle.outcomes.specs.declared.reasons.Reason.{Reason}
-use Rattle.outcomes.specs.declared.reasons.Reason.TheVariants.{Words, Unread, NoMemory, TooBig, Elf, Script, Guest, Unwritten}
-use Rattle.outcomes.specs.Delivery.{IsFileReason, IsPairPlayReason, IsTakeReason}
+use Rattle.call_reasons.specs.declared.reasons.FileRole.TheVariants as role
+use Rattle.call_reasons.specs.declared.reasons.Reason.{Reason}
+use Rattle.call_reasons.specs.declared.reasons.Reason.TheVariants.{Words, Unread, NoMemory, TooBig, Elf, Script, Guest, Unwritten}
+use Rattle.outcomes.specs.Delivery.{IsFileReason, IsTakeReason}
+use Rattle.whole_runs.specs.PlayReasons.{IsPairPlayReason}
 use Rattle.outcomes.specs.Needs.{Pair}
 use Rattle.outcomes.specs.PairFiles.{AreTaken, HasPairRun, IsPairOutput}
-use Rattle.outcomes.specs.PairText.{pair_output}
-use Rattle.outcomes.specs.PlayedPairs.{IsPlayedPair, IsWholePair}
-use Rattle.outcomes.specs.Programs.{Files, IsProgram, IsScript, IsTooBig, most_program_bytes, most_script_bytes}
-use Rattle.outcomes.specs.Reasons.{IsBadLineOfPair, IsReasonFor, IsRefusedAbout}
+use Rattle.run_texts.specs.PairText.{pair_output}
+use Rattle.whole_runs.specs.PlayedPairs.{IsPlayedPair, IsWholePair}
+use Rattle.outcomes.specs.Programs.{Files, IsProgram, IsScript, IsTooBig}
+use Rattle.call_reasons.specs.Reasons.{most_program_bytes, most_script_bytes}
+use Rattle.whole_runs.specs.BadLines.{IsBadLineOfPair}
+use Rattle.outcomes.specs.Reasons.{IsReasonFor, IsRefusedAbout}
 use Rattle.top_call.proofs.Causes.{rose_later}
 
 -- the first program isn't taken

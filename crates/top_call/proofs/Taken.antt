@@ -4,7 +4,8 @@ use Rattle.mach_types.specs.declared.limits.Limits.{Limits}
 use Rattle.elf_load.specs.declared.image.Image.{Image}
 use Rattle.elf_load.specs.Faults.{first_fault}
 use Rattle.elf_load.specs.Images.{IsImage}
-use Rattle.outcomes.specs.Programs.{Files, IsProgram, IsReadAs, most_program_bytes}
+use Rattle.outcomes.specs.Programs.{Files, IsProgram, IsReadAs}
+use Rattle.call_reasons.specs.Reasons.{most_program_bytes}
 
 pub program_of : (files : Files) (name : List ℕ) (limits : Limits) (bytes given : List ℕ) (image : Image)
     → given ≡ bytes → IsReadAs files name bytes → All (λ b. b < 256) bytes

@@ -11,8 +11,9 @@ use Rattle.block_model.specs.Setting.{Seen, Setting, setting_of}
 use Rattle.command_words.specs.declared.commands.Guest.{Guest}
 use Rattle.command_words.specs.declared.commands.Trial.{Trial}
 use Rattle.command_words.specs.Commands.{trial_limits}
-use Rattle.outcomes.specs.Guests.{IsGuestImage, IsGuestOutput, IsTrialOutput, tried_text}
-use Rattle.outcomes.specs.Rounds.{IsRoundsRun, IsWholeRounds}
+use Rattle.outcomes.specs.Guests.{IsGuestImage, IsGuestOutput, IsTrialOutput}
+use Rattle.run_texts.specs.LogTexts.{tried_text}
+use Rattle.whole_runs.specs.Rounds.{IsRoundsRun, IsWholeRounds}
 
 -- the image of a guest's file
 pub image_of_guest : (guest : Guest) (limits : Limits) (bytes given : List ℕ) (image : Image) → given ≡ bytes

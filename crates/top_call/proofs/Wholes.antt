@@ -1,5 +1,5 @@
 -- From a whole run to the text of a command.
-use Rattle.std.proofs.Common.{◌≡◌, ◌≤◌, ◌++◌, ℕ, List, length, take, drop, subst, sym, ap, ◌∙◌, arith}
+use Rattle.std.proofs.Common.{◌≡◌, ◌≤◌, ◌++◌, ℕ, List, true, length, take, drop, subst, sym, ap, ◌∙◌, arith}
 use Rattle.std.proofs.lemmas.List.{take-append-drop}
 use Rattle.mach_types.specs.declared.events.Entry.{Entry}
 use Rattle.mach_types.specs.declared.limits.Limits.{Limits}
@@ -12,10 +12,11 @@ use Rattle.drawn_runs.specs.Manners.{manner_behind, manner_for}
 use Rattle.drawn_runs.specs.WholeRuns.{IsDrawnRun, IsWholeDrawn}
 use Rattle.drawn_runs.specs.declared.manner.Manner.{Manner}
 use Rattle.command_words.specs.declared.commands.Draws.{Draws}
-use Rattle.command_words.specs.Commands.{Run, Source, Rule, Script, Workers, Drawn, DrawnAfter}
+use Rattle.command_words.specs.Commands.{IsShownAtEnd, IsShownOf, Run, Source, Rule, Script, Workers, Drawn, DrawnAfter, is_by_workers}
+use Rattle.command_words.specs.Shown.{Shown, Output, Summary, Place, Acts, Gathered, Trace}
 use Rattle.outcomes.specs.Outputs.{HasRun, IsRunOutput, shown_text}
 use Rattle.outcomes.specs.Programs.{Files, IsProgram, IsScript}
-use Rattle.outcomes.specs.Runs.{IsPlayedRun, IsWholePlay, IsWholeRun, IsWholeSolo}
+use Rattle.whole_runs.specs.Runs.{IsPlayedRun, IsWholePlay, IsWholeRun, IsWholeSolo}
 use Rattle.output_laws.proofs.Laws.{block_run_of}
 
 pub run_by_rule : (files : Files) (program : List ℕ) (limits : Limits) (image : Image) (m : Seen)
@@ -110,3 +111,20 @@ output_of_run files asked image m text run is = record {
   made = run.made;
   text = subst (λ (s : Setting). text ≡ shown_text asked.shown s m.log) run.setting is;
 }
+
+-- of a run by workers only such is shown as is shown at the end
+pub shown_by_workers : (source : Source) (shown : Shown) → is_by_workers source ≡ true → IsShownOf source shown → IsShownAtEnd shown
+shown_by_workers source Output by is = tt
+shown_by_workers source (Place memory) by is = tt
+shown_by_workers source Acts by is = tt
+shown_by_workers source Gathered by is = tt
+shown_by_workers Rule Summary by is = absurd is
+shown_by_workers (Script name) Summary by is = absurd cc
+shown_by_workers (Workers seed) Summary by is = absurd is
+shown_by_workers (Drawn seed draws) Summary by is = absurd is
+shown_by_workers (DrawnAfter name seed draws) Summary by is = absurd is
+shown_by_workers Rule (Trace span) by is = absurd is
+shown_by_workers (Script name) (Trace span) by is = absurd cc
+shown_by_workers (Workers seed) (Trace span) by is = absurd is
+shown_by_workers (Drawn seed draws) (Trace span) by is = absurd is
+shown_by_workers (DrawnAfter name seed draws) (Trace span) by is = absurd is

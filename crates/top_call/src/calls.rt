@@ -2,21 +2,21 @@
 
 ghost use Rattle.std.specs.Prelude.{◌≡◌, true, None, Some, Err, IfErr, IfNone, IfOk, IfSome};
 ghost use Rattle.outside.specs.Counts.{NoneFalls};
-ghost use Rattle.command_words.specs.Commands.{HasLimits, is_alone, is_run, needs_workers};
+ghost use Rattle.command_words.specs.Commands.{HasItsShown, HasLimits, is_alone, is_run, needs_workers};
 ghost use Rattle.command_words.specs.Kept.{said};
 ghost use Rattle.command_words.specs.Words.{command_of, texts};
-ghost use Rattle.outcomes.specs.declared.faults.Fault.TheVariants.{Memory};
-ghost use Rattle.outcomes.specs.declared.reasons.Reason.TheVariants.{NoMemory};
+ghost use Rattle.call_reasons.specs.declared.faults.Fault.TheVariants.{Memory};
+ghost use Rattle.call_reasons.specs.declared.reasons.Reason.TheVariants.{NoMemory};
 ghost use Rattle.outcomes.specs.Answers.{IsAnswerFor, IsTold};
 ghost use Rattle.outcomes.specs.Outcome.{IsOutcome, call_between};
 ghost use Rattle.outcomes.specs.Reasons.{IsExplained};
 
 use crate::delivery::tell;
 use crate::texts::{quiet_text, workers_text};
-use command_runs::Output;
+use call_reasons::{Explained, Reason};
 use command_words::{Command, Source, WordsError, read_words};
-use outcomes::{Explained, Reason};
 use outside::{Gate, Shelf, Sink};
+use run_texts::Output;
 use std::alloc::Global;
 use std::sync::Wait;
 use std::thread::Threads;
@@ -31,8 +31,8 @@ use std::thread::Threads;
 /// passed once before each turn of a worker.
 ///
 /// What [`rseq_quiet`] does is tried first, and what comes of it is the answer unless the command is left to workers. No clause
-/// says so: where the words aren't left to it both have the same clause `outcome`, and memory may run out in the one call
-/// and not in the other.
+/// says so. Both have the same clause `outcome`, and two such calls answer alike, unless memory runs out in one of them
+/// (`calls_agree` of `output_laws`).
 pub fn rseq_explained<R: Threads + Wait + Sync, S: Shelf, K: Sink, G: Gate + Sync>(
     alloc: Global,
     rt: &R,
@@ -92,6 +92,7 @@ fn quiet_explained<'a, S: Shelf, K: Sink>(
     ensures left { IfErr result (λ command. command_of (texts words.now) ≡ Some (said command)) }
     ensures workers { IfErr result (λ command. needs_workers (said command) ≡ true) }
     ensures limits { IfErr result (λ command. HasLimits (said command)) }
+    ensures shown { IfErr result (λ command. HasItsShown (said command)) }
     ensures run { is_run (command_of (texts words.now)) ≡ true → IfOk result (λ explained.
         IsTold (K.held sink.old) (K.held sink.new) (K.faults sink.old) (K.faults sink.new) (Err Memory)
         explained.status) }
@@ -119,6 +120,7 @@ fn quiet_answer<'a, S: Shelf, K: Sink>(
     ensures left { IfErr result (λ command. command_of (texts words.now) ≡ Some (said command)) }
     ensures workers { IfErr result (λ command. needs_workers (said command) ≡ true) }
     ensures limits { IfErr result (λ command. HasLimits (said command)) }
+    ensures shown { IfErr result (λ command. HasItsShown (said command)) }
     ensures run { is_run (command_of (texts words.now)) ≡ true
         → IfOk result (λ answer. answer ≡ Err NoMemory) }
     ensures unread { is_run (command_of (texts words.now)) ≡ true → shelf.new ≡ shelf.old }

@@ -4,12 +4,12 @@ ghost use Rattle.std.specs.Prelude.{◌≡◌, IfErr, IsSome, None, Some};
 ghost use Rattle.outside.specs.Counts.{NeverFalls};
 ghost use Rattle.outcomes.specs.Answers.{IsToldFor};
 ghost use Rattle.outcomes.specs.Delivery.{IsAsDue, IsDelivered, due_for};
-ghost use Rattle.outcomes.specs.Reasons.{fault_told, reason_status};
-ghost use Rattle.outcomes.specs.declared.reasons.Reason.TheVariants.{Unwritten};
+ghost use Rattle.call_reasons.specs.Reasons.{fault_told, reason_status};
+ghost use Rattle.call_reasons.specs.declared.reasons.Reason.TheVariants.{Unwritten};
 
-use command_runs::Output;
-use outcomes::{Explained, Reason};
+use call_reasons::{Explained, Reason};
 use outside::{Sink, emit};
+use run_texts::Output;
 
 /// The exit status of a call that wrote its output.
 const DONE: u8 = 0;

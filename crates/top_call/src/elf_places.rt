@@ -7,9 +7,9 @@ ghost use Rattle.elf_load.specs.Faults.{first_fault};
 ghost use Rattle.outcomes.specs.ElfPlaces.{place_of, segment_at, span_of};
 
 use byte_views::read_word;
+use call_reasons::{ElfPlace, Span};
 use elf_load::ElfFault;
 use mach_types::Limits;
-use outcomes::{ElfPlace, Span};
 
 /// The size of a program header.
 const ENTRY_SIZE: usize = 56;

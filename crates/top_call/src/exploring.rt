@@ -8,11 +8,11 @@ ghost use Rattle.outcomes.specs.Needs.{Program};
 ghost use Rattle.outcomes.specs.Reasons.{IsReasonFor};
 
 use crate::fetching::taken;
-use command_runs::Output;
+use call_reasons::Reason;
 use command_words::{Apart as Asked, Explore, Settings};
 use explored_runs::{Apart, Exploration, explore, explore_on, explored_text};
-use outcomes::Reason;
 use outside::{Shelf, Sink};
+use run_texts::Output;
 use std::alloc::Global;
 use std::thread::{Threads, available_parallelism};
 

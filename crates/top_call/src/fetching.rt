@@ -7,13 +7,15 @@ ghost use Rattle.outside.specs.Counts.{NoneFalls};
 ghost use Rattle.command_words.specs.Commands.{Script};
 ghost use Rattle.outcomes.specs.Delivery.{IsFileReason, IsLoadReason, IsTakeReason};
 ghost use Rattle.outcomes.specs.Needs.{Program as NeedsProgram, needs_by};
-ghost use Rattle.outcomes.specs.Programs.{IsProgram, IsReadAs, IsScript, most_program_bytes};
-ghost use Rattle.outcomes.specs.Reasons.{IsReasonFor, most_bytes};
+ghost use Rattle.outcomes.specs.Programs.{IsProgram, IsReadAs, IsScript};
+ghost use Rattle.call_reasons.specs.Reasons.{most_program_bytes};
+ghost use Rattle.outcomes.specs.Reasons.{IsReasonFor};
+ghost use Rattle.call_reasons.specs.Reasons.{most_bytes};
 
 use crate::elf_places::place_of;
+use call_reasons::{FileRole, Reason};
 use elf_load::{ElfFault, Image, load};
 use mach_types::Limits;
-use outcomes::{FileRole, Reason};
 use outside::{FetchError, Shelf, fetch};
 use std::alloc::Global;
 

@@ -7,6 +7,7 @@ mod elf_places;
 mod exploring;
 mod fetching;
 mod pairing;
+mod shown;
 mod texts;
 
 pub use calls::{rseq_explained, rseq_quiet};

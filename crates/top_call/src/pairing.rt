@@ -9,10 +9,11 @@ ghost use Rattle.outcomes.specs.PairFiles.{HasPairRun, IsPairOutput};
 ghost use Rattle.outcomes.specs.Reasons.{IsReasonFor};
 
 use crate::fetching::{read_file, taken_as};
-use command_runs::{Output, pair_output, play_pair};
+use call_reasons::{FileRole, Reason};
 use command_words::PairRun;
-use outcomes::{FileRole, Reason};
 use outside::Shelf;
+use pair_runs::{pair_output, play_pair};
+use run_texts::Output;
 use shared_procs::Pair;
 use std::alloc::Global;
 

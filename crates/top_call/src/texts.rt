@@ -2,15 +2,15 @@
 //! or made and tried; its runs are explored; or two programs are
 //! run together.
 
-ghost use Rattle.std.specs.Prelude.{◌≡◌, IfErr, IfOk, IfSome, Some, false, true};
+ghost use Rattle.std.specs.Prelude.{◌≡◌, IfErr, IfOk, Some, false, true};
 ghost use Rattle.mach_types.specs.Limits.{InRange};
 ghost use Rattle.elf_load.specs.Images.{IsBootable};
 ghost use Rattle.outside.specs.Counts.{NoneFalls};
-ghost use Rattle.command_words.specs.Commands.{Drawn, DrawnAfter, HasHartsOf, HasItsHarts, HasLimits, Rule, Script};
-ghost use Rattle.command_words.specs.Commands.{Workers, is_by_workers, needs_workers, trial_limits};
+ghost use Rattle.command_words.specs.Commands.{Drawn, DrawnAfter, HasHartsOf, HasItsHarts, HasItsShown, HasLimits};
+ghost use Rattle.command_words.specs.Commands.{IsShownAtEnd, IsShownOf, Rule, Script, Workers, is_by_workers, needs_workers, trial_limits};
 ghost use Rattle.command_words.specs.Kept.{run_said, said, shown_said, source_said};
 ghost use Rattle.command_words.specs.Shown.{Summary, Trace};
-ghost use Rattle.outcomes.specs.declared.reasons.Reason.TheVariants.{NoMemory};
+ghost use Rattle.call_reasons.specs.declared.reasons.Reason.TheVariants.{NoMemory};
 ghost use Rattle.outcomes.specs.Delivery.{IsGuestReason};
 ghost use Rattle.outcomes.specs.Needs.{needs_by, needs_of};
 ghost use Rattle.outcomes.specs.Guests.{IsGuestImage, IsGuestOutput, IsTrialOutput};
@@ -20,10 +20,8 @@ ghost use Rattle.outcomes.specs.Reasons.{IsReasonFor};
 use crate::exploring::{explored_alone, explored_together};
 use crate::fetching::{ScriptFiles, read_file, scripted, taken};
 use crate::pairing::pair_text;
-use command_runs::{
-    Output, TracedRun, counted_summary, play, play_counted, play_traced, run_rounds, run_solo,
-    run_workers, shown_text, trial_text,
-};
+use crate::shown::shown_text;
+use call_reasons::{FileRole, Reason};
 use command_words::{Command, Draws, Guest, LineSpan, Run, Shown, Source, Trial};
 use drawn_machine::{draw_on, run_drawn};
 use drawn_runs::Manner;
@@ -31,11 +29,15 @@ use elf_load::{ElfFault, Image, load};
 use guest_programs::{GuestFault, make};
 use mach_types::Limits;
 use machine_core::Machine;
-use outcomes::{FileRole, Reason};
 use outside::{Gate, Shelf, Sink};
+use rule_runs::{run_rounds, run_solo, run_workers};
+use run_texts::Output;
+use script_runs::{play, play_counted};
+use shown_runs::{summary_output, trial_text};
 use std::alloc::Global;
 use std::sync::Wait;
 use std::thread::Threads;
+use traced_runs::{TracedRun, play_traced};
 
 /// A run of a program.
 #[derive(Drop)]
@@ -55,6 +57,7 @@ pub(crate) fn quiet_text<S: Shelf, K: Sink>(
 ) -> Result<Output, Reason>
     requires limits { HasLimits (said command.now) }
     requires harts { HasItsHarts (said command.now) }
+    requires shown { HasItsShown (said command.now) }
     requires quiet { needs_workers (said command.now) ≡ false }
     ensures output { IfOk result (λ text. IsOutputOf (S.file shelf.old) (Some (said command.now)) text) }
     ensures cause { let needs = needs_of (Some (said command.now)) in
@@ -82,6 +85,7 @@ pub(crate) fn workers_text<R: Threads + Wait + Sync, S: Shelf, K: Sink, G: Gate 
     gate: &G,
 ) -> Result<Output, Reason>
     requires limits { HasLimits (said command.now) }
+    requires shown { HasItsShown (said command.now) }
     requires workers { needs_workers (said command.now) ≡ true }
     ensures output { IfOk result (λ text. IsOutputOf (S.file shelf.old) (Some (said command.now)) text) }
     ensures cause { let needs = needs_of (Some (said command.now)) in
@@ -155,6 +159,7 @@ fn tried(alloc: Global, trial: &Trial) -> Result<Output, Reason>
 fn quiet_run_text<S: Shelf>(alloc: Global, run: &Run, shelf: &mut S) -> Result<Output, Reason>
     requires limits { InRange run.now.limits }
     requires harts { HasHartsOf (source_said run.now.source) run.now.limits }
+    requires shown { IsShownOf (source_said run.now.source) (shown_said run.now.shown) }
     requires quiet { is_by_workers (source_said run.now.source) ≡ false }
     ensures output { IfOk result (λ text. IsRunOutput (S.file shelf.old) (run_said run.now) text) }
     ensures cause { let needs = needs_by run.now.program.now (source_said run.now.source) run.now.limits in
@@ -163,26 +168,48 @@ fn quiet_run_text<S: Shelf>(alloc: Global, run: &Run, shelf: &mut S) -> Result<O
     ensures files { S.file shelf.new ≡ S.file shelf.old }
     ensures counts { NoneFalls (S.faults shelf.old) (S.faults shelf.new) }
 {
-    if let Some(script) = counted_script(run) {
-        return summed_text(alloc, run.program, script, run.limits, shelf);
+    match (run.source, run.shown) {
+        (Source::Script(script), Shown::Summary) => {
+            summed_text(alloc, run.program, script, run.limits, shelf)
+        }
+        (Source::Script(script), Shown::Trace(span)) => {
+            traced_text(
+                alloc,
+                run.program,
+                Traced { script, span },
+                run.limits,
+                shelf,
+            )
+        }
+        (_, Shown::Output | Shown::Place(_) | Shown::Acts | Shown::Gathered) => end_text(
+            alloc, run, shelf,
+        ),
+        (
+            Source::Rule
+            | Source::Workers { .. }
+            | Source::Drawn { .. }
+            | Source::DrawnAfter { .. },
+            Shown::Summary | Shown::Trace(_),
+        ) => unreachable!(),
     }
-    if let Some(traced) = traced_script(run) {
-        return traced_text(alloc, run.program, traced, run.limits, shelf);
-    }
+}
+
+/// The text of a run that needs no workers, of which something is shown at its end.
+fn end_text<S: Shelf>(alloc: Global, run: &Run, shelf: &mut S) -> Result<Output, Reason>
+    requires limits { InRange run.now.limits }
+    requires harts { HasHartsOf (source_said run.now.source) run.now.limits }
+    requires shown { IsShownAtEnd (shown_said run.now.shown) }
+    requires quiet { is_by_workers (source_said run.now.source) ≡ false }
+    ensures output { IfOk result (λ text. IsRunOutput (S.file shelf.old) (run_said run.now) text) }
+    ensures cause { let needs = needs_by run.now.program.now (source_said run.now.source) run.now.limits in
+        IfErr result (IsReasonFor (S.file shelf.old) needs (S.faults shelf.old) (S.faults shelf.new)
+        (S.last_trouble shelf.new)) }
+    ensures files { S.file shelf.new ≡ S.file shelf.old }
+    ensures counts { NoneFalls (S.faults shelf.old) (S.faults shelf.new) }
+{
     let made = quiet_run(alloc, run, shelf)?;
     let ProgramRun { image, machine } = made;
     Ok(shown_text(alloc, run, &image, machine)?)
-}
-
-/// The name of the script of a run by one whose summary is shown; its acts are counted while it is made.
-fn counted_script<'a>(run: &Run<'a>) -> Option<&'a str>
-    ensures source { IfSome result (λ script. source_said run.now.source ≡ Script script.now) }
-    ensures shown { IfSome result (λ script. shown_said run.now.shown ≡ Summary) }
-{
-    match (run.source, run.shown) {
-        (Source::Script(script), Shown::Summary) => Some(script),
-        _ => None,
-    }
 }
 
 /// The summary of a run of the program of the first name on the events of the script of the second.
@@ -209,7 +236,7 @@ fn summed_text<S: Shelf>(
     let files = scripted(alloc, program, script, limits, shelf)?;
     let ScriptFiles { image, lines } = files;
     let run = play_counted(alloc, &image, limits, &lines)?;
-    Ok(counted_summary(alloc, &run)?)
+    Ok(summary_output(alloc, &run.counts, &run.machine)?)
 }
 
 /// A script whose run is told, and the lines of its log that are.
@@ -219,17 +246,6 @@ struct Traced<'a> {
     script: &'a str,
     /// The lines.
     span: LineSpan,
-}
-
-/// The script of a run by one whose trace is shown; the run is told while it is made.
-fn traced_script<'a>(run: &Run<'a>) -> Option<Traced<'a>>
-    ensures source { IfSome result (λ traced. source_said run.now.source ≡ Script traced.script.now) }
-    ensures shown { IfSome result (λ traced. shown_said run.now.shown ≡ Trace traced.span) }
-{
-    match (run.source, run.shown) {
-        (Source::Script(script), Shown::Trace(span)) => Some(Traced { script, span }),
-        _ => None,
-    }
 }
 
 /// The trace of a run of the program of the name on the events of the script.
@@ -272,6 +288,7 @@ fn workers_run_text<R: Threads + Wait + Sync, S: Shelf, G: Gate + Sync>(
     gate: &G,
 ) -> Result<Output, Reason>
     requires limits { InRange run.now.limits }
+    requires shown { IsShownOf (source_said run.now.source) (shown_said run.now.shown) }
     requires workers { is_by_workers (source_said run.now.source) ≡ true }
     ensures output { IfOk result (λ text. IsRunOutput (S.file shelf.old) (run_said run.now) text) }
     ensures cause { let needs = needs_by run.now.program.now (source_said run.now.source) run.now.limits in

@@ -5,16 +5,15 @@ use crate::lines::log_of;
 use crate::meeting::Meeting;
 use crate::rows::shelf_files;
 use crate::runs::{ROOM, Run, sure_sink, words_of};
+use call_reasons::{Explained, Reason};
 use mach_types::Limits;
-use main_call::{rseq_main, sure_main, sure_quiet};
-use outcomes::{Explained, Reason};
+use main_call::{rseq_explained, rseq_main, rseq_quiet, sure_main, sure_quiet};
 use outside::{MemShelf, MemSink, OpenGate};
 use reason_text::{AtHand, Keep, Keeping, KeepingShelf, explain};
 use std::alloc::{AllocError, Global};
 use std::io;
 use std::sync::Wait;
 use std::thread::Threads;
-use top_call::{rseq_explained, rseq_quiet};
 
 /// The exit status of a call that wrote its output.
 const DONE: u64 = 0;

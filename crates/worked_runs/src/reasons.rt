@@ -3,9 +3,9 @@
 //! What is due stands in the program's file `stdout`.
 
 use crate::runs::words_of;
+use call_reasons::{FileRole, LineFault, Reason};
 use command_words::WordsFault;
 use elf_load::ElfFault;
-use outcomes::{FileRole, LineFault, Reason};
 use reason_text::{AtHand, brief, explain};
 use std::alloc::Global;
 use std::io::{self, ErrorKind};

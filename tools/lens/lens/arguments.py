@@ -3,20 +3,10 @@ from __future__ import annotations
 
 import argparse
 
+from .command_line import positive
 from .machine import BUILT
 
 LIMITS = ('harts', 'frames', 'steps')
-
-
-def positive(words: str) -> int:
-    """A number from 1 on."""
-    value = int(words)
-    if value < 1:
-        raise ValueError
-    return value
-
-
-positive.__name__ = 'number from 1 on'
 
 
 def add_program(parser: argparse.ArgumentParser) -> None:

@@ -9,40 +9,45 @@ from collections.abc import Iterable
 from dataclasses import replace
 from pathlib import Path
 
-from .arguments import add_program, limits_of, positive
+from .arguments import add_program, limits_of
+from .atomics import list_atomics
 from .call_list import list_calls
 from .causes import explain
+from .command_line import Parser, add_version, end, natural, no_such, positive
 from .faults import LensFault
+from .freed import list_freed
 from .history import History, make_history
 from .listing import CONTEXT, Selection, list_run
 from .machine import Answer, Machine
 from .output import RUN, Output
 from .picture import draw_run
 from .program import Program
+from .progress import Progress
 from .races import list_races
 from .scripts import Lines, first_unreadable, read_lines
 from .sequences import list_sequences
 from .shown_memory import asked, ranges_of, with_names
-from .shrinking import shrink
+from .shrinking import TRIES, Shrinking
 from .steering import steer
+from .stopping import Stop
 from .subjects import SEQUENCES, WORDS, steps_about
 from .trace import trace_text
 from .traced_calls import list_traced_calls
 from .values import Values, read_values
 from .watching import watch
 
-FAULT_STATUS = 2
 ROWS_AT_ONCE = 1_000
 
 
 def make_parser() -> argparse.ArgumentParser:
-    parser = argparse.ArgumentParser(
+    parser = Parser(
         prog='lens',
         description='Shows a run of rseq_run. RUN is an output text of '
         'solo, play, gather, run or draw in a file, or a script, which is played; or - for standard input. '
         'ELF is the file that ran, with its symbols. With --seed RUN is left out: it is the run that draw '
         'makes of ELF.',
     )
+    add_version(parser)
     commands = parser.add_subparsers(metavar='COMMAND', required=True)
     add_list(commands)
     add_trace(commands)
@@ -51,6 +56,7 @@ def make_parser() -> argparse.ArgumentParser:
     add_sequences(commands)
     add_watch(commands)
     add_races(commands)
+    add_atomics(commands)
     add_why(commands)
     add_cut(commands)
     add_play(commands)
@@ -65,10 +71,10 @@ def add_list(commands) -> None:
     add_run_and_elf(command)
     command.add_argument('--around', type=positive, metavar='N', help='only the steps round step N')
     command.add_argument(
-        '--context', type=int, default=CONTEXT, metavar='K', help=f'how many on either side ({CONTEXT})'
+        '--context', type=natural, default=CONTEXT, metavar='K', help=f'how many on either side ({CONTEXT})'
     )
-    command.add_argument('--hart', type=int, metavar='H', help='only the steps of hart H')
-    command.add_argument('--thread', type=int, metavar='T', help='only the steps of thread T')
+    command.add_argument('--hart', type=natural, metavar='H', help='only the steps of hart H')
+    command.add_argument('--thread', type=positive, metavar='T', help='only the steps of thread T')
     add_span(command, 'the last one (that of the run)')
     command.add_argument(
         '--only',
@@ -100,7 +106,7 @@ def add_svg(commands) -> None:
 def add_cut(commands) -> None:
     command = commands.add_parser('cut', help='the first lines of a run as a script, to go on from by hand')
     command.add_argument('run', metavar='RUN')
-    command.add_argument('--to', dest='last', type=int, metavar='N', help='how many lines (all)')
+    command.add_argument('--to', dest='last', type=natural, metavar='N', help='how many lines (all)')
     command.add_argument(
         '--short', action='store_true', help='without threads and pcs, which play would compare'
     )
@@ -111,7 +117,7 @@ def add_cut(commands) -> None:
 def add_calls(commands) -> None:
     command = commands.add_parser('calls', help='the system calls, with arguments and answers')
     add_run_and_elf(command)
-    command.add_argument('--thread', type=int, metavar='T', help='only those of thread T')
+    command.add_argument('--thread', type=positive, metavar='T', help='only those of thread T')
     add_values(command, 'what each wrote, and whom it woke')
     command.set_defaults(action=calls_command)
 
@@ -119,7 +125,7 @@ def add_calls(commands) -> None:
 def add_sequences(commands) -> None:
     command = commands.add_parser('sequences', help='the restartable sequences by name, and how each ended')
     add_run_and_elf(command)
-    command.add_argument('--thread', type=int, metavar='T', help='only those of thread T')
+    command.add_argument('--thread', type=positive, metavar='T', help='only those of thread T')
     add_values(command, 'what each step of one read and wrote')
     command.set_defaults(action=sequences_command)
 
@@ -130,10 +136,13 @@ def add_watch(commands) -> None:
     )
     add_run_and_elf(command)
     command.add_argument(
-        'variable', metavar='NAME[+OFF][:SIZE]', help='a member (NAME[0].MEMBER) or an address too'
+        'variable', metavar='NAME[+OFF][:SIZE]', nargs='?', help='a member (NAME[0].MEMBER) or an address too'
     )
-    command.add_argument('--hart', type=int, metavar='H', help='only the accesses of hart H')
-    command.add_argument('--thread', type=int, metavar='T', help='only those of thread T')
+    command.add_argument(
+        '--freed', action='store_true', help='in place of NAME: the accesses to what `free` was given'
+    )
+    command.add_argument('--hart', type=natural, metavar='H', help='only the accesses of hart H')
+    command.add_argument('--thread', type=positive, metavar='T', help='only those of thread T')
     add_span(command, 'the last one (that of the run)')
     command.set_defaults(action=watch_command)
 
@@ -141,7 +150,18 @@ def add_watch(commands) -> None:
 def add_races(commands) -> None:
     command = commands.add_parser('races', help='accesses of two harts that nothing orders')
     add_run_and_elf(command)
+    command.add_argument(
+        '--plain', action='store_true', help='without pairs that are atomic, volatile or assembler on both sides'
+    )
     command.set_defaults(action=races_command)
+
+
+def add_atomics(commands) -> None:
+    command = commands.add_parser(
+        'atomics', help='the instructions of a file that wait for stores: AMOs, LR, SC and full fences'
+    )
+    command.add_argument('elf', metavar='ELF')
+    command.set_defaults(action=atomics_command)
 
 
 def add_why(commands) -> None:
@@ -175,6 +195,14 @@ def add_shrink(commands) -> None:
     command.add_argument(
         '--by', choices=('text', 'end'), default='text', help='the same console and end, or the end alone'
     )
+    command.add_argument(
+        '--seconds', type=positive, metavar='N', help='look for so long at most, and print the best so far'
+    )
+    command.add_argument(
+        '--progress',
+        action='store_true',
+        help='say on standard error how far it is, also where that is no terminal',
+    )
     add_out(command, 'STEER')
     command.set_defaults(action=shrink_command)
 
@@ -196,7 +224,7 @@ def add_steer(commands) -> None:
 def add_run_and_elf(command: argparse.ArgumentParser) -> None:
     command.add_argument('run', metavar='RUN', nargs='?')
     command.add_argument('elf', metavar='ELF')
-    command.add_argument('--seed', type=int, metavar='S', help='the run that this seed draws, in place of RUN')
+    command.add_argument('--seed', type=natural, metavar='S', help='the run that this seed draws, in place of RUN')
     add_program(command)
 
 
@@ -214,18 +242,16 @@ def add_values(command: argparse.ArgumentParser, what: str) -> None:
 def subjects(text: str) -> tuple[str, ...]:
     """The words of a list with commas."""
     words = tuple(text.split(','))
-    if not set(words) <= set(WORDS):
-        raise ValueError
+    for word in words:
+        if word not in WORDS:
+            raise argparse.ArgumentTypeError(no_such('word', word, WORDS))
     return words
-
-
-subjects.__name__ = f'list of {", ".join(WORDS)}'
 
 
 def add_lines(command: argparse.ArgumentParser) -> None:
     command.add_argument('run', metavar='RUN', help='a script, or an output text, whose log is one')
     command.add_argument('elf', metavar='ELF')
-    command.add_argument('--to', dest='last', type=int, metavar='N', help='only the first N lines (all)')
+    command.add_argument('--to', dest='last', type=natural, metavar='N', help='only the first N lines (all)')
     add_program(command)
 
 
@@ -234,7 +260,16 @@ def add_out(command: argparse.ArgumentParser, name: str) -> None:
 
 
 def read_history(arguments: argparse.Namespace) -> History:
-    return make_history(output_of(arguments), Program(arguments.elf))
+    return make_history(output_of(arguments), read_program(arguments.elf))
+
+
+def read_program(path: str) -> Program:
+    """The file of a run. What of its source lines can't be read is said, and they lack."""
+    program = Program(path)
+    if program.lines.lacking:
+        lacking = ', '.join(program.lines.lacking)
+        print(f'lens: {path}: source lines that can\'t be read, and lack: {lacking}', file=sys.stderr)
+    return program
 
 
 def values_of(arguments: argparse.Namespace) -> Values:
@@ -243,7 +278,9 @@ def values_of(arguments: argparse.Namespace) -> Values:
 
 
 def machine_of(arguments: argparse.Namespace) -> Machine:
-    return Machine(arguments.program, arguments.elf, tuple(limits_of(arguments)))
+    machine = Machine(arguments.program, arguments.elf, tuple(limits_of(arguments)))
+    machine.check_name()
+    return machine
 
 
 def output_of(arguments: argparse.Namespace) -> Output:
@@ -353,7 +390,7 @@ def inspect_command(arguments: argparse.Namespace) -> int:
     lines, machine = lines_of(arguments), machine_of(arguments)
     if not arguments.memory:
         return pass_on(lines, machine.call('inspect', lines.text(), lines.name))
-    program = Program(arguments.elf)
+    program = read_program(arguments.elf)
     ranges = ranges_of(program, arguments.memory)
     answer = machine.call('inspect', lines.text(), lines.name, (asked(ranges),))
     named = with_names(program, ranges, answer.text.decode('ascii', 'replace'))
@@ -392,19 +429,38 @@ def sequences_command(arguments: argparse.Namespace) -> None:
     write_rows(rows)
 
 
+def settle_watched(arguments: argparse.Namespace) -> None:
+    """Gives the words RUN ELF NAME their places: with --seed there is no RUN, and with --freed no NAME."""
+    words = [word for word in (arguments.run, arguments.elf, arguments.variable) if word is not None]
+    wanted = {'run': 'RUN', 'elf': 'ELF', 'variable': 'NAME'}
+    if arguments.seed is not None:
+        del wanted['run']
+    if arguments.freed:
+        del wanted['variable']
+    if len(words) != len(wanted):
+        raise LensFault(f'{" ".join(wanted.values())} is wanted here, which is {len(wanted)} words')
+    arguments.run = arguments.variable = None
+    for name, word in zip(wanted, words):
+        setattr(arguments, name, word)
+
+
 def watch_command(arguments: argparse.Namespace) -> None:
+    settle_watched(arguments)
     values = values_of(arguments)
     for number in (arguments.first, arguments.last):
         check_step(values.history.output, number)
     chosen = Selection(
         hart=arguments.hart, thread=arguments.thread, first=arguments.first, last=arguments.last
     )
-    rows = watch(values, arguments.variable, chosen)
-    write_rows(rows)
+    write_rows(list_freed(values, chosen) if arguments.freed else watch(values, arguments.variable, chosen))
 
 
 def races_command(arguments: argparse.Namespace) -> None:
-    write_rows(list_races(values_of(arguments)))
+    write_rows(list_races(values_of(arguments), arguments.plain))
+
+
+def atomics_command(arguments: argparse.Namespace) -> None:
+    write_rows(list_atomics(read_program(arguments.elf)))
 
 
 def why_command(arguments: argparse.Namespace) -> None:
@@ -412,16 +468,26 @@ def why_command(arguments: argparse.Namespace) -> None:
     write_rows(explain(history, machine_of(arguments)))
 
 
-def shrink_command(arguments: argparse.Namespace) -> None:
-    output, program = output_of(arguments), Program(arguments.elf)
-    shrunk = shrink(output, program, machine_of(arguments), arguments.by == 'end')
+def shrink_command(arguments: argparse.Namespace) -> int:
+    stop = Stop(arguments.seconds, TRIES)
+    with stop.on_signals():
+        return write_shrunk(arguments, stop)
+
+
+def write_shrunk(arguments: argparse.Namespace, stop: Stop) -> int:
+    """Writes the short steer; the status that a search has which was stopped by a signal."""
+    output, program = output_of(arguments), read_program(arguments.elf)
+    shrinking = Shrinking(output, program, machine_of(arguments), arguments.by == 'end')
+    is_told = arguments.progress or sys.stderr.isatty()
+    shrunk = shrinking.shrink(stop, Progress(sys.stderr if is_told else None))
     write_out(arguments.out, [shrunk.steer])
     costs = f'from {shrunk.before.words()}\nto {shrunk.after.words()}, and `finish`'
-    print(costs, file=sys.stderr)
+    print('\n'.join([costs, *filter(None, [shrunk.unfinished])]), file=sys.stderr)
+    return stop.status if shrunk.unfinished else 0
 
 
 def steer_command(arguments: argparse.Namespace) -> None:
-    script = steer(arguments.steer, Program(arguments.elf), machine_of(arguments))
+    script = steer(arguments.steer, read_program(arguments.elf), machine_of(arguments))
     path = Path(arguments.out) if arguments.out else Path(arguments.steer).with_suffix('.script')
     notes = path.with_suffix('.notes')
     write_out(str(path), [script.text()])
@@ -432,15 +498,9 @@ def steer_command(arguments: argparse.Namespace) -> None:
 def main() -> int:
     """Does what the words ask; 2 and one line on standard error where it can't."""
     gc.disable()  # (a run is read as a whole, and nothing of it goes before the end)
-    try:
-        arguments = make_parser().parse_args()
-        status = arguments.action(arguments) or 0
-        sys.stdout.flush()
-        sys.stderr.flush()
-        return status
-    except LensFault as fault:
-        print(f'lens: {fault}', file=sys.stderr)
-        return FAULT_STATUS
-    except BrokenPipeError:
-        sys.stderr.close()
-        return 0
+    return end('lens', run_command)
+
+
+def run_command() -> int:
+    arguments = make_parser().parse_args()
+    return arguments.action(arguments) or 0

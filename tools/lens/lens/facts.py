@@ -152,6 +152,12 @@ class Faulted(NamedTuple):
     at: int
 
 
+class Killed(NamedTuple):
+    """The event ended the process by a signal, for this reason."""
+
+    why: str
+
+
 class SequenceBegins(NamedTuple):
     """A restartable sequence begins with the event: where it starts, its length, and its abort handler."""
 
@@ -194,6 +200,7 @@ Fact = (
     | Interrupted
     | Signal
     | Faulted
+    | Killed
     | SequenceBegins
     | SequenceEnds
     | Other
@@ -311,6 +318,11 @@ def faulted(words: list[str]) -> Faulted:
     return Faulted(int(name), why, number(at))
 
 
+def killed(words: list[str]) -> Killed:
+    _, why = words
+    return Killed(why)
+
+
 def sequence(words: list[str]) -> Fact:
     match words[1:]:
         case ['begins', start, length, abort]:
@@ -341,6 +353,7 @@ READERS: dict[str, Callable[[list[str]], Fact]] = {
     'interrupted': interrupted,
     'signal': signal,
     'fault': faulted,
+    'killed': killed,
     'sequence': sequence,
     **{f'x{number}': register for number in range(32)},
 }

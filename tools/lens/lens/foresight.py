@@ -2,74 +2,211 @@
 
 A store enters memory where the next event of its hart needs it, as `go` of a steer has it. The machine says
 where that is, one refused line after the other. Most of it can be foreseen: the k-th instruction of a thread
-is taken to be the one that was its k-th in the run that is known. What was foreseen wrong is found in what
-the machine plays, and left to the machine from there on.
+is taken to be the one that was its k-th in the run that is known. Where a thread goes another way, the machine
+says at which instruction it stands, and the nearest one of its way with this address is where it goes on.
 """
 from __future__ import annotations
 
+from bisect import bisect_left
 from collections import Counter, defaultdict
-from dataclasses import replace
+from collections.abc import Iterable, Iterator
+from dataclasses import dataclass, field
 
 from .history import History
 from .instructions import Instruction
-from .output import DRAIN, EXEC, PREEMPT, SIGNAL, TAKE, Step
+from .output import DRAIN, EXEC, PC_DIGITS, PREEMPT, RUN, SIGNAL, TAKE
+from .place import Place
 from .program import Program
-from .stretches import FORESEEN, Event, Stretches, placed
+from .stretches import FORESEEN, UNKNOWN, Piece, Stretch
 
 STORES = 8
 NO_WAITING = (PREEMPT, SIGNAL, TAKE)
 
 
+@dataclass
+class Way:
+    """The instructions that a thread made, in order: their addresses as a log has them, and which of them
+    need or make waiting stores."""
+
+    pcs: list[bytes] = field(default_factory=list)
+    marks: list[int] = field(default_factory=list)
+    """Which of them are plain stores, or come only where no store waits."""
+    stores: set[int] = field(default_factory=set)
+    """Which of them are plain stores."""
+    visits: dict[bytes, list[int]] = field(default_factory=lambda: defaultdict(list))
+    """Which of them have an address."""
+
+    def add(self, instruction: Instruction) -> None:
+        at, pc = len(self.pcs), pc_text(instruction.address)
+        self.pcs.append(pc)
+        self.visits[pc].append(at)
+        if instruction.is_plain_store:
+            self.stores.add(at)
+        if instruction.is_plain_store or instruction.waits_for_stores:
+            self.marks.append(at)
+
+    def nearest(self, pc: bytes, at: int) -> int:
+        """Which instruction with an address is the nearest one to a place of the way."""
+        visits = self.visits.get(pc, [])
+        next_one = bisect_left(visits, at)
+        around = visits[max(next_one - 1, 0) : next_one + 1]
+        return min(around, key=lambda visit: abs(visit - at), default=UNKNOWN)
+
+    def marked(self, first: int, last: int) -> list[int]:
+        """The marks from a place of the way up to another."""
+        return self.marks[bisect_left(self.marks, first) : bisect_left(self.marks, last)]
+
+
+@dataclass
+class Standing:
+    """What is taken to be so before an event: where each thread runs, how many stores wait on each hart, and
+    how far each thread is on its way."""
+
+    where: dict[int, int] = field(default_factory=dict)
+    waiting: Counter[int] = field(default_factory=Counter)
+    at: dict[int, int] = field(default_factory=dict)
+
+
 class Foresight:
-    """The instructions of each thread in a run, in order."""
+    """The way of each thread in a run."""
 
     def __init__(self, history: History):
         self.program: Program = history.program
-        self.ways: dict[int, list[Instruction]] = defaultdict(list)
+        self.ways: dict[int, Way] = defaultdict(Way)
         for step in history.output.steps:
             if step.number in history.instructions:
-                self.ways[step.thread].append(history.instructions[step.number])
+                self.ways[step.thread].add(history.instructions[step.number])
 
-    def events(self, stretches: Stretches) -> list[Event]:
-        """The events of stretches, and before each the drains that it is taken to need."""
-        kept = placed([event for number, stretch in enumerate(stretches) for event in stretch.events(number)])
-        ways = {thread: iter(way) for thread, way in self.ways.items()}
-        waiting = Counter()
-        events = []
-        for event in kept:
-            instruction = next(ways.get(event.thread, iter(())), None) if event.kind == EXEC else None
-            drains = drains_for(event.kind, instruction, waiting[event.hart])
-            events += [replace(event, kind=DRAIN, origin=FORESEEN)] * drains
-            events.append(event)
-            waiting[event.hart] -= drains
-            waiting[event.hart] += change(event.kind, instruction, waiting[event.hart])
-        return events
+    def pieces(
+        self, stretches: Iterable[tuple[int, Stretch]], standing: Standing | None = None
+    ) -> list[Piece]:
+        """The events of numbered stretches, and before each the drains that it is taken to need. Those of a
+        thread that runs nowhere are left out."""
+        standing = standing or Standing()
+        return [piece for number, stretch in stretches for piece in self.pieces_of(number, stretch, standing)]
 
-    def first_early(self, events: list[Event], steps: list[Step]) -> int | None:
-        """The first foreseen drain that the event behind it didn't need, in the run that was made of the
-        events."""
-        waiting = Counter()
-        for number, (event, step) in enumerate(zip(events, steps)):
-            instruction = self.program.instruction(step.pc) if step.kind == EXEC else None
-            if event.origin == FORESEEN and not self.is_due(steps, number, waiting[step.hart]):
-                return number
-            waiting[step.hart] += change(step.kind, instruction, waiting[step.hart])
+    def pieces_of(self, number: int, stretch: Stretch, standing: Standing) -> Iterator[Piece]:
+        """The events of one stretch; they change what is taken to be so."""
+        hart, kind, thread, count = stretch
+        if kind == RUN:
+            standing.where = {other: on for other, on in standing.where.items() if on != hart}
+            standing.where[thread] = hart
+        hart = standing.where.get(thread) if thread else hart
+        if hart is None:
+            return
+        if kind == EXEC:
+            yield from self.instructions(Piece(number, hart, kind, thread, count), standing)
+            return
+        waiting = standing.waiting[hart]
+        if kind in NO_WAITING and waiting:
+            yield Piece(number, hart, DRAIN, thread, waiting, FORESEEN)
+        yield Piece(number, hart, kind, thread, count)
+        standing.waiting[hart] = {DRAIN: max(waiting - count, 0), RUN: waiting}.get(
+            kind, 0 if kind in NO_WAITING else waiting
+        )
+        if kind == PREEMPT:
+            standing.where.pop(thread, None)
+
+    def instructions(self, piece: Piece, standing: Standing) -> Iterator[Piece]:
+        """The instructions of a piece, and the drains that they are taken to need."""
+        way, first = self.ways.get(piece.thread, Way()), standing.at.get(piece.thread, 0)
+        waiting = standing.waiting[piece.hart]
+        done = 0
+        for mark in way.marked(first, first + piece.count) if first != UNKNOWN else []:
+            is_one = mark in way.stores
+            drains = int(waiting == STORES) if is_one else waiting
+            if drains:
+                if mark - first > done:
+                    yield piece._replace(count=mark - first - done, at=first + done)
+                yield piece._replace(kind=DRAIN, count=drains, origin=FORESEEN)
+                done = mark - first
+            waiting += is_one - drains
+        standing.waiting[piece.hart] = waiting
+        standing.at[piece.thread] = first if first == UNKNOWN else first + piece.count
+        yield piece._replace(count=piece.count - done, at=first if first == UNKNOWN else first + done)
+
+    def standing_at(self, place: Place, pieces: list[Piece]) -> Standing:
+        """What is so at a place to which some pieces led: a thread on a hart is on its way where the nearest
+        instruction with its address is."""
+        standing = Standing()
+        for piece in pieces:
+            if piece.kind == EXEC:
+                standing.at[piece.thread] = piece.at if piece.at == UNKNOWN else piece.at + piece.count
+        for hart, here in place.harts.items():
+            standing.waiting[hart] = here.waiting
+            if here.thread and here.pc is not None:
+                way, at = self.ways.get(here.thread, Way()), standing.at.get(here.thread, 0)
+                standing.where[here.thread] = hart
+                standing.at[here.thread] = way.nearest(pc_text(here.pc), max(at, 0))
+        return standing
+
+    def first_early(self, pieces: list[Piece], lines: list[bytes]) -> int | None:
+        """The first foreseen drain that the event after it didn't need, in the log that was made of the
+        pieces. Where each thread went the way that it was taken to go there is none."""
+        if self.went_as_foreseen(pieces, lines):
+            return None
+        waiting: Counter[int] = Counter()
+        first = 0
+        for piece in pieces:
+            if piece.origin == FORESEEN and not self.is_due(piece, lines, first, waiting[piece.hart]):
+                return first
+            waiting[piece.hart] += self.change(piece, lines[first : first + piece.count])
+            first += piece.count
         return None
 
-    def waiting(self, steps: list[Step]) -> Counter:
-        """How many stores wait on each hart behind some steps."""
-        waiting = Counter()
-        for step in steps:
-            instruction = self.program.instruction(step.pc) if step.kind == EXEC else None
-            waiting[step.hart] += change(step.kind, instruction, waiting[step.hart])
+    def went_as_foreseen(self, pieces: list[Piece], lines: list[bytes]) -> bool:
+        """Whether all instructions are those that were taken to come, up to the one after the last foreseen
+        drain."""
+        drains = [number for number, piece in enumerate(pieces) if piece.origin == FORESEEN]
+        first = 0
+        for piece in pieces[: drains[-1] + 2 if drains else 0]:
+            last = first + piece.count
+            if piece.kind == EXEC:
+                pcs = [line[-PC_DIGITS:] for line in lines[first:last]]
+                way = self.ways.get(piece.thread, Way())
+                if piece.at == UNKNOWN or way.pcs[piece.at : piece.at + piece.count] != pcs:
+                    return False
+            first = last
+        return True
+
+    def waiting(self, pieces: list[Piece], lines: list[bytes]) -> Counter[int]:
+        """How many stores wait on each hart after some pieces, in the log that was made of them."""
+        waiting: Counter[int] = Counter()
+        first = 0
+        for piece in pieces:
+            waiting[piece.hart] += self.change(piece, lines[first : first + piece.count])
+            first += piece.count
         return waiting
 
-    def is_due(self, steps: list[Step], number: int, waiting: int) -> bool:
-        behind = next((step for step in steps[number:] if step.kind != DRAIN), None)
-        if behind is None:
+    def is_due(self, piece: Piece, lines: list[bytes], first: int, waiting: int) -> bool:
+        """Whether the event after some drains needs all of them."""
+        after = first + piece.count
+        if after >= len(lines):
             return False
-        instruction = self.program.instruction(behind.pc) if behind.kind == EXEC else None
-        return drains_for(behind.kind, instruction, waiting) > 0
+        kind = lines[after].split(b' ')[1].decode('ascii')
+        needed = drains_for(kind, self.instruction(lines[after]) if kind == EXEC else None, waiting)
+        return needed >= piece.count
+
+    def change(self, piece: Piece, lines: list[bytes]) -> int:
+        """How many more stores wait after a piece."""
+        if piece.kind == DRAIN:
+            return -piece.count
+        if piece.kind != EXEC:
+            return 0
+        return sum(is_store(self.instruction(line)) for line in lines)
+
+    def instruction(self, line: bytes) -> Instruction | None:
+        """The instruction of a log line."""
+        return self.program.instruction(int(line[-PC_DIGITS:], 16))
+
+
+def pc_text(pc: int) -> bytes:
+    """An address as a log has it."""
+    return f'{pc:0{PC_DIGITS}x}'.encode('ascii')
+
+
+def is_store(instruction: Instruction | None) -> bool:
+    return instruction is not None and instruction.is_plain_store
 
 
 def drains_for(kind: str, instruction: Instruction | None, waiting: int) -> int:
@@ -77,11 +214,4 @@ def drains_for(kind: str, instruction: Instruction | None, waiting: int) -> int:
     needs none."""
     if kind in NO_WAITING or (instruction and instruction.waits_for_stores):
         return waiting
-    return 1 if instruction and instruction.is_plain_store and waiting == STORES else 0
-
-
-def change(kind: str, instruction: Instruction | None, waiting: int) -> int:
-    """How many more stores wait behind an event."""
-    if kind == DRAIN:
-        return -1 if waiting else 0
-    return 1 if instruction and instruction.is_plain_store else 0
+    return 1 if is_store(instruction) and waiting == STORES else 0

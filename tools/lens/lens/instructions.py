@@ -84,8 +84,15 @@ class Instruction:
         if not self.is_fence:
             return self.is_atomic or self.opcode == Opcode.SYSTEM
         is_fence_i = bits(self.word, 14, 12) != 0
+        return is_fence_i or self.is_store_load_fence
+
+    @cached_property
+    def is_store_load_fence(self) -> bool:
+        """Whether it is a FENCE of earlier writes and later reads but FENCE.TSO, the one order that Ztso
+        leaves open."""
+        is_fence = self.is_fence and bits(self.word, 14, 12) == 0
         orders = bits(self.word, 24, 24) and bits(self.word, 21, 21)
-        return is_fence_i or bool(orders and bits(self.word, 31, 28) != FENCE_TSO)
+        return bool(is_fence and orders and bits(self.word, 31, 28) != FENCE_TSO)
 
     @cached_property
     def written(self) -> int:

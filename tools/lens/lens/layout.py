@@ -7,10 +7,10 @@ import re
 from collections.abc import Iterator
 from dataclasses import dataclass
 
-from elftools.common.exceptions import DWARFError, ELFError
 from elftools.dwarf.die import DIE
 from elftools.elf.elffile import ELFFile
 
+from .dwarf import FAULTS, POINTER, attribute, located, units
 from .faults import LensFault
 
 MEMBER = re.compile(r'\.(?P<name>\w+)|\[(?P<index>[0-9]+)\]')
@@ -24,16 +24,17 @@ NAMED = (
 )
 """Types that are another one by a further name, or with a qualifier."""
 STRUCTS = ('DW_TAG_structure_type', 'DW_TAG_union_type')
-ADDRESS = 0x03
-"""DW_OP_addr: the location of a variable is the address behind it."""
+POINTERS = ('DW_TAG_pointer_type', 'DW_TAG_reference_type', 'DW_TAG_rvalue_reference_type')
+MARKS = {'DW_TAG_volatile_type': 'volatile', 'DW_TAG_atomic_type': 'atomic'}
 BITS = 'DW_AT_bit_size'
 
 
 @dataclass(frozen=True)
 class Scalar:
-    """A number or a pointer."""
+    """A number or a pointer. `mark` says whether it was declared as `volatile` or `atomic` (_Atomic)."""
 
     size: int
+    mark: str = ''
 
 
 @dataclass(frozen=True)
@@ -70,17 +71,18 @@ class Layout:
     def __init__(self, path: str):
         self.path = path
         self.known: dict[int, Kind] = {}
+        self.kinds: dict[int, Kind] = {}
+        with open(path, 'rb') as file:
+            elf = ELFFile(io.BytesIO(file.read()))
         try:
-            with open(path, 'rb') as file:
-                elf = ELFFile(io.BytesIO(file.read()))
-            self.kinds = dict(self.variables(elf)) if elf.has_dwarf_info() else {}
-        except (DWARFError, ELFError, KeyError) as error:
-            raise LensFault(f'{path}: its types can\'t be read ({error})') from None
+            self.kinds.update(self.variables(elf))
+        except FAULTS:
+            return  # (the others have their places by the symbols alone)
 
     def variables(self, elf: ELFFile) -> Iterator[tuple[int, Kind]]:
-        for unit in elf.get_dwarf_info().iter_CUs():
+        for unit in units(elf):
             for die in unit.iter_DIEs():
-                address = address_of(die)
+                address = located(unit, die) if die.tag == 'DW_TAG_variable' else None
                 if address is not None:
                     is_whole = 'DW_AT_type' in die.attributes
                     declared = die if is_whole else die.get_DIE_from_attribute('DW_AT_specification')
@@ -88,19 +90,24 @@ class Layout:
 
     def kind_of(self, die: DIE) -> Kind:
         """The type of a variable, a member or an array's elements."""
-        kind = die.get_DIE_from_attribute('DW_AT_type')
+        if 'DW_AT_type' not in die.attributes:
+            return Scalar(0)
+        kind, mark = die.get_DIE_from_attribute('DW_AT_type'), ''
         while kind.tag in NAMED:
+            mark = MARKS.get(kind.tag, mark)
+            if 'DW_AT_type' not in kind.attributes:
+                return Scalar(0, mark)
             kind = kind.get_DIE_from_attribute('DW_AT_type')
         if kind.offset not in self.known:
             self.known[kind.offset] = self.make_kind(kind)
-        return self.known[kind.offset]
+        return marked(self.known[kind.offset], mark) if mark else self.known[kind.offset]
 
     def make_kind(self, die: DIE) -> Kind:
-        size = die.attributes.get('DW_AT_byte_size')
+        size = attribute(die, 'byte_size')
         if die.tag in STRUCTS:
-            return Struct(size.value if size else 0, tuple(self.members(die)))
+            return Struct(size or 0, tuple(self.members(die)))
         if die.tag != 'DW_TAG_array_type':
-            return Scalar(size.value if size else 0)
+            return Scalar(size or (POINTER if die.tag in POINTERS else 0))
         kind = self.kind_of(die)
         for count in reversed(list(counts(die))):
             kind = Array(count, kind)
@@ -133,6 +140,12 @@ class Layout:
         kind = self.kinds.get(address)
         return name_in(kind, variable, offset, size) if kind else None
 
+    def mark(self, address: int, offset: int) -> str:
+        """Whether what has the byte at an offset in a variable was declared as `volatile` or `atomic`; else
+        empty."""
+        kind = self.kinds.get(address)
+        return mark_in(kind, offset) if kind else ''
+
     def parts(self, variable: str, address: int, start: int, end: int) -> list[tuple[str, int, int]]:
         """The numbers and pointers of a variable that have a byte from one address up to another: name,
         address and size."""
@@ -146,13 +159,26 @@ class Layout:
         return target_in(kind, variable, offset) if kind else None
 
 
-def address_of(die: DIE) -> int | None:
-    """The address of a variable that has one place all the time."""
-    place = die.attributes.get('DW_AT_location')
-    if die.tag != 'DW_TAG_variable' or place is None or place.form != 'DW_FORM_exprloc':
-        return None
-    operation, *address = place.value
-    return int.from_bytes(address, 'little') if operation == ADDRESS and len(address) == 8 else None
+def marked(kind: Kind, mark: str) -> Kind:
+    """The same type with each number and pointer in it marked."""
+    match kind:
+        case Array(count, element):
+            return Array(count, marked(element, mark))
+        case Struct(size, members):
+            inside = tuple(Member(one.name, one.at, marked(one.kind, mark)) for one in members)
+            return Struct(size, inside)
+    return Scalar(kind.size, mark)
+
+
+def mark_in(kind: Kind, offset: int) -> str:
+    """How the number or pointer is marked that has the byte at an offset."""
+    match kind:
+        case Array(_, element):
+            return mark_in(element, offset % element.size) if element.size else ''
+        case Struct(_, members):
+            inside = (one for one in members if one.at <= offset < one.at + one.kind.size)
+            return next((mark_in(one.kind, offset - one.at) for one in inside), '')
+    return kind.mark
 
 
 def counts(array: DIE) -> Iterator[int]:

@@ -8,8 +8,9 @@ from dataclasses import dataclass, replace
 from pathlib import Path
 
 from .faults import LensFault
-from .output import Output, parse_output
+from .output import Outline, Output, outline, parse_output
 from .place import Place, parse_place
+from .stopping import Stop
 from .trace_text import Trace, parse_trace
 
 REPOSITORY = Path(__file__).resolve().parents[3]
@@ -18,10 +19,13 @@ BUILT = Path(os.environ.get('RSEQ_RUN', REPOSITORY / 'crates' / 'rseq_run' / 'ou
 DONE, USAGE, SCRIPT_REFUSED = 0, 2, 4
 UNKNOWN = 'there is no such command'
 SECONDS = 120
+NAME = 'rseq_run'
+"""Stands in what the program says of its version."""
 OUTSIDE_SEQUENCES = (b'step', b'kernel')
 CALM = 4_096
-"""Behind so many events of the rule the rest of a run is drawn fairly, so that a thread that waits for
+"""After so many events of the rule the rest of a run is drawn fairly, so that a thread that waits for
 another one doesn't fill the log."""
+MOST_CALM = 1_000_000
 
 
 @dataclass(frozen=True)
@@ -66,20 +70,30 @@ class Machine:
 
     def play(self, lines: list[str]) -> Output | int:
         """The run of a script, or the number of the first of its lines that is refused."""
-        return self.run_of('play', self.call('play', text_of(lines)))
+        answer = self.play_outline(lines)
+        return answer if isinstance(answer, int) else answer.output()
 
-    def finish(self, lines: list[str]) -> Output | int:
-        """The run that the rule makes behind a script, or the number of the first line that is refused."""
-        words = ('--policy=rule', f'--calm={CALM}')
-        return self.run_of('draw', self.call('draw', text_of(lines), words=words))
+    def play_outline(self, lines: list[str]) -> Outline | int:
+        """The same, its log not yet taken apart."""
+        return self.outline_of('play', self.call('play', text_of(lines)))
 
-    def run_of(self, command: str, answer: Answer) -> Output | int:
+    def finish(self, lines: list[str], calm: int = CALM) -> Output | int:
+        """The run that the rule makes after a script, or the number of the first line that is refused."""
+        answer = self.finish_outline(text_of(lines), calm)
+        return answer if isinstance(answer, int) else answer.output()
+
+    def finish_outline(self, script: bytes, calm: int) -> Outline | int:
+        """The same, its log not yet taken apart."""
+        return self.outline_of('draw', self.call('draw', script, words=('--policy=rule', f'--calm={calm}')))
+
+    def outline_of(self, command: str, answer: Answer) -> Outline | int:
+        """The run of an answer, or the number of the line that is refused."""
         if answer.status == DONE:
-            return parse_output(self.elf, answer.text)
+            return outline(self.elf, answer.text)
         refused = answer.refused_line()
-        if refused is not None:
-            return refused
-        raise self.fault(command, answer)
+        if refused is None:
+            raise self.fault(command, answer)
+        return refused
 
     def call(
         self, command: str, script: bytes, name: str | None = None, words: tuple[str, ...] = ()
@@ -117,7 +131,11 @@ class Machine:
 
     def inspect(self, lines: list[str]) -> Place:
         """The place that a script comes to, each line of which is allowed."""
-        answer = self.call('inspect', text_of(lines))
+        return self.inspect_script(text_of(lines))
+
+    def inspect_script(self, script: bytes) -> Place:
+        """The same, the lines in one text."""
+        answer = self.call('inspect', script)
         if answer.status == DONE:
             return parse_place(answer.text)
         raise self.fault('inspect', answer)
@@ -133,11 +151,22 @@ class Machine:
         """Why a command gave no output."""
         return LensFault(f'{self.program} can\'t {command} {self.elf}: {answer.words()}')
 
+    def check_name(self) -> None:
+        """A fault where the program is another one than rseq_run."""
+        told = self.answer(['--version'])
+        if NAME not in told.text.decode('utf-8', 'replace') + told.said:
+            named = 'RSEQ_RUN or --program names the one that is called'
+            raise LensFault(f'{self.program} is another program than rseq_run ({named})')
+
     def answer(self, words: list[str]) -> Answer:
         """What the program answers to some words."""
         try:
             ran = subprocess.run(
-                [self.program, *words], stdin=subprocess.DEVNULL, capture_output=True, timeout=SECONDS
+                [self.program, *words],
+                stdin=subprocess.DEVNULL,
+                capture_output=True,
+                timeout=SECONDS,
+                start_new_session=True,  # (Ctrl-C on a terminal is for this program, which says what it has)
             )
         except OSError as error:
             raise LensFault(
@@ -146,6 +175,17 @@ class Machine:
         except subprocess.TimeoutExpired:
             raise LensFault(f'{self.program} had not ended after {SECONDS} seconds') from None
         return Answer(ran.returncode, ran.stdout, ran.stderr.decode('utf-8', 'replace'))
+
+
+@dataclass(frozen=True)
+class TimedMachine(Machine):
+    """The same for as long as a search isn't to stop; then Stopped is raised."""
+
+    stop: Stop
+
+    def answer(self, words: list[str]) -> Answer:
+        self.stop.check()
+        return super().answer(words)
 
 
 def parse_acts(text: bytes) -> list[Act]:

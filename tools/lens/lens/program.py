@@ -14,6 +14,7 @@ from elftools.elf.elffile import ELFFile
 
 from .disassembly import disassemble
 from .faults import LensFault
+from .inlining import Inlining, outermost_own
 from .instructions import SIZE, Instruction
 from .layout import Layout
 from .source import Lines, Place
@@ -25,6 +26,8 @@ SOURCE_LINE = re.compile(r'(?P<file>[^:]+):(?P<line>[0-9]+)')
 ADDRESS = re.compile(r'0x[0-9a-fA-F]+')
 HANDLER_RETURN = 0x3F_FFFF_0000
 SMALL, WORD = 4_096, 8
+MOST_MEMBERS = 4
+"""Of how many members of one access each is named."""
 DESCRIPTOR, DESCRIPTORS = struct.Struct('<IIQQQ'), '__rseq_cs'
 RETURNING = {
     address: Instruction(address, word, text)
@@ -141,6 +144,7 @@ class Program:
         self.target = cache(self.find_target)
         self.bytes_of = cache(self.find_bytes)
         self.number = cache(self.find_number)
+        self.members_of = cache(self.members)
 
     def has(self, address: int) -> bool:
         return any(code.has(address) for code in self.code)
@@ -180,6 +184,34 @@ class Program:
     def layout(self) -> Layout:
         return Layout(self.path)
 
+    @cached_property
+    def inlining(self) -> Inlining:
+        return Inlining(self.path)
+
+    def outer_place(self, address: int) -> Place | None:
+        """The outermost line of the file that was compiled that an instruction belongs to, also where it is
+        one of a helper that was put in there."""
+        inner = self.place(address)
+        return outermost_own(inner, self.inlining.chain(address)) if inner else None
+
+    def line_name(self, address: int) -> str:
+        """The source line of an address as `prog.c:21`, of a helper that was put in there as
+        `prog.c:21 (threads.h:34)`; empty where the file says none."""
+        inner, outer = self.place(address), self.outer_place(address)
+        if inner is None or outer is None:
+            return ''
+        return outer.name if outer == inner else f'{outer.name} ({inner.name})'
+
+    def outer_spot(self, address: int) -> str:
+        """An address as function+offset, and its source line as `line_name` says it."""
+        name = self.line_name(address)
+        return self.where(address) + (f', {name}' if name else '')
+
+    def outer_source(self, address: int) -> list[str]:
+        """The text of its source line, and before it that of the line in which a helper was put in."""
+        places = dict.fromkeys(filter(None, (self.outer_place(address), self.place(address))))
+        return [f'{place.name}  {self.lines.text(place)}'.rstrip() for place in places]
+
     def variable_at(self, address: int) -> Variable | None:
         """The variable that has the byte at an address."""
         index = bisect_right(self.variable_starts, address)
@@ -206,6 +238,15 @@ class Program:
         name = found and self.layout.name(found.name, found.address, address - found.address, size)
         is_all = found and (found.address, found.size) == (address, size)
         return name or f'{self.variable(address)}{"" if is_all else f":{size}"}'
+
+    def members(self, address: int, size: int) -> list[tuple[str, int, int]]:
+        """The members that make up just so many bytes, where they are two to four, and no text: name, address
+        and size."""
+        end = address + size
+        parts = [part for part in self.parts(address, end) if address <= part[1] and part[1] + part[2] <= end]
+        lengths = [length for _, _, length in parts]
+        is_whole = sum(lengths) == size and 1 < len(parts) <= MOST_MEMBERS and max(lengths) > 1
+        return parts if is_whole and size <= WORD else []
 
     def find_number(self, value: int, size: int) -> str:
         """A value of so many bytes in words: a small one in decimal, with a sign where that makes it small;

@@ -12,6 +12,7 @@ from .values import Values
 
 INTERRUPTIONS = (PREEMPT, SIGNAL, TAKE, RUN)
 SIZE = 4
+LEFT, COMMITTED = 'left', 'committed'
 
 
 def list_sequences(values: Values, thread: int | None, is_with_values: bool) -> Iterator[str]:
@@ -20,16 +21,18 @@ def list_sequences(values: Values, thread: int | None, is_with_values: bool) -> 
     history, steps = values.history, values.history.output.steps
     every = sequences(values.trace)
     chosen = [ended for ended in every if thread in (None, steps[ended.first - 1].thread)]
-    rows = [(ended, steps[ended.first - 1], words_of(values, ended)) for ended in chosen]
-    width = max((len(words) for _, _, words in rows), default=0)
-    yield f'{"steps":>15}  {"thread":>6}  {"hart":>4}  {"sequence":<{width}}  how it ended'
-    for ended, first, words in rows:
+    rows = [(ended, steps[ended.first - 1], words_of(values, ended), place_of(values, ended)) for ended in chosen]
+    width = max((len(words) for _, _, words, _ in rows), default=len('sequence'))
+    places = max(len('source'), *(len(place) for *_, place in rows), 0)
+    yield f'{"steps":>15}  {"thread":>6}  {"hart":>4}  {"sequence":<{width}}  {"source":<{places}}  how it ended'
+    for ended, first, words, place in rows:
         span = f'{ended.first} to {ended.last}'
-        yield f'{span:>15}  {first.thread:>6}  {first.hart:>4}  {words:<{width}}  {ending(history, ended)}'
+        shown = f'{span:>15}  {first.thread:>6}  {first.hart:>4}  {words:<{width}}  {place:<{places}}'
+        yield f'{shown}  {ending(values, ended)}'
         if is_with_values:
             yield from accesses(values, ended)
     yield ''
-    yield f'{counted(chosen)}; end {history.output.end}'
+    yield f'{counted(values, chosen)}; end {history.output.end}'
 
 
 def sequences(trace: Trace) -> list[SequenceEnds]:
@@ -47,28 +50,52 @@ def accesses(values: Values, ended: SequenceEnds) -> Iterator[str]:
             yield f'{step.number:>15}  {deed(values.history, step)}  {words}'
 
 
+def begun(values: Values, ended: SequenceEnds) -> SequenceBegins:
+    return values.trace.records[ended.first - 1].first(SequenceBegins)
+
+
 def words_of(values: Values, ended: SequenceEnds) -> str:
     """A sequence by the names of its first instruction and of its last."""
-    program, begun = values.history.program, values.trace.records[ended.first - 1].first(SequenceBegins)
-    first, last = program.where(begun.start), program.where(begun.start + begun.length - SIZE)
-    return f'{first} to {last}, {begun.length // SIZE} instructions'
+    program, range_ = values.history.program, begun(values, ended)
+    first, last = program.where(range_.start), program.where(last_of(range_))
+    return f'{first} to {last}, {range_.length // SIZE} instructions'
 
 
-def ending(history: History, ended: SequenceEnds) -> str:
-    """How a sequence ended, and where its thread stood."""
-    program, last = history.program, history.output.steps[ended.last - 1]
-    match ended.form:
+def place_of(values: Values, ended: SequenceEnds) -> str:
+    """The source line of a sequence; of one in a helper, first that of the file that was compiled."""
+    return values.history.program.line_name(begun(values, ended).start)
+
+
+def last_of(range_: SequenceBegins) -> int:
+    """The last instruction of a sequence, which commits it."""
+    return range_.start + range_.length - SIZE
+
+
+def form_of(values: Values, ended: SequenceEnds) -> str:
+    """How a sequence ended: in place of `left` it is `committed` where its last instruction was executed."""
+    last = values.history.output.steps[ended.last - 1]
+    is_whole = last.kind == EXEC and last.pc == last_of(begun(values, ended))
+    return COMMITTED if ended.form == LEFT and is_whole else ended.form
+
+
+def ending(values: Values, ended: SequenceEnds) -> str:
+    """How a sequence ended, and where its thread was."""
+    history, program = values.history, values.history.program
+    last = history.output.steps[ended.last - 1]
+    match form_of(values, ended):
+        case 'committed':
+            return COMMITTED
         case 'left':
-            return f'left at {program.spot(last.pc)}'
+            return f'left at {program.where(last.pc)}'
         case 'cut':
             by = interruption(history, ended)
             goes_on = '' if ended.abort is None else f'; goes on at {program.where(ended.abort)}'
-            return f'cut before {program.spot(by.pc)}, by {by.kind} (step {by.number}){goes_on}'
+            return f'cut before {program.where(by.pc)} by {by.kind} (step {by.number}){goes_on}'
         case 'dropped':
-            return f'dropped behind {program.spot(last.pc)}: what the area names changed'
+            return f'dropped behind {program.where(last.pc)}: what the area names changed'
         case 'dead':
-            return f'ended the process at {program.spot(last.pc)}'
-    return f'not over where the log ends, at {program.spot(last.pc)}'
+            return f'ended the process at {program.where(last.pc)}'
+    return f'not over where the log ends, at {program.where(last.pc)}'
 
 
 def interruption(history: History, ended: SequenceEnds) -> Step:
@@ -78,8 +105,8 @@ def interruption(history: History, ended: SequenceEnds) -> Step:
     return next((step for step in own if step.kind in INTERRUPTIONS), later[0])
 
 
-def counted(ended: list[SequenceEnds]) -> str:
+def counted(values: Values, ended: list[SequenceEnds]) -> str:
     """How many sequences there are, and how many of them ended how."""
-    forms = [one.form for one in ended]
+    forms = [form_of(values, one) for one in ended]
     parts = [f'{forms.count(form)} {form}' for form in dict.fromkeys(forms)]
     return f'{len(ended)} sequences' + (f': {", ".join(parts)}' if parts else '')

@@ -2,14 +2,16 @@
 from __future__ import annotations
 
 from bisect import bisect_right
+from collections.abc import Iterator
 from dataclasses import dataclass
 from functools import cache
 from pathlib import Path, PurePosixPath
 
-from elftools.common.exceptions import DWARFError, ELFError
+from elftools.dwarf.compileunit import CompileUnit
+from elftools.dwarf.lineprogram import LineProgram
 from elftools.elf.elffile import ELFFile
 
-from .faults import LensFault
+from .dwarf import FAULTS, attribute, text, units
 
 DWARF_WITH_DIRECTORY_ZERO = 5
 
@@ -36,16 +38,32 @@ class Row:
 
 
 class Lines:
-    """The line tables of a file."""
+    """The line tables of a file. What can't be read of them lacks: `lacking` says what, and why."""
 
     def __init__(self, elf: ELFFile, path: str):
         self.path = Path(path).resolve()
-        try:
-            rows = list(line_rows(elf)) if elf.has_dwarf_info() else []
-        except (DWARFError, ELFError, KeyError, IndexError) as error:
-            raise LensFault(f'{path}: its line tables can\'t be read ({error})') from None
-        self.rows = sorted(rows, key=lambda row: (row.address, row.place is not None))
+        self.lacking: list[str] = []
+        self.rows = sorted(self.read(elf), key=lambda row: (row.address, row.place is not None))
         self.addresses = [row.address for row in self.rows]
+
+    def read(self, elf: ELFFile) -> list[Row]:
+        """The rows of all units that can be read."""
+        rows: list[Row] = []
+        try:
+            for unit in units(elf):
+                rows += self.read_unit(unit)
+        except FAULTS as error:
+            self.lacking.append(f'all after these ({words_of(error)})')
+        return rows
+
+    def read_unit(self, unit: CompileUnit) -> list[Row]:
+        name = 'a unit without a name'
+        try:
+            name = text(attribute(unit.get_top_DIE(), 'name')) or name
+            return list(unit_rows(unit))
+        except FAULTS as error:
+            self.lacking.append(f'{name} ({words_of(error)})')
+            return []
 
     def at(self, address: int) -> Place | None:
         index = bisect_right(self.addresses, address)
@@ -67,22 +85,29 @@ def read_lines(named: PurePosixPath, roots: tuple[Path, ...]) -> tuple[str, ...]
     return tuple(found.read_text(errors='replace').splitlines()) if found else ()
 
 
-def line_rows(elf: ELFFile):
-    """The rows of all line tables, with one of no place at the end of each stretch of code."""
-    info = elf.get_dwarf_info()
-    for unit in info.iter_CUs():
-        program = info.line_program_for_CU(unit)
-        if program is None:
-            continue
-        folder = unit.get_top_DIE().attributes.get('DW_AT_comp_dir')
-        folder = folder.value.decode() if folder else ''
-        states = (entry.state for entry in program.get_entries() if entry.state is not None)
-        for state in states:
-            named = None if state.end_sequence or not state.line else file_name(program, state.file)
-            yield Row(state.address, Place(folder, named, state.line) if named else None)
+def unit_rows(unit: CompileUnit) -> Iterator[Row]:
+    """The rows of a unit's line table, with one of no place at the end of each stretch of code."""
+    program = unit.dwarfinfo.line_program_for_CU(unit)
+    if program is None:
+        return
+    folder = folder_of(unit)
+    states = (entry.state for entry in program.get_entries() if entry.state is not None)
+    for state in states:
+        named = None if state.end_sequence or not state.line else file_name(program, state.file)
+        yield Row(state.address, Place(folder, named, state.line) if named else None)
 
 
-def file_name(program, number: int) -> str:
+def folder_of(unit: CompileUnit) -> str:
+    """Where the compiler ran."""
+    return text(attribute(unit.get_top_DIE(), 'comp_dir'))
+
+
+def words_of(error: Exception) -> str:
+    """What a fault of the library says, on one line."""
+    return ' '.join(str(error.args[0] if error.args else '').split()) or type(error).__name__
+
+
+def file_name(program: LineProgram, number: int) -> str:
     """The path of a file of a line table. Before DWARF 5 files and directories count from 1, and
     directory 0 is the compiler's own."""
     header = program.header

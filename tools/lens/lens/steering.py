@@ -16,7 +16,8 @@ A line of it is empty, a comment (`# ..`, also behind an event), an event as in 
     HART exec all                instructions until one isn't allowed: stores wait and it is a call or a fence,
                                  or the thread has left the hart, or the process is over
     repeat K ORDER               that order K times
-    finish                       the rest of the run, by the rule of `draw`
+    finish                       the rest of the run, by the rule of `draw`, and fairly after 4,096 events
+    finish calm N                the same, and fairly after N events (1,000,000 at most)
 
 PLACE is a function or label, function+0x10, file.c:21, or an address 0x10140.
 """
@@ -30,8 +31,8 @@ from .faults import LensFault
 from .history import History, make_history
 from .instructions import Instruction
 from .listing import deed
-from .machine import Machine
-from .output import DONE, DRAIN, EXEC, HARTS, KINDS, PREEMPT, RUN, SIGNAL, TAKE, Step
+from .machine import CALM, MOST_CALM, Machine
+from .output import DONE, DRAIN, EXEC, HARTS, KINDS, PC_DIGITS, PREEMPT, RUN, SIGNAL, TAKE, Step
 from .place import HartPlace
 from .program import Program
 
@@ -62,6 +63,8 @@ class Order:
     goes: bool = False
     """Whether stores enter memory where the event needs it."""
     repeats: int = 1
+    calm: int = CALM
+    """After how many events of the rule the rest goes on fairly."""
 
     @property
     def event(self) -> str:
@@ -137,6 +140,8 @@ def read_order(path: str, number: int, words: str) -> Order:
             return replace(order, words=words, repeats=int(times))
         case ['finish']:
             return Order(number, words, 0, FINISH)
+        case ['finish', 'calm', calm] if COUNT.fullmatch(f'#{calm}') and int(calm) <= MOST_CALM:
+            return Order(number, words, 0, FINISH, calm=int(calm))
         case [hart, *rest] if is_hart(hart):
             order = order_of_hart(number, words, int(hart), rest)
             if order is not None:
@@ -145,7 +150,8 @@ def read_order(path: str, number: int, words: str) -> Order:
         f'{path}, line {number}: {words!r} is no order; orders are "0 run 1", "0 exec", "0 exec x8", '
         '"0 exec until main+0x10", "0 exec all", "0 drain", "0 drain all", "0 preempt", "0 signal", "0 take", '
         '"0 done", "0 go", "0 go until main+0x10", "0 go until main #2", "0 go preempt", '
-        '"0 drain until main.c:9", "repeat 3 0 go until main #2", "finish"'
+        '"0 drain until main.c:9", "repeat 3 0 go until main #2", "finish", '
+        '"finish calm 16384"'
     )
 
 
@@ -170,6 +176,11 @@ def order_of_hart(number: int, words: str, hart: int, rest: list[str]) -> Order 
         case ['go', kind] if kind in NO_WAITING:
             return Order(number, words, hart, kind, goes=True)
     return None
+
+
+def pc_of(line: bytes) -> int:
+    """The pc of a log line."""
+    return int(line[-PC_DIGITS:], 16)
 
 
 def is_hart(word: str) -> bool:
@@ -204,7 +215,7 @@ class Steering:
                 self.script.lines += [order.event] * self.times(order)
 
     def finish(self, order: Order) -> None:
-        answer = self.machine.finish(self.script.lines)
+        answer = self.machine.finish(self.script.lines, order.calm)
         if isinstance(answer, int):
             raise self.fault(order, f'line {answer} of the script was taken before, and is refused now')
         self.script.lines = [step.short_line() for step in answer.steps]
@@ -292,8 +303,8 @@ class Steering:
         if not allowed:
             raise self.refusal(order, before + 1)
         self.script.lines += [order.event] * allowed
-        answer = self.machine.play(self.script.lines)
-        return [] if isinstance(answer, int) else [step.pc for step in answer.steps[before:]]
+        answer = self.machine.play_outline(self.script.lines)
+        return [] if isinstance(answer, int) else [pc_of(line) for line in answer.lines[before:]]
 
     # What the machine says
 
@@ -321,7 +332,7 @@ class Steering:
 
     def allowed_of(self, order: Order, count: int) -> int:
         """How many of `count` events of an order the machine takes."""
-        answer = self.machine.play(self.script.lines + [order.event] * count)
+        answer = self.machine.play_outline(self.script.lines + [order.event] * count)
         return answer - 1 - len(self.script.lines) if isinstance(answer, int) else count
 
     def times_until(self, order: Order, places: set[int]) -> int:

@@ -7,7 +7,9 @@ from operator import attrgetter
 
 from .history import History
 from .listing import source
+from .machine import CALM, Machine
 from .output import DONE, DRAIN, EXEC, PREEMPT, RUN, SIGNAL, TAKE, Step, shown_console
+from .place import HartPlace
 
 TURNS_TOLD = 4
 
@@ -18,18 +20,36 @@ class Telling:
     """Writes a run as a steer: orders for its first steps, with comments that say what each part does, and
     `finish`."""
 
-    def __init__(self, history: History, parts: list[int], by_end: bool):
-        """`parts` has for each of the first steps the number of the part that it belongs to."""
+    def __init__(
+        self,
+        history: History,
+        parts: list[int],
+        machine: Machine,
+        by_end: bool,
+        calm: int,
+        unfinished: str | None,
+    ):
+        """`parts` has for each of the first steps the number of the part that it belongs to; `unfinished` is
+        what is to be said of a search that was stopped."""
         self.history = history
         self.program = history.program
         self.steps = history.output.steps
         self.parts = parts
+        self.machine = machine
         self.by_end = by_end
+        self.calm = calm
+        self.unfinished = unfinished
 
-    def steer(self) -> Iterator[str]:
+    def steer(self, is_counted: bool = False) -> list[str]:
+        """The lines of the steer. Its orders name places, or they count events."""
+        return list(self.lines(is_counted))
+
+    def lines(self, is_counted: bool) -> Iterator[str]:
         output = self.history.output
         console = '' if self.by_end else f', console {shown_console(output.console)}'
         yield f'# A run with the end "{output.end}"{console}. Made by `lens shrink`.'
+        if self.unfinished:
+            yield f'# {self.unfinished}.'
         orders: list[str] = []
         turns = list(self.turns())
         for (first, last), following in zip(turns, [*turns[1:], None]):
@@ -37,20 +57,27 @@ class Telling:
                 orders.append(self.steps[first - 1].short_line())
                 continue
             order, comments = self.told(first, last)
+            made = list(self.counted(first, last)) if is_counted else [order]
             if following is None or self.steps[following[0] - 1].hart != self.steps[first - 1].hart:
                 comments += self.late_stores(self.steps[first - 1].hart, last)
             yield from (f'# {comment}' for comment in comments)
-            yield from [*orders, order]
+            yield from [*orders, *made]
             orders = []
         yield from orders
         yield f'# The rest of the run, by the rule of `finish`: {self.rest()}.'
-        yield 'finish'
+        yield 'finish' if self.calm == CALM else f'finish calm {self.calm}'
 
     def rest(self) -> str:
         """Which threads go on behind the orders, in turn: the first of them."""
         late = [step for step in self.steps[len(self.parts) :] if step.kind == EXEC]
         turns = [f'thread {thread} on hart {hart}' for (thread, hart), _ in groupby(late, thread_and_hart)]
         return ', '.join([*turns[:TURNS_TOLD], '..'] if len(turns) > TURNS_TOLD else turns) or 'nothing'
+
+    def counted(self, first: int, last: int) -> Iterator[str]:
+        """The orders of a turn that count its events."""
+        for (hart, kind), same in groupby(self.steps[first - 1 : last], attrgetter('hart', 'kind')):
+            times = len(list(same))
+            yield f'{hart} {kind}' + (f' x{times}' if times > 1 else '')
 
     def turns(self) -> Iterator[tuple[int, int]]:
         """The first and the last step of each turn: instructions as `go` makes them, drains, or another
@@ -89,7 +116,7 @@ class Telling:
 
     def instructions(self, first: int, last: int) -> tuple[str, list[str]]:
         """A turn of a thread, and where it leads."""
-        begin, place = self.steps[first - 1], self.pc_behind(last)
+        begin, place = self.steps[first - 1], self.pc_after(last)
         goes = f'Thread {begin.thread} goes on hart {begin.hart}'
         if place is None:
             return f'{begin.hart} go', [f'{goes}, for as long as it can.']
@@ -107,11 +134,20 @@ class Telling:
         groups = ((text, len(list(same))) for text, same in groupby(map(self.store, stores)))
         return [f'{words}{f" ({count} times)" if count > 1 else ""}: {text}' for text, count in groups]
 
-    def pc_behind(self, last: int) -> int | None:
+    def pc_after(self, last: int) -> int | None:
         """Where the thread of a step stands on its hart behind it; None where it has left the hart there."""
         step = self.steps[last - 1]
         after = next((other for other in self.steps[last:] if other.hart == step.hart and other.thread), None)
-        return after.pc if after and after.thread == step.thread and after.kind != RUN else None
+        if after is None:
+            return self.pc_at_end(step)
+        return after.pc if after.thread == step.thread and after.kind != RUN else None
+
+    def pc_at_end(self, step: Step) -> int | None:
+        """Where the thread of the last step of a hart stands there after it: another thread may end the
+        process first."""
+        place = self.machine.inspect([step.short_line() for step in self.steps[: step.number]])
+        here = place.harts.get(step.hart, HartPlace())
+        return here.pc if here.thread == step.thread and not place.is_over else None
 
     def waiting(self, hart: int, last: int) -> list[Step]:
         """Which stores of a hart wait behind a step."""

@@ -99,8 +99,18 @@ class Values:
 
     def put(self, at: int, size: int, value: int) -> str:
         """What stands in some bytes."""
+        return ', '.join(f'{name} = {number}' for name, number in self.held(at, size, value))
+
+    def held(self, at: int, size: int, value: int) -> list[tuple[str, str]]:
+        """What each variable or member in some bytes holds, which are one, or two or more members."""
         program = self.history.program
-        return f'{program.bytes_of(at, size)} = {program.number(value, size)}'
+        parts = program.members_of(at, size) or [(program.bytes_of(at, size), at, size)]
+        values = [value >> 8 * (start - at) & ((1 << 8 * length) - 1) for _, start, length in parts]
+        return [(name, program.number(one, length)) for (name, _, length), one in zip(parts, values)]
+
+    def before(self, at: int, size: int, old: int) -> str:
+        """What was in some bytes before a write; of two or more members, of each."""
+        return ' and '.join(number for _, number in self.held(at, size, old))
 
     def of_fact(self, fact: Fact, is_read: bool) -> str:
         """A write, or an SC that failed. Behind a read the place of a write isn't named again."""
@@ -110,9 +120,9 @@ class Values:
             case Wrote():
                 at, size, value, old, _ = fact
                 if is_read:
-                    return f'then {self.number(value, size)}'
+                    return f'then {self.before(at, size, value)}'
                 put = self.put(at, size, value)
-                return put if old is None else f'{put} in place of {self.number(old, size)}'
+                return put if old is None else f'{put} in place of {self.before(at, size, old)}'
             case Zeroed(at, length):
                 return f'{length} bytes of 0 at {self.history.program.variable(at)}'
             case Reservation('failed', at):

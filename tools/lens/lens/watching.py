@@ -99,7 +99,7 @@ def written(values: Values, step: Step, fact: Waits | Wrote | Zeroed) -> Access:
             if not values.is_own(step):
                 return Access(step, KERNEL, at, size, value, values.event(step))
             store = f'store of step {line}' if step.kind == DRAIN else values.mnemonic(step)
-            source = f'{store}, in place of {values.number(old or 0, size)}'
+            source = f'{store}, in place of {values.before(at, size, old or 0)}'
             return Access(step, ENTERS, at, size, value, source)
 
 
@@ -126,8 +126,9 @@ def cells(values: Values, range_: Range, access: Access) -> tuple[str, str, str,
     """The value, with the place of an access that isn't to all of the bytes alone; where it came from; where
     its instruction stands."""
     program, step = values.history.program, access.step
-    value = values.number(access.value, access.size)
-    if (access.at, access.size) != (range_.at, range_.size):
-        value = f'{values.place(access.at, access.size)} = {value}'
+    is_all = (access.at, access.size) == (range_.at, range_.size)
+    is_one = len(values.held(access.at, access.size, 0)) == 1
+    put = values.put(access.at, access.size, access.value)
+    value = values.number(access.value, access.size) if is_all and is_one else put
     pc = values.history.drained[step.number].pc if step.kind == DRAIN else step.pc
     return value, access.source, program.where(pc), program.source(pc)

@@ -2,6 +2,7 @@
 assembled here."""
 from __future__ import annotations
 
+import shutil
 import subprocess
 import unittest
 from pathlib import Path
@@ -49,6 +50,7 @@ def objdump_version() -> str:
 
 
 needs_objdump = unittest.skipUnless(objdump_version().startswith(OBJDUMP), f'objdump isn\'t {OBJDUMP}')
+needs_gcc = unittest.skipUnless(shutil.which('riscv64-unknown-elf-gcc'), 'there is no gcc for RISC-V')
 needs_program = unittest.skipUnless(PROGRAM.is_file(), f'{PROGRAM} isn\'t built')
 
 
@@ -81,6 +83,16 @@ def assemble(folder: Path, source: str) -> Path:
     text.write_text(f'.globl _start\n_start:\n{source}\n')
     toolchain('as', '-march=rv64ima', '-mabi=lp64', '-mno-relax', '-o', made, text)
     toolchain('ld', f'-Ttext={START:#x}', '-o', elf, made)
+    return elf
+
+
+def compile_c(folder: Path, source: str, *options: str) -> Path:
+    """A C program by gcc, with the headers of the examples and source lines."""
+    text, elf, common = folder / 'made.c', folder / 'made.elf', EXAMPLES / 'common'
+    text.write_text(source)
+    flags = ('-g', '-march=rv64ima', '-mabi=lp64', '-O2', '-ffreestanding', '-msmall-data-limit=0', '-nostdlib', '-static')
+    files = (f'-I{common}', '-Wl,-no-pie', '-o', elf, common / 'start.S', common / 'memory.c', text, '-lgcc')
+    toolchain('gcc', *flags, *options, *files)
     return elf
 
 

@@ -9,7 +9,7 @@ KEPT = {
     'peterson/found': [
         'Thread 1 called exit at _start+0x18, start.S:14 (step 276): the process exited with 1.',
         'The last line on the console is \'count 1: an addition is lost\'.',
-        'Thread 1 wrote last, at main+0xd4, calls.h:13 (step 266).',
+        'Thread 1 wrote last, at main+0xd4, peterson.c:47 (calls.h:13) (step 266).',
     ],
     'percpu_counter_wrong_signature/killed': [
         'SIGSEGV (11) killed thread 2 on hart 1, by the `run`, at addv+0x1c, percpu_counter.c:31 (step 110).',
@@ -24,11 +24,18 @@ KEPT = {
         'SIGSEGV (11) killed thread 2 on hart 1, at store_late+0x18, pages.c:52 (step 655).',
         '    pages.c:52  *shared = \'x\';',
         '`sb a5,0(a4)` is about the byte at 0x2000002000: no page is there, or one that doesn\'t allow it.',
+        'No page is there since munmap by thread 1 in step 640, 15 steps before, at main+0x1e0, pages.c:76 (threads.h:34).',
     ],
     'ring_wake_lost/asleep': [
         'Each live thread waits in a futex, and nobody is left to wake one.',
-        'Thread 1 waits at consumer_sleeps, since sleep_while+0x3c, threads.h:34 (step 128).',
-        'Thread 2 waits at producer_sleeps, since sleep_while+0x3c, threads.h:34 (step 116).',
+        'Thread 1 waits at consumer_sleeps, since sleep_while+0x3c, ring_wake.c:28 (threads.h:34) (step 128).',
+        '    The word is still 1: the last to write it was the store of step 120 by thread 1, at sleep_while+0x20, '
+        'ring_wake.c:22.',
+        '    No wake of it came after step 128.',
+        'Thread 2 waits at producer_sleeps, since sleep_while+0x3c, ring_wake.c:28 (threads.h:34) (step 116).',
+        '    The word is still 1: the last to write it was the store of step 108 by thread 2, at sleep_while+0x20, '
+        'ring_wake.c:22.',
+        '    No wake of it came after step 116.',
     ],
     'threads/sleeps': [
         'The script is over and the run isn\'t: `lens inspect` says what may come next.',
@@ -68,7 +75,95 @@ abort:
     nop
 """
 
+WAKE_AND_SLEEP = """
+    la s0, word
+    mv a0, s0
+    li a1, 1
+    li a2, 1
+    li a7, 98
+    ecall
+    li t0, 7
+    sw t0, 0(s0)
+    mv a0, s0
+    li a1, 0
+    li a2, 7
+    li a3, 0
+    ecall
+    .data
+word:
+    .long 0
+"""
+MAP_TWO = """
+    li a0, 0
+    li a1, 8192
+    li a2, 3
+    li a3, 0x22
+    li a4, -1
+    li a5, 0
+    li a7, 222
+    ecall
+    mv s0, a0
+"""
+"""mmap of two pages"""
+PROTECT_TWO = f'{MAP_TWO}\nli a1, 4096\nli a2, 1\nli a7, 226\necall\nnop\nsd zero, 8(s0)'
+UNMAP_TWO = f'{MAP_TWO}\nli a1, 5000\nli a7, 215\necall\nld a0, 0(s0)\n'
+BREAK = """
+    li a0, 0
+    li a7, 214
+    ecall
+    mv s0, a0
+    li t0, 4096
+    add a0, s0, t0
+    ecall
+    mv a0, s0
+    ecall
+    sd zero, 8(s0)
+"""
+
+
+def printed(line: str) -> str:
+    """write(1, LINE) and EBREAK."""
+    write = f'li a0, 1\nla a1, text\nli a2, {len(line) + 1}\nli a7, 64\necall\nebreak'
+    return f'{write}\n.data\ntext: .ascii "{line}\\n"'
+
+
+REGISTER = 'mv a0, s0\nli a1, 32\nli a2, 0\nli a3, 0\nli a7, 293\necall'
+"""rseq(s0, 32, 0, 0)"""
+MAP = 'li a0, 0\nli a1, 4096\nli a2, 3\nli a3, 0x22\nli a4, -1\nli a5, 0\nli a7, 222\necall\nmv s0, a0'
+"""s0 is the address of a new page."""
+PROTECT = 'mv a0, s0\nli a1, 4096\nli a2, {prot}\nli a7, 226\necall\nagain: j again'
+UNMAP = 'mv a0, s0\nli a1, 4096\nli a7, 215\necall\nagain: j again'
+HANDLE_SEGV = HANDLE.replace('li a0, 10', 'sd zero, -56(sp)\nsd zero, -48(sp)\nli a0, 11')
+"""rt_sigaction(SIGSEGV, ..)"""
+MASK_SEGV = 'li t0, 1024\nsd t0, -64(sp)\nli a0, 0\naddi a1, sp, -64\nli a7, 135\necall'
+
 SMALL = {
+    printed('prog.c:31: check failed: count == 2 (1, 2)'): 'The check at prog.c:31 failed: count == 2 (1, 2).',
+    printed('free: 0x20 was freed before'): "The last line on the console is 'free: 0x20 was freed before'.",
+    WAKE_AND_SLEEP: '    No wake of it came after step 16; the last came before, by thread 1 in step 8, at _start+0x18.',
+    f'{WAKE_AND_SLEEP} # once more': '    The word is still 7: the last to write it was the store of step 10 by thread 1, at ',
+    PROTECT_TWO: 'The page has PROT_READ since mprotect by thread 1 in step 14, 2 steps before, at _start+0x30.',
+    UNMAP_TWO: 'No page is there since munmap by thread 1 in step 14, 1 step before, at _start+0x30.',
+    BREAK: 'No page is there since brk by thread 1 in step 10, 1 step before, at ',
+    f'{MAP}\n{REGISTER}\n{PROTECT.format(prot=1)}': (
+        'At this `run` the words of its area for restartable sequences at 0x2000000000 couldn\'t be written.\n'
+        'Thread 1 made its page read-only by mprotect in step 21, at _start+0x4c.\n'
+    ),
+    f'{MAP}\n{REGISTER}\n{PROTECT.format(prot=0)}': 'Thread 1 made its page unreadable by mprotect in step 21',
+    f'{MAP}\n{REGISTER}\n{UNMAP}': (
+        '`rseq_cs` or `flags` of its area can\'t be read, or `rseq_cs` can\'t be written.\n'
+        'Thread 1 removed its page by munmap in step 20, at _start+0x48.\n'
+    ),
+    f'la s0, _start\nandi s0, s0, -32\n{REGISTER}': (
+        'It called rseq, and the words of its area for restartable sequences at 0x10060 couldn\'t be written.\n'
+        'The file loads that as r-x, and no mprotect or munmap changed it.\n'
+    ),
+    f'li s0, 0x40000\n{REGISTER}': 'The file has no page there, and no mprotect or munmap changed it.',
+    'li sp, 64\nli a7, 139\necall': 'It called rt_sigreturn, and the frame at sp, 0x40, can\'t be read.',
+    f'{HANDLE_SEGV}\n{MASK_SEGV}\nld a0, 8(zero)': 'It masks SIGSEGV, so no handler of that is entered.',
+    f'{HANDLE_SEGV}\nli sp, 64\n{SEND.replace("a2, 10", "a2, 11")}': (
+        'SIGSEGV was to be delivered, and its frame can\'t be written below sp, 0x40.'
+    ),
     SEND: 'The signal was pending for it, and nothing handles it.',
     f'{HANDLE}\nli sp, 64\n{SEND}': 'SIGUSR1 was to be delivered, and its frame can\'t be written below sp, ',
     IN_SEQUENCE: 'It called rseq: no call may be made inside a restartable sequence.',

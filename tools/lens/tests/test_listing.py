@@ -98,7 +98,7 @@ class Listing(unittest.TestCase):
     def test_a_word_that_is_no_subject(self):
         answer = lens('list', FOUND, PETERSON, '--only', 'drains,switch')
         self.assertEqual(answer.returncode, 2)
-        self.assertIn(b'invalid list of switches, drains', answer.stderr)
+        self.assertIn(b"there is no word 'switch'; the nearest is switches", answer.stderr)
 
     def test_a_step_that_is_not_there(self):
         answer = lens('list', FOUND, PETERSON, '--around', 277)
@@ -142,7 +142,8 @@ class Seeds(unittest.TestCase):
         with tempfile.TemporaryDirectory() as folder:
             program = Path(folder) / 'program'
             program.write_text(
-                f'#!/bin/sh\n[ "$*" = "draw {PETERSON} --seed=57 --harts=2" ] && cat {FOUND} || exit 2\n'
+                f'#!/bin/sh\n[ "$*" = "draw {PETERSON} --seed=57 --harts=2" ] && cat {FOUND} && exit\n'
+                'echo "rseq_run: no such words" >&2; exit 2\n'
             )
             program.chmod(0o755)
             drawn = lens('list', '--seed', 57, PETERSON, '--harts', 2, '--program', program, '--hart', 1)

@@ -4,13 +4,14 @@ import unittest
 from pathlib import Path
 
 from lens.history import History
+from lens.marks import Marks as Marking
 from lens.output import parse_output
 from lens.program import Program
 from lens.races import list_races, races
 from lens.trace_text import parse_trace
 from lens.values import Values
 
-from .common import FOUND, GOLDEN, PETERSON, START, assemble, output_text, values
+from .common import EXAMPLES, FOUND, GOLDEN, PETERSON, START, assemble, compile_c, lens, needs_gcc, needs_program, output_text, values
 
 CODE = {
     'store': 'sd a0, 0(a1)',
@@ -212,6 +213,70 @@ class Golden(unittest.TestCase):
         """The variables by which the lock waits, and the counter that it doesn't keep."""
         listed = '\n'.join(list_races(values(FOUND, PETERSON, 'found.trace')))
         self.assertEqual(f'{listed}\n', (GOLDEN / 'found.races').read_text())
+
+
+MARKED = """#include "threads.h"
+#include "calls.h"
+static struct thread other;
+static struct { int plain, atomic; volatile int often; } cells[2];
+static int seen;
+static void run(void *own) {
+    (void)own;
+    cells[1].plain = 1;
+    __atomic_store_n(&cells[1].atomic, 1, __ATOMIC_SEQ_CST);
+    cells[1].often = 1;
+}
+int main(void) {
+    start_thread(&other, run, 0);
+    for (int at = 1; at >= 0; at--) {
+        seen += cells[at].plain;
+        seen += __atomic_load_n(&cells[at].atomic,
+                                __ATOMIC_SEQ_CST);
+        seen += cells[at].often;
+    }
+    join_thread(&other);
+    return 0;
+}
+"""
+
+
+class Marks(unittest.TestCase):
+    @needs_gcc
+    def test_statements(self):
+        """A line that reads atomically and stores plainly has both."""
+        with tempfile.TemporaryDirectory() as name:
+            program = Program(str(compile_c(Path(name), MARKED)))
+            marks = Marking(program)
+            at = {one.name: one.address for one in program.variables}
+            for line, place, due in (
+                (8, at['cells'] + 12, ''),
+                (9, at['cells'] + 16, 'atomic'),
+                (10, at['cells'] + 20, 'volatile'),
+                (16, at['cells'] + 4, 'atomic'),
+                (16, at['seen'], ''),
+            ):
+                with self.subTest(line=line, place=place - at['cells']):
+                    (pc, *_) = program.addresses(f'made.c:{line}')
+                    self.assertEqual(marks.mark(pc, place, 4), due)
+
+    def test_what_nothing_marks_is_kept(self):
+        with tempfile.TemporaryDirectory() as folder:
+            elf = assemble(Path(folder), '\n'.join(CODE.values()))
+            events, due = ROWS['nothing']
+            listed = list(list_races(told(elf, events), is_plain=True))
+        self.assertEqual((listed[0], len(due)), ('0x20000, once:', 1))
+        self.assertEqual(listed[-2], '1 pair of lines that nothing orders in this run; end open')
+
+    @needs_program
+    def test_indices_and_members(self):
+        text = lens('races', '--seed', 3, EXAMPLES / 'hazard' / 'hazard.elf').stdout.decode()
+        self.assertIn('readers[0].hazard, 3 times:', text)
+
+    def test_plain(self):
+        """Each variable of this lock is volatile."""
+        listed = list(list_races(values(FOUND, PETERSON, 'found.trace'), is_plain=True))
+        said = '5 pairs of lines that nothing orders in this run; 5 of them are on purpose on both sides, and left out; end exit 1'
+        self.assertEqual(listed[:-1], [said])
 
 
 if __name__ == '__main__':

@@ -1,59 +1,180 @@
-"""`lens shrink`: the kept steers of two runs, which lead to the same end; and which drains are foreseen."""
+"""`lens shrink`: how stretches are left out and put together, over runs that are made up; which drains are
+foreseen; the kept steers of two runs, which lead to the same end; and searches that are stopped."""
+import signal
+import subprocess
 import tempfile
 import unittest
-from dataclasses import replace
 from pathlib import Path
 
 from lens.foresight import Foresight
-from lens.output import DRAIN, EXEC, PREEMPT, RUN
-from lens.stretches import FORESEEN, Event, Stretch, joined, placed, script_of, stretches_of
+from lens.output import DRAIN, EXEC, PREEMPT, RUN, Outline
+from lens.progress import Progress
+from lens.reducing import Reducing
+from lens.stopping import Stop, Stopped
+from lens.stretches import (
+    FORESEEN,
+    Piece,
+    Stretch,
+    cost_of,
+    in_turn,
+    joined,
+    script_of,
+    split_at,
+    stretches_of,
+)
+from lens.trials import Run, Trials
 
-from .common import EXAMPLES, GOLDEN, PETERSON, found, lens, needs_program
+from .common import EXAMPLES, GOLDEN, LENS, PETERSON, PROGRAM, found, lens, needs_program, toolchain
 
 HAZARD = EXAMPLES / 'hazard_plain'
+COMMON = EXAMPLES / 'common'
+TRAP = Path(__file__).with_name('trap.c')
+OPTIONS = '-g -march=rv64ima -mabi=lp64 -O2 -ffreestanding -msmall-data-limit=0 -nostdlib -static -Wl,-no-pie'
+
+
+def script(stretches):
+    """The lines of a script that makes stretches of threads whose ways aren't known."""
+    return script_of(Foresight.__new__(Nothing).pieces(enumerate(stretches))).decode().splitlines()
+
+
+class Nothing(Foresight):
+    """Knows no way."""
+
+    ways = {}
 
 
 class Stretches(unittest.TestCase):
     def test_events_go_where_their_thread_runs(self):
-        events = [
-            Event(0, 0, RUN, 1),
-            Event(1, 0, EXEC, 1),
-            Event(2, 0, PREEMPT, 1),
-            Event(3, 1, RUN, 1),
-            Event(4, 1, EXEC, 1),
-            Event(5, 0, PREEMPT, 2),
+        stretches = [
+            Stretch(0, RUN, 1, 1),
+            Stretch(0, EXEC, 1, 1),
+            Stretch(0, PREEMPT, 1, 1),
+            Stretch(1, RUN, 1, 1),
+            Stretch(1, EXEC, 1, 1),
+            Stretch(0, PREEMPT, 2, 1),
         ]
-        made = placed(events)
-        self.assertEqual(script_of(made), ['0 run 1', '0 exec', '0 preempt', '1 run 1', '1 exec'])
-        without_move = placed(events[:2] + events[4:])
-        self.assertEqual(script_of(without_move), ['0 run 1', '0 exec', '0 exec'])
-        self.assertEqual(script_of(placed(events[:3] + events[4:])), ['0 run 1', '0 exec', '0 preempt'])
+        self.assertEqual(script(stretches), ['0 run 1', '0 exec', '0 preempt', '1 run 1', '1 exec'])
+        self.assertEqual(script(stretches[:2] + stretches[4:]), ['0 run 1', '0 exec', '0 exec'])
+        self.assertEqual(script(stretches[:3] + stretches[4:]), ['0 run 1', '0 exec', '0 preempt'])
 
     def test_stretches_of_one_thread_are_joined(self):
         first, second, other = Stretch(0, EXEC, 1, 3), Stretch(1, EXEC, 1, 4), Stretch(1, EXEC, 2, 1)
         self.assertEqual(joined((first, second, other)), (Stretch(0, EXEC, 1, 7), other))
+        self.assertEqual(in_turn((first, other, second), (2, 1)), (other, Stretch(0, EXEC, 1, 7)))
+
+    def test_pieces_are_split_at_an_event(self):
+        pieces = [Piece(0, 0, EXEC, 1, 3), Piece(1, 0, DRAIN, 1, 2)]
+        self.assertEqual(split_at(pieces, 2), ([Piece(0, 0, EXEC, 1, 2)], pieces[0]))
+        self.assertEqual(split_at(pieces, 3), (pieces[:1], pieces[1]))
+        self.assertEqual(split_at(pieces, 4), ([pieces[0], Piece(1, 0, DRAIN, 1, 1)], pieces[1]))
 
     def test_drains_come_where_they_are_needed(self):
         """Those of a run without its own drains are foreseen: none is early, and each call has its stores
         before it in memory."""
         steps = found().output.steps
         kept = tuple(one for one in stretches_of(steps) if one.kind != DRAIN)
-        events = Foresight(found()).events(kept)
-        drains = [event for event in events if event.kind == DRAIN]
-        self.assertEqual(len(drains), sum(step.kind == DRAIN for step in steps))
-        others = [event for number, stretch in enumerate(kept) for event in stretch.events(number)]
-        self.assertEqual([event for event in events if event.kind != DRAIN], placed(others))
+        pieces = Foresight(found()).pieces(enumerate(kept))
+        self.assertEqual(cost_of(pieces).drains, sum(step.kind == DRAIN for step in steps))
+        others = [piece for piece in pieces if piece.kind != DRAIN]
+        self.assertEqual(script_of(others), script_of(Nothing.pieces(Nothing.__new__(Nothing), enumerate(kept))))
 
     def test_early_drains_are_found(self):
-        """Step 12 is behind a store whose thread is preempted next, and step 74 before a load."""
+        """Step 12 comes after a store whose thread is preempted next, and step 74 before a load."""
         steps = found().output.steps
-        events = [Event(number, step.hart, step.kind, step.thread) for number, step in enumerate(steps)]
-        foresight = Foresight(found())
+        lines = [step.line().encode() for step in steps]
+        pieces = [Piece(step.number, step.hart, step.kind, step.thread) for step in steps]
         for step, is_early in ((12, False), (74, True)):
             at = step - 1
-            changed = events[:at] + [replace(events[at], origin=FORESEEN)] + events[at + 1 :]
+            changed = pieces[:at] + [pieces[at]._replace(origin=FORESEEN)] + pieces[at + 1 :]
             with self.subTest(step=step):
-                self.assertEqual(foresight.first_early(changed, steps), at if is_early else None)
+                self.assertEqual(Foresight(found()).first_early(changed, lines), at if is_early else None)
+
+    def test_a_way_that_goes_elsewhere_is_found_again(self):
+        """The nearest instruction with an address is taken, before or after."""
+        way = Foresight(found()).ways[1]
+        pc = way.pcs[5]
+        visits = way.visits[pc]
+        self.assertEqual(way.nearest(pc, visits[0]), visits[0])
+        self.assertEqual(way.nearest(pc, visits[-1] + 3), visits[-1])
+        self.assertEqual(way.nearest(b'0' * 16, 0), -1)
+
+
+def steps_of(text):
+    """Stretches of one instruction each: a letter is a thread."""
+    return tuple(Stretch(0, EXEC, ord(letter), 1) for letter in text)
+
+
+def text_of(stretches):
+    return ''.join(chr(stretch.thread) * stretch.count for stretch in stretches)
+
+
+class Reduced(unittest.TestCase):
+    """Searches over runs that are made up: what holds is a matter of the letters."""
+
+    def trials(self, is_wanted, stop=None, at_once=1):
+        def attempt(stretches):
+            if not is_wanted(text_of(stretches)):
+                return None
+            return Run(stretches, [Piece(0, *one) for one in stretches], Outline('it', b'', [], 'exit 1'))
+
+        return Trials(attempt, stop or Stop(), Progress(None), at_once)
+
+    def shrunk(self, text, is_wanted, at_once=1):
+        trials = self.trials(is_wanted, at_once=at_once)
+        return text_of(Reducing(trials).shrink(steps_of(text))), trials
+
+    def test_what_does_not_matter_is_left_out(self):
+        text, trials = self.shrunk('abcdefgh' * 40, lambda text: 'c' in text and 'f' in text[text.find('c') :])
+        self.assertEqual(text, 'cf')
+        self.assertLess(trials.count, 60)
+
+    def test_a_long_run_takes_few_trials(self):
+        """Three of 30,000 stretches matter."""
+        run = list('ab' * 15_000)
+        run[9_000] = run[15_000] = run[29_000] = 'c'
+        text, trials = self.shrunk(''.join(run), lambda text: text.count('c') == 3)
+        self.assertEqual(text, 'ccc')
+        self.assertLess(trials.count, 120)
+
+    def test_switches_are_taken_out_before_instructions(self):
+        """Each thread has to make all that it makes, and b begins before the last a."""
+        run = 'ab' * 64
+
+        def is_wanted(text):
+            return text.count('a') == 64 == text.count('b') and text.find('b') < text.rfind('a')
+
+        text, trials = self.shrunk(run, is_wanted)
+        self.assertIn(len(stretches_in(text)), (2, 3))
+        self.assertLess(trials.count, 150)
+
+    def test_how_many_are_tried_at_once_changes_nothing(self):
+        def is_wanted(text):
+            return text.count('a') >= 3 and 'ba' in text
+
+        answers = [self.shrunk('abcd' * 30, is_wanted, at_once) for at_once in (1, 2, 4)]
+        self.assertEqual(len({text for text, _ in answers}), 1)
+        self.assertEqual(len({trials.count for _, trials in answers}), 1)
+
+    def test_the_best_is_kept_where_the_search_is_stopped(self):
+        trials = self.trials(lambda text: 'c' in text, Stop(tries=5))
+        with self.assertRaises(Stopped):
+            Reducing(trials).shrink(steps_of('abcdefgh' * 40))
+        self.assertLess(len(trials.best.stretches), 320)
+        self.assertIn('c', text_of(trials.best.stretches))
+        self.assertEqual((trials.stop.reason, trials.stop.status), ('the limit of 5 trials', 0))
+
+
+def stretches_in(text):
+    return joined(steps_of(text))
+
+
+def failing(elf, seeds):
+    """The seeds of runs that end by a trap."""
+    ends = {
+        seed: subprocess.run([PROGRAM, 'draw', elf, f'--seed={seed}'], capture_output=True).stdout.splitlines()[-1]
+        for seed in range(1, seeds + 1)
+    }
+    return [seed for seed, end in ends.items() if end == b'end killed 5']
 
 
 @needs_program
@@ -75,6 +196,46 @@ class Shrunk(unittest.TestCase):
 
     def test_the_store_that_has_to_wait(self):
         self.check(HAZARD / 'freed.output', HAZARD / 'hazard_plain.elf')
+
+    def test_another_thread_ends_the_process_first(self):
+        """Thread 1 stands between two instructions where thread 2 meets the trap: no later step of its hart
+        says where."""
+        with tempfile.TemporaryDirectory() as name:
+            elf, steer = Path(name, 'trap.elf'), Path(name, 'made.steer')
+            toolchain('gcc', *OPTIONS.split(), '-o', elf, COMMON / 'start.S', TRAP)
+            for seed in failing(elf, 9):
+                with self.subTest(seed=seed):
+                    answer = lens('shrink', '--seed', seed, elf, '-o', steer)
+                    self.assertEqual(answer.returncode, 0, answer.stderr)
+                    self.assertIn(' go until ', steer.read_text())
+                    self.assertEqual(lens('steer', steer, elf).returncode, 0)
+                    played = lens('play', Path(name, 'made.script'), elf).stdout
+                    self.assertEqual(played.splitlines()[-1], b'end killed 5')
+
+    def test_a_search_of_one_second(self):
+        answer = lens('shrink', HAZARD / 'freed.output', HAZARD / 'hazard_plain.elf', '--seconds', 1, '--progress')
+        self.assertEqual(answer.returncode, 0, answer.stderr)
+        if b'may be shortened' in answer.stderr:
+            self.assertIn(b'# It may be shortened further: --seconds 1 came after', answer.stdout)
+        self.assertTrue(answer.stdout.splitlines()[-1].startswith(b'finish'))
+
+    def test_a_signal_loses_nothing(self):
+        for number, status in ((signal.SIGINT, 130), (signal.SIGTERM, 143)):
+            words = ['shrink', HAZARD / 'freed.output', HAZARD / 'hazard_plain.elf', '--progress']
+            with self.subTest(number=number), subprocess.Popen(
+                [LENS, *words], stdout=subprocess.PIPE, stderr=subprocess.PIPE
+            ) as running:
+                shown = running.stderr.readline()
+                while b'the best so far: none' in shown:
+                    shown = running.stderr.readline()
+                running.send_signal(number)
+                steer, said = running.communicate(timeout=60)
+                self.assertNotIn(b'Traceback', said)
+                if running.returncode == 0:
+                    continue  # (it was done before the signal came)
+                self.assertEqual(running.returncode, status, said)
+                self.assertIn(b'# It may be shortened further: ', steer)
+                self.assertTrue(steer.splitlines()[-1].startswith(b'finish'))
 
     def test_a_run_that_was_left_open(self):
         answer = lens('shrink', EXAMPLES / 'threads' / 'sleeps.output', EXAMPLES / 'threads' / 'threads.elf')

@@ -6,7 +6,7 @@ from pathlib import Path
 from lens.faults import LensFault
 from lens.watching import Range, watch, watched
 
-from .common import FOUND, GOLDEN, PETERSON, found, lens, values
+from .common import FOUND, GOLDEN, PETERSON, compile_c, found, lens, needs_gcc, needs_program, values
 
 
 class Watching(unittest.TestCase):
@@ -46,6 +46,29 @@ class Watching(unittest.TestCase):
             answer = lens('watch', FOUND, PETERSON, 'count', '--program', program)
         words = f'{program} has no command `trace`, by which this knows what a run read and wrote'
         self.assertEqual((answer.returncode, answer.stderr.decode()), (2, f'lens: {words}\n'))
+
+
+TWO = """
+typedef unsigned long __attribute__((may_alias)) word;
+struct pair { int one; short other, last; } __attribute__((aligned(8))) pair = {1, 2, 3};
+int main(void) { *(volatile word *)&pair = 0xffff000500000004; return 0; }
+"""
+
+
+class TwoMembers(unittest.TestCase):
+    @needs_gcc
+    @needs_program
+    def test_in_one_store(self):
+        """Each member has its value, and what it had before."""
+        now, before = 'pair.one = 4, pair.other = 5, pair.last = -1', '1 and 2 and 3'
+        with tempfile.TemporaryDirectory() as name:
+            elf = compile_c(Path(name), TWO)
+            watched = lens('watch', '--seed', 1, elf, 'pair').stdout.decode()
+            listed = lens('list', '--seed', 1, elf, '--values').stdout.decode()
+        self.assertIn(f'waits   {now}', watched)
+        self.assertRegex(watched, f'enters  {now}  store of step [0-9]+, in place of {before} ')
+        self.assertIn(f'{now}, waits', listed)
+        self.assertIn(f'{now} in place of {before}', listed)
 
 
 if __name__ == '__main__':

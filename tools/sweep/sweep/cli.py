@@ -7,39 +7,40 @@ import shlex
 import sys
 from pathlib import Path
 
-from lens.arguments import add_program, limits_of, positive
+from lens.arguments import add_program, limits_of
+from lens.command_line import FAULT_STATUS, INTERRUPTED_STATUS, Parser, add_version, end, natural, positive
 from lens.faults import LensFault
+from lens.machine import Machine
 from lens.output import shown_console
 
 from .jobs import Parallel, Swept, make_jobs, seconds_of_jobs, sweep_jobs
 from .limits import jobs_that_fit, mebibytes_a_run
-from .records import ELF, RUNS, Folder, Met, Outcome
+from .records import ELF, RUNS, Folder, Met, Outcome, replace
 
-UNEXPECTED_STATUS, FAULT_STATUS, INTERRUPTED_STATUS = 1, 2, 130
+UNEXPECTED_STATUS = 1
 SEEDS = 1 << 64
 
 
 def make_parser() -> argparse.ArgumentParser:
-    parser = argparse.ArgumentParser(
+    parser = Parser(
         prog='sweep',
         description='Runs a program many times, each time with another seed, '
         'and says which outcomes came how often. The same command goes on with a sweep '
         'that was interrupted, and with more runs goes on where it was; with another ELF it begins anew. '
         'Ends with 1 where a run ended otherwise than --expect says.',
     )
+    add_version(parser)
     parser.add_argument('elf', metavar='ELF')
     parser.add_argument('-o', '--out', metavar='FOLDER', required=True, help='where the sweep is kept')
     parser.add_argument('--runs', type=positive, default=1000, metavar='N', help='how many seeds (1000)')
-    parser.add_argument('--first-seed', type=int, default=1, metavar='S', help='the first of them (1)')
+    parser.add_argument('--first-seed', type=natural, default=1, metavar='S', help='the first of them (1)')
     parser.add_argument(
         '--by',
         choices=('draw', 'run'),
         default='draw',
         help='the command: by draw a seed gives one run on each machine; by run it repeats nothing (draw)',
     )
-    parser.add_argument(
-        '--expect', metavar='END', help="how each run is to end, as 'exit 0'"
-    )
+    parser.add_argument('--expect', metavar='END', help="how each run is to end, as 'exit 0'")
     parser.add_argument(
         '--seeds-a-job', type=positive, default=100, metavar='K', help='seeds of one process (100)'
     )
@@ -84,8 +85,10 @@ def asked_of(arguments: argparse.Namespace) -> dict:
 def sweep(arguments: argparse.Namespace) -> int:
     if not 0 <= arguments.first_seed <= SEEDS - arguments.runs:
         raise LensFault(f'a seed is a number from 0 to {SEEDS - 1}')
+    asked = asked_of(arguments)
+    check_first(arguments)
     folder = Folder(arguments.out)
-    if folder.open(asked_of(arguments)):
+    if folder.open(asked):
         print(f'sweep: {folder.path} held the sweep of another ELF; it begins anew', file=sys.stderr)
     mebibytes = mebibytes_a_run(arguments.frames, arguments.steps)
     program, elf = (str(Path(path).resolve()) for path in (arguments.program, arguments.elf))
@@ -100,12 +103,28 @@ def sweep(arguments: argparse.Namespace) -> int:
         )
         return INTERRUPTED_STATUS if swept.was_interrupted else FAULT_STATUS
     table = table_of(swept, folder, arguments)
-    folder.table.write_text(table)
+    keep_table(folder, table)
     print(table, end='')
     print(
         f'\nThe jobs took {seconds_of_jobs(folder):.1f} seconds, added up, with {parallel.jobs_at_once} at once.'
     )
     return UNEXPECTED_STATUS if has_unexpected(swept, arguments.expect) else 0
+
+
+def keep_table(folder: Folder, table: str) -> None:
+    try:
+        replace(folder.table, table.encode())
+    except OSError as error:
+        raise LensFault(f'{folder.table}: {error.strerror}; the same command makes it') from None
+
+
+def check_first(arguments: argparse.Namespace) -> None:
+    """Says in one line what each job would say: that the program is another one, or that it doesn't take the
+    file or a limit. One step of the first run tells."""
+    limits = [word for word in limits_of(arguments) if not word.startswith('--steps=')]
+    machine = Machine(arguments.program, arguments.elf, (*limits, '--steps=1'))
+    machine.check_name()
+    machine.draw(arguments.first_seed)
 
 
 def has_unexpected(swept: Swept, expected: str | None) -> bool:
@@ -142,11 +161,4 @@ def again(outcome: Outcome, met: Met, folder: Folder, arguments: argparse.Namesp
 
 def main() -> int:
     """Does what the words ask; 2 and one line on standard error where it can't."""
-    try:
-        return sweep(make_parser().parse_args())
-    except LensFault as fault:
-        print(f'sweep: {fault}', file=sys.stderr)
-        return FAULT_STATUS
-    except KeyboardInterrupt:
-        print('sweep: interrupted', file=sys.stderr)
-        return INTERRUPTED_STATUS
+    return end('sweep', lambda: sweep(make_parser().parse_args()))

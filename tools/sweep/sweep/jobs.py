@@ -7,13 +7,13 @@ import signal
 import subprocess
 import sys
 from collections.abc import Iterator
-from contextlib import contextmanager
+from contextlib import closing, contextmanager
 from dataclasses import dataclass
 from pathlib import Path
 
 from lens.faults import LensFault
 
-from .records import Folder, Record, Tally, note, read_record
+from .records import Folder, Record, Tally, note, read_record, replace
 
 WORKER = Path(__file__).with_name('worker.py')
 PYTHON = '/usr/bin/python3'
@@ -136,35 +136,59 @@ def sweep_jobs(parallel: Parallel, folder: Folder, jobs: list[Job]) -> Swept:
     for record in kept.values():
         for outcome, met in record.tally.items():
             note(swept.tally, outcome, met)
-    folder.jobs.write_text(''.join(f'{job.first} {job.count}\n' for job in jobs))
-    prune_job_log(folder, {str(job.number) for job in jobs if job.first in kept})
-    with noted_interrupts() as interruption:
-        for record in records_of(parallel.words(folder), interruption):
-            if record.first not in kept:
-                folder.keep(record, swept.tally)
-                kept[record.first] = record
+    try:
+        replace(folder.jobs, ''.join(f'{job.first} {job.count}\n' for job in jobs).encode())
+        prune_job_log(folder, {str(job.number) for job in jobs if job.first in kept})
+        with noted_interrupts() as interruption:
+            keep_records(parallel, folder, swept.tally, kept, interruption)
+    except OSError as error:
+        runs = sum(counts[first] for first in kept)
+        raise LensFault(
+            f'{folder.path}: {error.strerror}; {runs} runs are kept there, and the same command goes on'
+        ) from None
     swept.was_interrupted = interruption.came
     swept.is_whole = all(job.first in kept for job in jobs)
     return swept
 
 
+def keep_records(
+    parallel: Parallel, folder: Folder, tally: Tally, kept: dict[int, Record], interruption: Interruption
+) -> None:
+    """Runs the jobs, and keeps the records of those that have none yet. Where one can't be kept, the jobs are
+    ended."""
+    with closing(records_of(parallel.words(folder), interruption)) as records:
+        for record in records:
+            if record.first not in kept:
+                folder.keep(record, tally)
+                kept[record.first] = record
+
+
 def prune_job_log(folder: Folder, numbers: set[str]) -> None:
-    """Takes jobs out of the job log whose records weren't kept, so that GNU parallel makes them again."""
-    if folder.job_log.exists():
-        heading, *lines = folder.job_log.read_text().splitlines(keepends=True) or ['']
-        left = [line for line in lines if line.endswith('\n') and line.split('\t')[0] in numbers]
-        folder.job_log.write_text(''.join([heading, *left]))
+    """Takes jobs out of the job log whose records weren't kept, so that GNU parallel makes them again; and
+    all of a log whose heading was cut off."""
+    if not folder.job_log.exists():
+        return
+    heading, *lines = folder.job_log.read_text().splitlines(keepends=True) or ['']
+    if not heading.endswith('\n'):
+        folder.job_log.unlink()
+        return
+    left = [line for line in lines if line.endswith('\n') and line.split('\t')[0] in numbers]
+    replace(folder.job_log, ''.join([heading, *left]).encode())
 
 
 def records_of(words: list[str], interruption: Interruption) -> Iterator[Record]:
     """The records that GNU parallel prints, as they come; after an interruption, those that it still
-    prints."""
+    prints. Where no more of them are wanted, it is interrupted."""
     with subprocess.Popen(words, stdin=subprocess.DEVNULL, stdout=subprocess.PIPE, text=True) as running:
         interruption.watch(running)
-        for line in running.stdout:
-            record = read_record(line)
-            if record:
-                yield record
+        try:
+            for line in running.stdout:
+                record = read_record(line)
+                if record:
+                    yield record
+        except GeneratorExit:
+            running.send_signal(signal.SIGINT)
+            raise
 
 
 def seconds_of_jobs(folder: Folder) -> float:

@@ -202,7 +202,11 @@ class Folder:
 
 
 def replace(path: Path, content: bytes) -> None:
-    """Writes a file whole, or leaves the one that was there."""
+    """Writes a file whole, or leaves the one that was there, and nothing beside it."""
     beside = path.with_name(path.name + '.new')
-    beside.write_bytes(content)
-    os.replace(beside, path)
+    try:
+        beside.write_bytes(content)
+        os.replace(beside, path)
+    except OSError:
+        beside.unlink(missing_ok=True)
+        raise

@@ -1,8 +1,12 @@
 """The sweep over a program that stands in for rseq_run (stand_in.py): one seed in seven loses."""
 from __future__ import annotations
 
+import errno
 import json
 import os
+import re
+import shlex
+import shutil
 import signal
 import subprocess
 import tempfile
@@ -10,6 +14,7 @@ import time
 import unittest
 from pathlib import Path
 
+from lens.faults import LensFault
 from lens.output import read_output
 from sweep.jobs import Job, Parallel, make_jobs, sweep_jobs
 from sweep.limits import available_mebibytes, jobs_that_fit, mebibytes_a_run
@@ -33,6 +38,28 @@ class InterruptedFolder(Folder):
     def keep(self, record: Record, tally: Tally) -> None:
         os.kill(os.getpid(), signal.SIGINT)
         super().keep(record, tally)
+
+
+class FullFolder(Folder):
+    """A folder on a disk that is full behind the second record."""
+
+    def keep(self, record: Record, tally: Tally) -> None:
+        if len(self.records()) == 2:
+            raise OSError(errno.ENOSPC, os.strerror(errno.ENOSPC))
+        super().keep(record, tally)
+
+
+SMALL_DISKS = 'unshare', '--map-root-user', '--mount', 'sh', '-c'
+"""How a command may mount a disk of a few pages of its own."""
+
+
+def has_small_disks() -> bool:
+    """Whether this machine lets somebody mount one."""
+    mount = 'mount -t tmpfs -o size=4k tmpfs /mnt'
+    return shutil.which('unshare') is not None and not subprocess.run([*SMALL_DISKS, mount], capture_output=True).returncode
+
+
+needs_small_disks = unittest.skipUnless(has_small_disks(), 'no disk can be mounted here')
 
 
 class Sweeps(unittest.TestCase):
@@ -251,7 +278,7 @@ class Sweeps(unittest.TestCase):
     def test_words(self):
         for more, said in (
             (('--runs', '0'), 'number from 1 on'),
-            (('--first-seed', '-1'), 'a seed is a number from 0'),
+            (('--first-seed', '-1'), "'-1' is no number from 0 on"),
             (('--first-seed', str(2**64)), 'a seed is a number from 0'),
             (('--program', self.room / 'nothing'), 'No such file or directory'),
         ):
@@ -259,6 +286,70 @@ class Sweeps(unittest.TestCase):
                 answer = self.sweep('-o', self.room / 'swept', *more)
                 self.assertEqual(answer.returncode, FAULT_STATUS)
                 self.assertIn(said, answer.stderr)
+
+    def test_one_line_of_a_file_that_is_no_elf(self):
+        """And of another program: what each job would say is said once."""
+        said = f"sweep: {STAND_IN} can't draw {self.elf}: status 7, \"fault memory\"\n"
+        self.file('0 1')
+        answer = self.sweep('-o', self.room / 'swept')
+        self.assertEqual((answer.returncode, answer.stdout, answer.stderr), (FAULT_STATUS, '', said))
+        answer = self.sweep('-o', self.room / 'swept', '--program', '/bin/true')
+        self.assertEqual((answer.returncode, answer.stdout), (FAULT_STATUS, ''))
+        self.assertEqual(answer.stderr.count('\n'), 1)
+        self.assertIn('/bin/true is another program than rseq_run', answer.stderr)
+        self.assertFalse((self.room / 'swept').exists())
+
+    def test_a_reader_that_stops(self):
+        line = f'{shlex.join(self.words("-o", self.room / "swept"))} | true'
+        answer = subprocess.run(['sh', '-c', line], capture_output=True, timeout=300)
+        self.assertEqual((answer.returncode, answer.stderr), (0, b''))
+
+    @needs_small_disks
+    def test_a_full_disk(self):
+        """Status 2 and one line; with room again the same command goes on."""
+        disk, whole = self.room / 'disk', self.room / 'whole'
+        disk.mkdir()
+        self.sweep('-o', whole)
+        for blocks in (4, 20):
+            with self.subTest(blocks=blocks):
+                words = shlex.join(self.words('-o', disk / 'swept', '--jobs', 1))
+                first = f'mount -t tmpfs -o size={blocks}k tmpfs {disk} && {{ {words}; echo STATUS $?; }}'
+                later = f'mount -o remount,size=1m {disk} && {words}'
+                ran = subprocess.run([*SMALL_DISKS, f'{first} && {later}'], capture_output=True, text=True, timeout=300)
+                self.assertEqual(ran.returncode, 0, ran.stderr)
+                status, _, table = ran.stdout.partition('\n')
+                self.assertEqual(status, f'STATUS {FAULT_STATUS}')
+                self.assertRegex(ran.stderr, r'\Asweep: .*: No space left on device.*\n\Z')
+                self.assertEqual(table.splitlines()[2:4], (whole / 'table.txt').read_text().splitlines()[2:4])
+
+    def test_a_full_disk_of_the_table(self):
+        with open('/dev/full', 'w') as full:
+            answer = subprocess.run(self.words('-o', self.room / 'swept'), stdout=full, stderr=subprocess.PIPE, timeout=300)
+        said = b'sweep: standard output: No space left on device\n'
+        self.assertEqual((answer.returncode, answer.stderr), (FAULT_STATUS, said))
+
+    def test_a_record_that_cannot_be_kept(self):
+        """As on a full disk: what was kept before stays, and the jobs end."""
+        folder = FullFolder(self.room / 'swept')
+        folder.open({})
+        parallel = Parallel(1, 1, [], ['300', str(STAND_IN), 'draw', str(self.elf)])
+        said = f'{folder.path}: No space left on device; {2 * SEEDS_A_JOB} runs are kept there, and the same command goes on'
+        with self.assertRaisesRegex(LensFault, re.escape(said)):
+            sweep_jobs(parallel, folder, make_jobs(1, RUNS, SEEDS_A_JOB))
+        self.assertEqual(len(folder.records()), 2)
+        later = Folder(folder.path)
+        self.assertTrue(sweep_jobs(parallel, later, make_jobs(1, RUNS, SEEDS_A_JOB)).is_whole)
+
+    def test_a_job_log_that_was_cut_off(self):
+        """Without its whole heading it is left out, and nothing is missed."""
+        folder = self.room / 'swept'
+        self.sweep('-o', folder)
+        table = self.table(folder)
+        for left in (b'', b'Seq\tHo'):
+            (folder / 'job.log').write_bytes(left)
+            (folder / 'results').write_text(''.join((folder / 'results').read_text().splitlines(keepends=True)[:2]))
+            self.assertEqual(self.sweep('-o', folder).returncode, 0)
+            self.assertEqual(self.table(folder), table)
 
     def test_the_last_seeds_of_all(self):
         folder = self.room / 'swept'

@@ -2,8 +2,8 @@
 
 use super::shown::Shown;
 use crate::conditions::Cause;
+use call_reasons::LineFault;
 use mach_types::Entry;
-use outcomes::LineFault;
 use std::alloc::AllocError;
 use std::fmt::Write;
 use std::str;

@@ -1,8 +1,8 @@
 //! Why a program's file is refused, for a person.
 
 use super::shown::Shown;
+use call_reasons::{ElfPlace, Span};
 use elf_load::ElfFault;
-use outcomes::{ElfPlace, Span};
 use std::alloc::AllocError;
 use std::fmt;
 use std::fmt::Write;

@@ -1,8 +1,9 @@
 //! What is wrong with the words of a command line, for a person.
 
+use super::Nearest;
 use super::shown::Shown;
-use crate::usage::{push_help, push_usage};
-use command_words::WordsFault;
+use crate::usage::{look_at_options, push_help, push_usage};
+use command_words::{COMMANDS, WordsFault};
 use std::alloc::AllocError;
 use std::fmt::Write;
 
@@ -17,7 +18,8 @@ const SPANS: &str =
     "AT:LENGTH, or several of these one comma apart: an address of 1 to 16 hexadecimal digits in lower case, \
     and a number of bytes from 1 to 65536, none of them past the last address";
 
-/// Appends what is wrong with the words, and the usage; where they ask for help, what each command does too.
+/// Appends what is wrong with the words, in one line. Where no command is named, the usage stands below it; where the words ask for
+/// help, what each command does too.
 pub(crate) fn push_words_fault(
     text: &mut String,
     fault: WordsFault,
@@ -28,12 +30,18 @@ pub(crate) fn push_words_fault(
         WordsFault::UnknownCommand if is_for_help => {
             text.push_str("no command is named; these are there:\n")?
         }
+        WordsFault::UnknownOption(_) if is_for_help => {
+            push_word(text, fault, words)?;
+            text.push_str("there is no such option\n")?;
+        }
         _ => {
             push_word(text, fault, words)?;
-            push_complaint(text, fault, word_at(words, 1))?;
+            push_complaint(text, fault, words)?;
         }
     }
-    push_usage(text)?;
+    if is_for_help || matches!(fault, WordsFault::NoCommand) {
+        push_usage(text)?;
+    }
     if is_for_help {
         push_help(text)?;
     }
@@ -70,8 +78,12 @@ fn push_word(text: &mut String, fault: WordsFault, words: &[String]) -> Result<(
 }
 
 /// Appends what is said of the word that is wrong.
-fn push_complaint(text: &mut String, fault: WordsFault, command: &str) -> Result<(), AllocError> {
-    let command = Shown(command);
+fn push_complaint(
+    text: &mut String,
+    fault: WordsFault,
+    words: &[String],
+) -> Result<(), AllocError> {
+    let command = Shown(word_at(words, 1));
     match fault {
         WordsFault::NotTaken(_) => writeln!(text, "{command} has no such option"),
         WordsFault::OneNameTooMany(_) => writeln!(text, "a name too many for {command}"),
@@ -80,8 +92,17 @@ fn push_complaint(text: &mut String, fault: WordsFault, command: &str) -> Result
             "the value isn't a number from {least} to {most}, of 20 digits at most"
         ),
         WordsFault::NoCommand => text.push_str("there is no command\n"),
-        WordsFault::UnknownCommand => text.push_str("there is no such command\n"),
-        WordsFault::UnknownOption(_) => text.push_str("there is no such option\n"),
+        WordsFault::UnknownCommand => {
+            text.push_str("there is no such command")?;
+            push_meant(text, nearest_command(word_at(words, 1)))
+        }
+        WordsFault::UnknownOption(number) => {
+            text.push_str("there is no such option")?;
+            push_meant(
+                text,
+                nearest_option(word_at(words, number), word_at(words, 1)),
+            )
+        }
         WordsFault::Twice(_) => text.push_str("the option is given twice\n"),
         WordsFault::NoValue(_) => {
             text.push_str("its value is missing; a value doesn't begin with -\n")
@@ -105,6 +126,34 @@ fn push_complaint(text: &mut String, fault: WordsFault, command: &str) -> Result
         WordsFault::NoGuest => text.push_str("the name of the guest is missing\n"),
         WordsFault::NoSize => text.push_str("the size of the guest is missing\n"),
     }
+}
+
+/// Appends which word may have been meant, or how to see all of them, and ends the line.
+fn push_meant(text: &mut String, meant: Option<&str>) -> Result<(), AllocError> {
+    match meant {
+        Some(word) => writeln!(text, "; did you mean {word}?"),
+        None => text.push_str("; rseq_run --help shows what there is\n"),
+    }
+}
+
+/// The command that is nearest to a word.
+fn nearest_command<'a>(word: &'a str) -> Option<&'a str> {
+    let mut nearest = Nearest::to(word);
+    for command in COMMANDS {
+        nearest.look_at(command);
+    }
+    nearest.found()
+}
+
+/// The option of a command that is nearest to a word. A word may have its value behind a `=`.
+fn nearest_option<'a>(word: &'a str, command: &str) -> Option<&'a str> {
+    let option = match word.split_once('=') {
+        Some((option, _)) => option,
+        None => word,
+    };
+    let mut nearest = Nearest::to(option);
+    look_at_options(&mut nearest, command);
+    nearest.found()
 }
 
 /// Whether the words ask for help or for the version, by their first word or by an option. The grammar has

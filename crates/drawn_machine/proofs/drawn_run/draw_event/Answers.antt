@@ -7,6 +7,7 @@ use Rattle.drawings.specs.declared.drawing.Drawing.{Drawing}
 use Rattle.block_model.specs.Deciding.{end_of, history}
 use Rattle.block_model.specs.Setting.{Seen}
 use Rattle.drawn_machine.specs.OnTheWay.{GoesOn, IsOnAWay}
+use Rattle.drawn_machine.specs.Overtaken.{overtakes}
 use Rattle.drawn_machine.specs.Preemptions.{leaves_inside}
 use Rattle.drawn_machine.specs.Scenes.{scene_of}
 use Rattle.drawn_machine.proofs.Inside.{none_leaves}
@@ -48,3 +49,12 @@ returns-in-None-clause-inside c =
     let e = c.draw_next.result.entry in
     c.draw_next.ensures.inside
     ∙ ap (λ (v : Seen). leaves_inside v.setting (history v.setting v.log) e.hart.0 e.kind) c.in-None.ensures.machine
+
+pub returns-in-Some-clause-overtakes : goal.returns-in-Some-clause-overtakes
+returns-in-Some-clause-overtakes c = sym c.in-Some.ensures.loads_not
+
+pub returns-in-None-clause-overtakes : goal.returns-in-None-clause-overtakes
+returns-in-None-clause-overtakes c =
+    let e = c.draw_next.result.entry in
+    c.draw_next.ensures.overtakes
+    ∙ ap (λ (v : Seen). overtakes v.setting (history v.setting v.log) e.hart.0 e.kind) c.in-None.ensures.machine

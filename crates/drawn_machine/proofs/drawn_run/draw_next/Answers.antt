@@ -52,3 +52,13 @@ returns-clause-drawn c m way =
     subst (λ (v : Seen). IsOnItsWay m v c.next_drawn.new.self) (sym c.in-Ok.ensures.ok)
     (way_more m c.args.machine.now c.args.drawing.now c.next_drawn.new.self c.in-Some.event c.in-Ok.entry next c.next_drawn.ensures.kept
     (sym c.in-Ok.is ∙ c.step.ensures.answer))
+
+pub overtakes-overtakes-requires : goal.overtakes-overtakes-requires
+overtakes-overtakes-requires c =
+    let way = c.requires.drawn in
+    of_its_machine way.0 c.args.machine.now c.args.drawing.now c.in-Some.event (record {
+      range = c.requires.limits;
+      way = way.1;
+      unended = c.requires.unended;
+      drawn = sym c.in-Some.is ∙ c.next_drawn.ensures.event;
+    })

@@ -1,15 +1,18 @@
 use Rattle.std.proofs.Common.{◌+◌, ◌<◌, ◌++◌, ◌∙◌, List, ap, arith, length, subst, sym}
 use Rattle.mach_types.specs.Events.{choice_of}
 use Rattle.mach_types.specs.declared.events.Entry.{Entry}
+use Rattle.block_model.specs.Deciding.{end_of}
 use Rattle.block_model.specs.Setting.{Seen}
+use Rattle.event_facts.specs.Killing.{told_at}
 use Rattle.event_facts.specs.Telling.{here_on, past_of}
 use Rattle.event_facts.specs.Trace.{facts_after, trace_of}
 use Rattle.event_facts.specs.declared.facts.Fact.{Fact}
 use Rattle.event_facts.proofs.Due.{due, few_lines, line_is, past_after}
 use Rattle.event_facts.proofs.KernelDeeds.{not_plain}
 use Rattle.event_facts.proofs.KernelFacts.{kernel_lines, kernel_told}
+use Rattle.event_facts.proofs.Killings.{killed_told}
 use Rattle.event_facts.proofs.LinesOfBytes.{is_latest}
-use Rattle.event_facts.proofs.Lists.{three_pieces}
+use Rattle.event_facts.proofs.Lists.{four_pieces}
 use Rattle.event_facts.proofs.kernel_events.tell_kernel.Goals as goal
 
 pub overflow_cast-line : goal.overflow_cast-line
@@ -33,6 +36,12 @@ make_kernel-requires-clause-plain c =
 
 pub make_kernel-requires-clause-call : goal.make_kernel-requires-clause-call
 make_kernel-requires-clause-call c = c.in_ok-before.ensures.before.call
+
+pub why_killing-why-requires-clause-call : goal.why_killing-why-requires-clause-call
+why_killing-why-requires-clause-call c = c.in_ok-before.ensures.before.call
+
+pub why_killing-why-requires-clause-came : goal.why_killing-why-requires-clause-came
+why_killing-why-requires-clause-came c = c.in_ok-before.ensures.before.came
 
 pub push_after-requires : goal.push_after-requires
 push_after-requires c =
@@ -62,13 +71,17 @@ returns-clause-facts c =
     let line = ap (λ (l : List Entry). length l + 1) c.log.ensures ∙ line_is m in
     let same = ap (λ (z : Seen). z.setting) made in
     let past = past_after m m' entry made in
-    three_pieces _ _ _ _ _ _ _
+    four_pieces _ _ _ _ _ _ _ _ _
     c.in_ok-before.ensures.facts
     (c.in_ok-push_after.ensures here is ∙ (λ i. c.push_before.new.facts.items ++ facts_after (same i) (past i) entry here))
     (c.in_ok-push_kernel.ensures
     ∙ ap (λ (l : List Fact). c.push_after.new.facts.items ++ l)
     (kernel_told m m' entry c.requires.run c.requires.decided made c.requires.event _ _ _ _ is.registers.own (c.deref.ensures.value ∙ c.in_ok-reserved.ensures)
     (c.deref-2.ensures.value ∙ c.in_ok-written.ensures.written) line))
+    (c.in_ok-push_killed.ensures
+    ∙ ap (λ (l : List Fact). c.push_kernel.new.facts.items ++ l)
+    ((λ i. told_at (end_of (same i) (past i)) c.why_killing-why.result)
+    ∙ killed_told m.setting (past_of m) entry c.why_killing-why.result c.requires.decided c.why_killing-why.ensures))
 
 pub returns-clause-lines : goal.returns-clause-lines
 returns-clause-lines c =

@@ -1,7 +1,7 @@
 -- A sink that never fails takes the whole line of want of memory, at its status.
 use Rattle.std.proofs.Common.{◌≡◌, inl, inr, ℕ, List, Option, Err, arith}
 use Rattle.std.proofs.lemmas.Option.{IfSome_then}
-use Rattle.outcomes.specs.declared.faults.Fault.TheVariants.{Memory}
+use Rattle.call_reasons.specs.declared.faults.Fault.TheVariants.{Memory}
 use Rattle.outcomes.specs.Answers.{IsTold}
 use Rattle.main_call.proofs.NeverFailing.{sure_of}
 use Rattle.main_call.proofs.sure.sure_quiet.Goals as goal

@@ -2,8 +2,8 @@ use Rattle.std.proofs.Common.{◌≡◌, ◌+◌, ◌*◌, ℕ, List, ap, ap₂,
 use Rattle.std.specs.Option.{option_map}
 use Rattle.byte_views.specs.Words.{word_at}
 use Rattle.elf_load.specs.Fields.{e_phoff}
-use Rattle.outcomes.specs.declared.reasons.ElfPlace.TheVariants.{Segment}
-use Rattle.outcomes.specs.declared.reasons.Span.{Span}
+use Rattle.call_reasons.specs.declared.reasons.ElfPlace.TheVariants.{Segment}
+use Rattle.call_reasons.specs.declared.reasons.Span.{Span}
 use Rattle.outcomes.specs.ElfPlaces.{segment_of, span_of}
 use Rattle.top_call.proofs.ElfPlaces.{header_at}
 use Rattle.top_call.proofs.elf_places.segment_at.Goals as goal

@@ -1,5 +1,5 @@
 use Rattle.std.proofs.Common.{◌≡◌, ◌<◌, ◌≤◌, ℕ, All, subst}
-use Rattle.outcomes.specs.Programs.{most_program_bytes}
+use Rattle.call_reasons.specs.Reasons.{most_program_bytes}
 use Rattle.top_call.proofs.Causes.{passed_up, refused_as, unread_as}
 use Rattle.top_call.proofs.Taken.{program_of}
 use Rattle.top_call.proofs.fetching.taken_as.Goals as goal

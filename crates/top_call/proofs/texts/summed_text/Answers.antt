@@ -18,8 +18,8 @@ pub returns-clause-output : goal.returns-clause-output
 returns-clause-output g c =
     let files = g.S.Shelf.file c.args.shelf.now in
     let asked : Run = record { program = c.args.program.now; source = Script c.args.script.now; shown = Summary; limits = c.args.limits } in
-    output_of_run files asked c.in_ok-files.files.image c.in_ok-run.run'.machine c.in_ok-counted_summary.field-0
+    output_of_run files asked c.in_ok-files.files.image c.in_ok-run.run'.machine c.in_ok-summary_output.field-0
     (run_by_script files files c.args.program.now c.args.script.now c.in_ok-files.files.lines.items c.deref.result.now
     c.args.limits c.in_ok-files.files.image c.in_ok-run.run'.machine refl c.deref.ensures.value
     c.in_ok-files.ensures.taken c.in_ok-files.ensures.read c.in_ok-run.ensures.whole)
-    c.in_ok-counted_summary.ensures
+    c.in_ok-summary_output.ensures

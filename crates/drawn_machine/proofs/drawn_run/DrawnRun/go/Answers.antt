@@ -6,6 +6,7 @@ use Rattle.block_model.specs.Setting.{Seen, Setting}
 use Rattle.block_model.proofs.Laws.{start_run}
 use Rattle.drawn_machine.proofs.DrawnSteps.{less_left, way_first}
 use Rattle.drawn_machine.proofs.Inside.{counted_more, none_at_boot, small_count}
+use Rattle.drawn_machine.proofs.Overtaking.{none_stored, stores_more}
 use Rattle.drawn_machine.proofs.Waiting.{countable, hart_there, next_on, short_now, tracked_first, tracked_more}
 use Rattle.drawn_machine.proofs.drawn_run.DrawnRun.go.Goals as goal
 
@@ -21,6 +22,7 @@ events-init c =
       inside = none_at_boot m empty;
       waits = tracked_first m c.new-waits.result.clocks c.new-waits.result.counts empty
           (omega (arith, c.requires.limits.eight_harts, c.new-waits.ensures.harts)) c.new-waits.ensures.clocks c.new-waits.ensures.counts;
+      stores = c.clear.ensures ∙ none_stored m empty;
     }
 
 pub draw_event-made-requires-clause-limits : goal.draw_event-made-requires-clause-limits
@@ -38,8 +40,8 @@ overflow_add-self c =
     c.events.invariant.inside c.from.ensures in
     omega (arith, few)
 
-pub waiting_on-requires : goal.waiting_on-requires
-waiting_on-requires c =
+pub waiting_on-waiting-requires : goal.waiting_on-waiting-requires
+waiting_on-waiting-requires c =
     let next = next_on c.args.manner.now c.args.self.now.machine.setting c.events.self.machine c.draw_event-made.new.machine
     c.events.drawing c.draw_event-made.new.drawing c.draw_event-made.result.entry c.events.invariant.setting c.requires.limits
     c.draw_event-made.ensures.made c.draw_event-made.ensures.drawn c.events.invariant.way in
@@ -51,11 +53,11 @@ count-requires c =
     c.events.drawing c.draw_event-made.new.drawing c.draw_event-made.result.entry c.events.invariant.setting c.requires.limits
     c.draw_event-made.ensures.made c.draw_event-made.ensures.drawn c.events.invariant.way in
     let fine = countable c.events.self.machine c.draw_event-made.new.machine c.draw_event-made.result.entry c.events.waits.clocks
-    c.events.waits.counts c.waiting_on.result next c.events.invariant.waits c.waiting_on.ensures.count in
+    c.events.waits.counts c.waiting_on-waiting.result next c.events.invariant.waits c.waiting_on-waiting.ensures.count in
     record {
       hart = fine.hart;
       instructions = fine.instructions;
-      waiting = c.waiting_on.ensures.few;
+      waiting = c.waiting_on-waiting.ensures.few;
       one = fine.one;
       few = fine.few;
     }
@@ -72,8 +74,11 @@ events-preserved c =
           c.draw_event-made.result.left_inside c.from.result c.from.ensures c.events.invariant.inside
           c.draw_event-made.ensures.inside c.draw_event-made.ensures.made;
       waits = tracked_more c.events.self.machine c.draw_event-made.new.machine c.draw_event-made.result.entry c.events.waits.clocks
-          c.count.new.self.clocks c.events.waits.counts c.count.new.self.counts c.waiting_on.result next c.events.invariant.waits
-          c.waiting_on.ensures.count c.count.ensures.clocks c.count.ensures.counts;
+          c.count.new.self.clocks c.events.waits.counts c.count.new.self.counts c.waiting_on-waiting.result next c.events.invariant.waits
+          c.waiting_on-waiting.ensures.count c.in_ok-count.ensures.clocks c.in_ok-count.ensures.counts;
+      stores = stores_more c.events.self.machine c.draw_event-made.new.machine c.draw_event-made.result.entry c.events.waits.clocks
+          c.events.waits.counts c.waiting_on-waiting.result c.events.self.stores c.count.new.stores c.draw_event-made.result.overtakes next
+          c.events.invariant.waits c.waiting_on-waiting.ensures.count c.events.invariant.stores c.draw_event-made.ensures.overtakes c.in_ok-count.ensures.stores;
     }
 
 pub events-smaller : goal.events-smaller

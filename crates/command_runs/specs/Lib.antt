@@ -1,4 +1,0 @@
-pub mod Pieces
-pub mod Playing
-pub mod Sharing
-pub mod Tracing

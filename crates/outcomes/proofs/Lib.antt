@@ -1,4 +1,0 @@
-mod Examples
-pub mod PairLogs
-mod PlaceTexts
-mod TraceTexts

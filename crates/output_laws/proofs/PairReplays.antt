@@ -1,0 +1,99 @@
+-- The printed log of a pair, played again.
+use Rattle.std.proofs.Common.{◌≡◌, ℕ, ◌+◌, ◌<◌, ◌≤◌, Bool, true, false, List, [], ◌∷◌, length, Result, Ok, Err, refl, arith, All}
+use Rattle.std.specs.Prelude.{if◌then◌else◌, nat_le}
+use Rattle.std.specs.List.{AllByRecursion}
+use Rattle.std.proofs.lemmas.Bool.{leb-false}
+use Rattle.mach_types.specs.Events.{choice_of}
+use Rattle.mach_types.specs.Limits.{InRange}
+use Rattle.mach_types.specs.declared.events.Choice.{Choice}
+use Rattle.mach_types.specs.declared.events.Entry.{Entry}
+use Rattle.mach_types.specs.declared.events.Why.TheVariants.{NoHart}
+use Rattle.step_log.specs.Grammar.{IsPrintable, log_text}
+use Rattle.block_model.specs.Replay.{script_of}
+use Rattle.block_model.proofs.Laws.{answers_itself}
+use Rattle.shared_procs.specs.Pairs.{Pair, PairSetting, is_over, pair_setting_of, refusal_two}
+use Rattle.shared_procs.specs.PairRuns.{IsPairRun, IsPairRunHistory, PairHistory, entry_two, event_two, pair_after, pair_decide, pair_history, unless_two}
+use Rattle.shared_procs.specs.declared.outcomes.PairRefused.{PairRefused}
+use Rattle.shared_procs.specs.declared.outcomes.PairRefused.TheVariants.{Ended, Full, NotEnabled}
+use Rattle.command_words.specs.Commands.{PairRun}
+use Rattle.outcomes.specs.PairFiles.{IsPairOutput}
+use Rattle.outcomes.specs.Programs.{Files, IsReadAs}
+use Rattle.whole_runs.proofs.PairLogs.{decided, on, pair_digits}
+use Rattle.output_laws.specs.PairEntries.{FitsEntry}
+use Rattle.output_laws.proofs.Repeats.{lines_fit, log_asks, printable, taken_again}
+
+-- A PAIR RUN FITS ITS LIMIT
+
+made_is : (s : PairSetting) (h : PairHistory) → (pair_after s h).made ≡ length h
+made_is s [] = refl
+made_is s (e ∷ before) = let was = made_is s before in omega arith
+
+-- an entry comes where the log has room
+has_room : (s : PairSetting) (m : Pair) (h : ℕ) (c : Choice) (e : Entry) → pair_decide s m h c ≡ Ok e → m.made < s.limits.steps
+has_room s m h c e is =
+    leb-false s.limits.steps m.made
+    (by_tests (is_over m) (nat_le s.limits.steps m.made) (nat_le s.limits.harts h)
+    (unless_two (entry_two s m h c) (refusal_two s m h c)) is)
+  where
+    by_tests : (over full none : Bool) (r : Result Entry PairRefused)
+        → (if over then Err Ended else if full then Err Full else if none then Err (NotEnabled NoHart) else r) ≡ Ok e
+        → full ≡ false
+    by_tests true full none r is = absurd (cc is)
+    by_tests false true none r is = absurd (cc is)
+    by_tests false false none r is = refl
+
+short_on : (s : PairSetting) (h : PairHistory) (log : List Entry) → length h ≤ s.limits.steps → IsPairRunHistory s (on s h log)
+    → length h + length log ≤ s.limits.steps
+short_on s h [] few run = omega arith
+short_on s h (e ∷ log) few run =
+    let room = has_room s (pair_after s h) e.hart.0 (choice_of e) e (decided s h e log run) in
+    let made = made_is s h in
+    let rest = short_on s (event_two s h e ∷ h) log (omega arith) run in
+    omega arith
+
+pair_short : (s : PairSetting) (log : List Entry) → IsPairRun s log → length log ≤ s.limits.steps
+unfolding pair_history
+pair_short s log run = let all = short_on s [] log (omega arith) run in omega arith
+
+-- PLAYED AGAIN
+
+pair_prints : (s : PairSetting) (log : List Entry) → s.limits.harts ≤ 8 → IsPairRun s log → All FitsEntry log
+    → AllByRecursion IsPrintable log
+pair_prints s log eight run fits =
+    let digits = pair_digits s log eight run in
+    printable log (λ k d lt. record { hart = digits k d lt; thread = (fits k d lt).thread; pc = (fits k d lt).pc })
+
+pub pair_again : (files later : Files) (pair : PairRun) (script written : List ℕ) → InRange pair.limits
+    → later pair.first ≡ files pair.first → later pair.second ≡ files pair.second
+    → (output : IsPairOutput files pair written) → All FitsEntry output.seen.log
+    → IsReadAs later script (log_text output.seen.log) → IsPairOutput later (record pair { script = script }) written
+pair_again files later pair script written range first second output fits read =
+    let made = output.made in
+    let log = output.seen.log in
+    let s = pair_setting_of made.one made.two pair.limits in
+    let run = made.run.pair_run in
+    let prints = pair_prints s log range.eight_harts run fits in
+    let few : length log ≤ pair.limits.steps = pair_short s log run in
+    let most = range.most_steps in
+    let long = lines_fit log prints in
+    record {
+      seen = output.seen;
+      made = record {
+        one = made.one;
+        two = made.two;
+        taken = record {
+          first = taken_again files later pair.first pair.limits made.one first made.taken.first;
+          second = taken_again files later pair.second pair.limits made.two second made.taken.second;
+        };
+        setting = made.setting;
+        lines = log_text log;
+        read = record { read = read; fits = omega arith };
+        run = record {
+          lines = script_of log;
+          readable = log_asks log prints;
+          pair_run = run;
+          answers = answers_itself log;
+        };
+      };
+      text = output.text;
+    }

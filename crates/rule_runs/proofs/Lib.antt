@@ -1,0 +1,4 @@
+mod Chosen
+mod RoundTurns
+mod SoloSteps
+mod Stretches

@@ -1,0 +1,5 @@
+pub mod Digits
+mod Examples
+pub mod OutputTexts
+mod PlaceTexts
+mod TraceTexts

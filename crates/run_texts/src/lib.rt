@@ -1,0 +1,8 @@
+//! The texts of runs: what they are (`specs/`), and what several of them are made by.
+#![tactic(auto)]
+
+mod forms;
+mod output;
+
+pub use forms::push_form;
+pub use output::{Log, Output, output_with, push_console, run_output};

@@ -1,0 +1,2 @@
+mod ShownRuns
+mod Summaries

@@ -1,0 +1,3 @@
+mod Hundreds
+mod LineParts
+mod ToldLogs

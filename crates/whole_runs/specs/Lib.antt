@@ -1,0 +1,6 @@
+pub mod Asks
+pub mod BadLines
+pub mod PlayReasons
+pub mod PlayedPairs
+pub mod Rounds
+pub mod Runs

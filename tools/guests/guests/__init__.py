@@ -1,0 +1,1 @@
+"""Makes the guests of `make` and tries the counter, apart from the program."""

@@ -1,0 +1,80 @@
+"""Why nobody wakes a thread that sleeps in a futex, for `lens why`: what its word holds, who wrote it last, and
+whether a wake of it came."""
+from __future__ import annotations
+
+from collections.abc import Iterator
+
+from .facts import SLEEPS, Called, ThreadState, Wrote
+from .output import DRAIN, Step
+from .values import Values
+
+FUTEX, WAKES = 'futex', (1, 129)
+"""FUTEX_WAKE, and FUTEX_WAKE_PRIVATE."""
+WORD = 4
+
+
+def of_sleeper(values: Values, thread: int, word: int) -> Iterator[str]:
+    """What is known of the word at which a thread sleeps, a sentence a line."""
+    slept = last_sleep(values, thread, word)
+    if slept is None:
+        return
+    before, now = value_when_asleep(values, slept), value_now(values, slept, word)
+    is_now = 'is still' if now == before else f'was {before} then, and is {now} now'
+    held = f'{is_now} {before}' if now == before else is_now
+    yield f'    The word {held}: {last_writer(values, word)}.'
+    yield f'    {last_wake(values, slept, word)}.'
+
+
+def last_sleep(values: Values, thread: int, word: int) -> Step | None:
+    """The call at which a thread fell asleep."""
+    for record in reversed(values.trace.records):
+        if ThreadState(thread, SLEEPS, word) in record.facts:
+            return record.step
+    return None
+
+
+def value_when_asleep(values: Values, slept: Step) -> int:
+    """What the word held when its thread fell asleep, since the call compares it with its third argument."""
+    return values.record(slept).first(Called).arguments[2] & 0xFFFF_FFFF
+
+
+def value_now(values: Values, slept: Step, word: int) -> int:
+    """What the word holds at the end: the value when its thread fell asleep, with what was written since."""
+    held = bytearray(value_when_asleep(values, slept).to_bytes(WORD, 'little'))
+    for record in values.trace.records[slept.number :]:
+        for fact in record.of_kind(Wrote):
+            content = fact.value.to_bytes(fact.size, 'little')
+            for at in range(max(word, fact.at), min(word + WORD, fact.at + fact.size)):
+                held[at - word] = content[at - fact.at]
+    return int.from_bytes(held, 'little')
+
+
+def last_writer(values: Values, word: int) -> str:
+    """Who wrote a word last."""
+    for record in reversed(values.trace.records):
+        for fact in record.of_kind(Wrote):
+            if fact.at < word + WORD and word < fact.at + fact.size:
+                step = record.step
+                store = values.history.drained[step.number] if step.kind == DRAIN else step
+                spot = values.history.program.outer_spot(store.pc)
+                return f'the last to write it was the {values.writer(step.number)}, at {spot}'
+    return 'nobody has written it'
+
+
+def last_wake(values: Values, slept: Step, word: int) -> str:
+    """When the last wake of a word came."""
+    wakes = [record.step for record in values.trace.records if is_wake(record.first(Called), word)]
+    later = [step for step in wakes if step.number > slept.number]
+    if later:
+        return f'The last wake of it, by {by(values, later[-1])}, woke others'
+    none_later = f'No wake of it came after step {slept.number}'
+    return f'{none_later}; the last came before, by {by(values, wakes[-1])}' if wakes else none_later
+
+
+def is_wake(called: Called | None, word: int) -> bool:
+    return called is not None and called.name == FUTEX and called.arguments[0] == word and called.arguments[1] in WAKES
+
+
+def by(values: Values, step: Step) -> str:
+    spot = values.history.program.outer_spot(step.pc)
+    return f'thread {step.thread} in step {step.number}, at {spot}'
