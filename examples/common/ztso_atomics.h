@@ -1,5 +1,5 @@
 /* Atomics for a memory of the extension Ztso, to be given by `-include`: the names of GCC's `__atomic_*`, and those on which <stdatomic.h>
- * of GCC and of clang rests. They become the instructions of the psABI's table for Ztso ("RISC-V Atomics ABI"; GCC 14 has the same). A
+ * of GCC and of clang rests. They become the instructions of the psABI's table for Ztso ("RISC-V Atomics ABI"; as we know it, not compared). A
  * compiler that doesn't know Ztso makes AMOs and fences of them that empty the store buffer, so that no store is ever late.
  *
  *     load     relaxed, acquire           load                    seq_cst   fence rw,rw; load
