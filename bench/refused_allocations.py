@@ -6,7 +6,8 @@
 PROGRAM is crates/rseq_run/out/rseq_run where it isn't given. Wants a C compiler, `cc`, for bench/refuse_allocation.c, which stands
 between the program and the C library. Each command line is run once with no refusal, once for each of its allocations with that one
 refused, and once for each with that one and all later ones refused. The program must end with status 7 and `fault memory` (with
-nothing printed while it takes the words of its command line), or give its own status and text. Standard error has a reason exactly
+nothing printed while it takes the words of its command line), or give its own status and text; a search for all outcomes may also say
+at its end that it is unfinished for want of memory. Standard error has a reason exactly
 where the status isn't 0. Ends with 1 at any other answer.
 """
 import collections
@@ -23,6 +24,7 @@ EXAMPLES = ROOT / 'examples'
 RING = EXAMPLES / 'segment_ring'
 WANT = 7, b'fault memory\n'
 NO_WORDS = 7, b''
+UNFINISHED = 0, b'unfinished memory\n'
 
 LINES = [
     ['solo', ROOT / 'crates' / 'rseq_run' / 'data' / 'exit7.elf'],
@@ -38,6 +40,7 @@ LINES = [
     ['draw', EXAMPLES / 'peterson' / 'peterson.elf', '--seed', '2'],
     ['explore', EXAMPLES / 'peterson' / 'peterson.elf', '--runs', '20', '--jobs', '1'],
     ['explore', EXAMPLES / 'peterson' / 'peterson.elf', '--runs', '20', '--jobs', '2'],
+    ['outcomes', EXAMPLES / 'hello' / 'hello.elf', '--harts', '1'],
     ['pair', RING / 'producer.elf', RING / 'consumer.elf', RING / 'found.script'],
     ['pair', RING / 'producer.elf', RING / 'consumer.elf', RING / 'not_taken.script'],
     ['run', EXAMPLES / 'hello' / 'hello.elf', '--harts', '1'],
@@ -58,7 +61,8 @@ def run(program, shim, line, refuse):
     if ran.stderr[:10] != (b'rseq_run: ' if ran.returncode else b''):
         sys.exit(f'{line}, {refuse}: its status is {ran.returncode}, and standard error is {ran.stderr[:60]!r}')
     with os.fdopen(end) as count:
-        return (ran.returncode, ran.stdout), int(count.read())
+        is_unfinished = line[0] == 'outcomes' and ran.returncode == 0 and ran.stdout.endswith(UNFINISHED[1])
+        return UNFINISHED if is_unfinished else (ran.returncode, ran.stdout), int(count.read())
 
 
 def ranges(numbers):
@@ -75,7 +79,8 @@ def ranges(numbers):
 def sweep(program, shim, line):
     """Runs a command line with each refusal, prints what came, and says whether nothing else did."""
     own, count = run(program, shim, line, '0')
-    names = {own: f'its own answer (status {own[0]}, {len(own[1])} bytes)', WANT: 'status 7, fault memory', NO_WORDS: 'status 7, nothing printed'}
+    names = {own: f'its own answer (status {own[0]}, {len(own[1])} bytes)', WANT: 'status 7, fault memory', NO_WORDS: 'status 7, nothing printed',
+             UNFINISHED: 'status 0, unfinished memory'}
     shown = ' '.join(word if isinstance(word, str) else word.name for word in line)
     print(f'{shown}: {count} allocations')
     is_well = True

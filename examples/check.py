@@ -4,7 +4,7 @@
     examples/check.py [PROGRAM [NAME..]]
 
 PROGRAM is crates/rseq_run/out/rseq_run where it isn't given: `rt ci` leaves it there. Where names are given, those alone are run: a
-name of an example, `pairs`, `blocks`, `headers`, `explorations`, or of a group of worked runs (barriers/), or of one of them (barriers/taken_by_an_idle_hart).
+name of an example, `pairs`, `blocks`, `headers`, `explorations`, `real`, or of a group of worked runs (barriers/), or of one of them (barriers/taken_by_an_idle_hart).
 
 For each example NAME:
 - `solo` prints the console of console.expected and the end of end.expected;
@@ -48,9 +48,15 @@ For each worked run crates/worked_runs/data/GROUP/NAME, each line of its file `w
 Standard error says what its `stderr` has, or begins with the line of its `told` at the place of the command line. Those whose devices
 fail (a file `fails`) only crates/worked_runs can make. And crates/worked_runs/data/rows lists just these folders, in order.
 
+Of each line of real/ends.expected so many drawn runs of the program have just these ends.
+
 For each of EXPLORED the line `overtaken N of M` of `explore` is counted again from the logs of its runs (overtaken.py). A long `explore`
-that is interrupted has said what it found, and a seed of each (interrupted.py). And one of whose runs a quarter go round for ever says at
-its end how many ended at the limit, and which limit would be enough.
+that SIGINT or SIGTERM breaks off has said what it found, and a seed of each; on a terminal a line says how far one is
+(interrupted.py). And one of whose runs a quarter go round for ever says at its end how many ended at the limit, and which limit would be
+enough. With `--expect` its text is the same; the status is 1 where a run of Peterson's lock ended otherwise, and 0 of its twin with fences.
+
+Where the reader of a pipe closes it, the program ends with status 6 and says nothing; where a disk is full, it says so, and first what it
+was about to say.
 
 In each call standard error is empty exactly where the status is 0, but for what an `explore` that takes long says there.
 """
@@ -100,8 +106,14 @@ NUMBER_READ = bytes.fromhex('93050000 9308800a 73000000 37040200 03250400')
 GOES_ROUND = bytes.fromhex('37040200 9308800a 73000000 03250400 63100500')
 LIMITED = (b'rseq_run: 68 of 300 runs ended at the limit of 1000000 steps; the longest that ended otherwise has 13: '
            b'--steps 130 would cut them shorter\n')
+# the programs with real libraries, how many runs of each are explored, and their ends
+REAL = HERE / 'real'
+ENDS = re.compile(r'(\S+): (\d+) runs: (.+)')
 SECONDS = 120
-DONE, SCRIPT_REFUSED, UNREAD = 0, 4, 5
+DONE, ENDED_OTHERWISE, SCRIPT_REFUSED, UNREAD, UNWRITTEN = 0, 1, 4, 5, 6
+# what is said of an end that isn't the one that is expected, and of a disk that is full
+OTHERWISE = b'rseq_run: a run ended otherwise: exit 1, seed 4\n'
+FULL = b"rseq_run: standard output can't be written: no storage space\n"
 TAKE_SCRIPT = r"sed -n '/^log /{h;d;};$!H;${g;s/^log [0-9]*\n//p;}'"
 TAKE_PAIR_SCRIPT = r"sed -n '/^log /{h;d;};/^process /d;$!H;${g;s/^log [0-9]*\n//p;}'"
 LOOKS_LIKE_A_LOG = b'console 54\nlog 1\n\x00\xfflog 2\nlog 1\n0 run 1 00000000000100b0\nend open\n\nlog 1\n1 run 1 00000000000100b0\nend open\n'
@@ -661,12 +673,68 @@ def check_limited(program):
     want('what it says at its end', said.splitlines(keepends=True)[-1:], [LIMITED])
 
 
+def check_expected(program):
+    """An end that is expected changes the status alone, and standard error: it is 1 where a run ended otherwise."""
+    for name, due, said_due in [('peterson', ENDED_OTHERWISE, OTHERWISE), ('peterson_fenced', DONE, b'')]:
+        words = 'explore', HERE / name / f'{name}.elf', '--runs', '100'
+        status, text, said = run_whole(program, *words, '--expect', 'exit 0')
+        want(f'the status of {name}', status, due)
+        want(f'what it says of {name}', SAID.sub(b'', said), said_due)
+        want(f'its text of {name}', text, run(program, *words)[1])
+
+
+def left_by_head(program, *words):
+    """The status and the standard error of a call whose standard output is closed behind its first line."""
+    with subprocess.Popen([program, *words], stdin=subprocess.DEVNULL, stdout=subprocess.PIPE, stderr=subprocess.PIPE) as running:
+        running.stdout.readline()
+        running.stdout.close()
+        said = running.stderr.read()
+    return running.returncode, said
+
+
+def on_full_disk(program, *words):
+    """The status and the standard error of a call that can write no byte of standard output."""
+    with open('/dev/full', 'wb') as full:
+        ran = subprocess.run([program, *words], stdin=subprocess.DEVNULL, stdout=full, stderr=subprocess.PIPE, timeout=SECONDS)
+    return ran.returncode, ran.stderr
+
+
+def check_sinks(program):
+    """Of a pipe that its reader has closed nothing is said; of a full disk it is, and first what was to be said."""
+    want('what is left by head', left_by_head(program, 'draw', HERE / 'threads' / 'threads.elf'), (UNWRITTEN, b''))
+    expected = 'explore', HERE / 'peterson' / 'peterson.elf', '--runs', '100', '--expect', 'exit 0'
+    status, said = on_full_disk(program, *expected)
+    want('the status on a full disk', status, UNWRITTEN)
+    want('what it says there', SAID.sub(b'', said), OTHERWISE + FULL)
+
+
+def check_real(program, elf, runs, ends):
+    """So many drawn runs of a program with a real library have these ends."""
+    status, text = run(program, 'explore', elf, '--runs', runs, '--by', 'end')
+    want('the status of explore', status, DONE)
+    want('its ends', sorted(re.findall(r'^end (.*)$', text.decode(), re.MULTILINE)), sorted(ends.split(', ')))
+
+
+def check_all_real(program, names):
+    """How many of the programs with real libraries fail."""
+    if names and 'real' not in names:
+        return 0
+    cases = [ENDS.fullmatch(line).groups() for line in (REAL / 'ends.expected').read_text().splitlines()]
+    unlisted = {elf.name for elf in REAL.glob('*.elf')} ^ {elf for elf, _, _ in cases}
+    failed = sum(not passes(elf, [('explore', lambda: check_real(program, REAL / elf, runs, ends))]) for elf, runs, ends in cases)
+    print(f'{len(cases) - failed} programs with real libraries passed' + (f', {failed} failed' if failed else ''))
+    if unlisted:
+        print(f'real/ends.expected: {" ".join(sorted(unlisted))}')
+    return failed + len(unlisted)
+
+
 def check_explorations(program, names):
-    """How many checks of explorations fail."""
+    """How many checks of explorations, and of where their texts are written, fail."""
     if names and 'explorations' not in names:
         return 0
     checks = [(example, lambda example=example, runs=runs: check_overtaken(program, example, runs)) for example, runs in EXPLORED.items()]
     checks += [('interrupted', lambda: check_interrupted(program)), ('limited', lambda: check_limited(program))]
+    checks += [('expected', lambda: check_expected(program)), ('sinks', lambda: check_sinks(program))]
     failed = sum(not passes(name, [('explore', check)]) for name, check in checks)
     print(f'{len(checks) - failed} explorations passed' + (f', {failed} failed' if failed else ''))
     return failed
@@ -731,13 +799,13 @@ def main():
     guests = [guest for guest in GUESTS if not names or guest in names]
     broken = sum(not passes(guest, checks_of_guest(program, guest)) for guest in guests)
     print(f'{len(guests) - broken} guests passed' + (f', {broken} failed' if broken else ''))
-    changed = check_blocks(program, names) + check_headers(names) + check_explorations(program, names)
+    changed = check_blocks(program, names) + check_headers(names) + check_explorations(program, names) + check_all_real(program, names)
     is_listed = are_listed()
     worked = list(rows(names))
     with ThreadPoolExecutor(os.cpu_count()) as workers:
         differ = sum(not is_well for is_well in workers.map(lambda row: row_passes(program, row), worked))
     print(f'{len(worked) - differ} worked runs passed' + (f', {differ} failed' if differ else ''))
-    some = folders or pairs or guests or worked or {'blocks', 'headers', 'explorations'} & set(names)
+    some = folders or pairs or guests or worked or {'blocks', 'headers', 'explorations', 'real'} & set(names)
     sys.exit(1 if failed or unpaired or broken or changed or differ or not is_listed or not some or not (names or worked) else 0)
 
 

@@ -15,9 +15,18 @@ import sys
 
 TOOLS = pathlib.Path(__file__).resolve().parent
 PYTHON = '/usr/bin/python3' if pathlib.Path('/usr/bin/python3').exists() else sys.executable
-PARTS = ('lens', 'sweep', 'guests', 'compilers', 'docs')
-COMPILERS = {'riscv64-unknown-elf-gcc': ('gcc-riscv64-unknown-elf',), 'clang': ('clang', 'lld')}
-"""Those with which tools/compilers is tested, with their packages."""
+PARTS = ('lens', 'sweep', 'litmus', 'guests', 'compilers', 'musl', 'docs')
+CLANG = 'clang'
+PACKAGES = {
+    'compilers': {'riscv64-unknown-elf-gcc': ('gcc-riscv64-unknown-elf',), CLANG: ('clang', 'lld')},
+    'musl': {
+        'riscv64-linux-gnu-gcc': ('gcc-riscv64-linux-gnu',),
+        'riscv64-unknown-elf-gcc': ('gcc-riscv64-unknown-elf',),
+        'make': ('make',),
+        'dpkg-source': ('dpkg-dev',),
+    },
+}
+"""Of each part the tools with which it is tested, with their packages."""
 
 
 def lacking():
@@ -29,17 +38,16 @@ def lacking():
     ]
 
 
-def tell_missing_compilers():
-    """Says which compilers lack: what they make isn't tested then."""
-    for compiler, packages in COMPILERS.items():
-        if shutil.which(compiler) is None or ('lld' in packages and shutil.which('ld.lld') is None):
-            print(f'tools/compilers: without {compiler} (apt-get install {" ".join(packages)})')
+def tell_missing(part: str) -> None:
+    """Says which tools of a part lack: what they make isn't tested then."""
+    for tool, packages in PACKAGES.get(part, {}).items():
+        if shutil.which(tool) is None or (tool == CLANG and shutil.which('ld.lld') is None):
+            print(f'tools/{part}: without {tool} (apt-get install {" ".join(packages)})')
 
 
 def passes(part):
     """Whether the tests of a part pass."""
-    if part == 'compilers':
-        tell_missing_compilers()
+    tell_missing(part)
     path = os.pathsep.join(str(TOOLS / name) for name in (part, *PARTS))
     print(f'tools/{part}:', flush=True)
     words = [

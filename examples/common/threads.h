@@ -4,7 +4,7 @@
 enum { CALL_EXIT = 93, CALL_EXIT_GROUP = 94, CALL_FUTEX = 98, CALL_SCHED_YIELD = 124, CALL_CLONE = 220 };
 
 enum { FUTEX_WAIT = 0, FUTEX_WAKE = 1, FUTEX_PRIVATE = 128 };
-
+#ifndef CLONE_VM /* (the header of a C library may have defined them) */
 enum {
     CLONE_VM = 0x100,
     CLONE_FS = 0x200,
@@ -13,11 +13,11 @@ enum {
     CLONE_THREAD = 0x10000,
     CLONE_SYSVSEM = 0x40000,
     CLONE_PARENT_SETTID = 0x100000,
-    CLONE_CHILD_CLEARTID = 0x200000,
-    THREAD_FLAGS = CLONE_VM | CLONE_FS | CLONE_FILES | CLONE_SIGHAND | CLONE_THREAD | CLONE_SYSVSEM
-                   | CLONE_PARENT_SETTID | CLONE_CHILD_CLEARTID
+    CLONE_CHILD_CLEARTID = 0x200000
 };
-
+#endif
+enum { THREAD_FLAGS = CLONE_VM | CLONE_FS | CLONE_FILES | CLONE_SIGHAND | CLONE_THREAD | CLONE_SYSVSEM
+                      | CLONE_PARENT_SETTID | CLONE_CHILD_CLEARTID };
 /* A thread: its number, which becomes 0 when it has ended, and its stack. */
 struct thread {
     uint32_t tid;

@@ -6,9 +6,9 @@
 #ifndef ROUNDS
 #define ROUNDS 20
 #endif
-
+#ifndef THREADS /* the small twins are given these by -D */
 enum { THREADS = 4, PROCESSORS = 8, CACHE_LINE = 64 };
-
+#endif
 static struct {
     _Alignas(CACHE_LINE) intptr_t count;
 } cells[PROCESSORS];

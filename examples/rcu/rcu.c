@@ -5,9 +5,9 @@
  * outside, and free what is being read. */
 #include "../common/threads.h"
 #include "../common/barriers.h"
-
+#ifndef READERS /* the small twin is given these by -D */
 enum { READERS = 2, ROUNDS = 6, UPDATES = 3, WORDS = 4 };
-
+#endif
 /* An object whose words all have its number, and 0 once it is freed. */
 static struct object {
     volatile uint64_t words[WORDS];

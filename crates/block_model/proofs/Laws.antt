@@ -21,11 +21,13 @@ use Rattle.block_model.proofs.FixedRule as rules
 use Rattle.block_model.proofs.Runs as run_laws
 use Rattle.block_model.proofs.Whole.{allowed_is_whole}
 pub use Rattle.block_model.proofs.TablesOfCalls.{IsAgreed, agreed_called}
+pub use Rattle.block_model.proofs.Addresses.{IsProper, proper_of}
+pub use Rattle.block_model.proofs.AddressesOfCalls.{AllStand, FilesStand, NotOpen}
 pub use Rattle.block_model.proofs.AreasBeside.{no_area_after}
 pub use Rattle.block_model.proofs.Pages.{IsPaged, paged_start}
 pub use Rattle.block_model.proofs.Barriers.Requests.{IsAwaited, IsAwaitedBy, alone_awaits}
 pub use Rattle.block_model.proofs.Barriers.Events.{IsAtOthers, IsBegun, IsFitBarriers, IsStill}
-pub use Rattle.block_model.proofs.Images.{HaveBytes, image_bytes, loaded_is_laid_out, none_in_gap, one_setting}
+pub use Rattle.block_model.proofs.Images.{HaveBytes, image_bytes, loaded_is_laid_out, none_in_gap, one_setting, start_small, written_small}
 pub use Rattle.block_model.proofs.CallEffects.EachCall.{called_begins_none}
 pub use Rattle.block_model.proofs.Choosing.{drain_free, none_waits, return_free, take_free}
 pub use Rattle.block_model.proofs.Choosing.{no_call_held, none_of_both, some_hart_goes_on, luck_of_other, luck_of_own, all_chosen_next, is_choice_same, chosen_start, chosen_shorter, next_is_none}
@@ -48,6 +50,7 @@ pub use Rattle.block_model.proofs.OwnEvents.{IsAreaAfter, new_area, no_area, own
 pub use Rattle.block_model.proofs.OtherThreads.{aside_called, ready_not_waiting}
 pub use Rattle.block_model.proofs.ReadyFiles.{IsReadyKept, area_stays, ready_deed, ready_file_stays, ready_stays}
 pub use Rattle.block_model.proofs.RegisterFiles.{HasRegisters, has_registers}
+pub use Rattle.block_model.proofs.SignalTables.{HandlersStand, start_stand}
 pub use Rattle.block_model.proofs.RunSteps.{IsStep, drains_none, file_apart, not_ready, one_hart, runs_apart, step_of, waits_apart}
 pub use Rattle.block_model.proofs.Standing.{HasFreeId, SameSegment, stand_aside, stand_fit, stand_free_id, stand_next, stand_taken}
 pub use Rattle.block_model.proofs.Sequences.{Begins, Elsewhere, IsOf, Own, SequenceStep, TakesIn, sequence_step}
@@ -56,6 +59,7 @@ pub use Rattle.block_model.proofs.ThreadRecords.{areas_changed, areas_fit, live_
 pub use Rattle.block_model.proofs.Invariants.Calls.Futexes.{longest_waits, wake_by, wake_keeps}
 pub use Rattle.block_model.proofs.KernelTables.{any_live, its_ready, left_idle, running_idle, running_is, running_there, waits_elsewhere, state_now, tables_left, tables_ran, tables_start, ran_runs}
 pub use Rattle.block_model.proofs.Barriers.OutsideSequences.{in_no_barrier}
+pub use Rattle.block_model.proofs.Pcs.{StandsIn}
 pub use Rattle.block_model.proofs.PlainAgreement.{plain-nil as start_plain}
 pub use Rattle.block_model.proofs.PlainMachine.{IsSolo-append, plain_makes, IsSolo-nil as start_solo}
 pub use Rattle.block_model.proofs.Replay.{played-nil, played-append, length-answers, answers_itself, is_refused, is_bad, played_read-all}

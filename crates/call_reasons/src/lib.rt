@@ -5,4 +5,4 @@ mod faults;
 mod reasons;
 
 pub use faults::Fault;
-pub use reasons::{ElfPlace, Explained, FileRole, LineFault, Reason, Span};
+pub use reasons::{ElfPlace, Explained, FileRole, LineFault, OtherEnd, Reason, Span};

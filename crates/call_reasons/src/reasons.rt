@@ -1,4 +1,4 @@
-//! Why a call gives no output, exactly.
+//! Why a call gives no output, exactly; and which outcome of an exploration ended otherwise than was expected.
 
 ghost use Rattle.std.specs.Prelude.{◌≡◌};
 ghost use Rattle.call_reasons.specs.Reasons.{fault_told, most_bytes, reason_status};
@@ -7,7 +7,7 @@ use crate::faults::Fault;
 use block_model::Refused;
 use command_words::WordsFault;
 use elf_load::ElfFault;
-use mach_types::Entry;
+use mach_types::{End, Entry};
 use std::alloc::AllocError;
 use std::io::ErrorKind;
 
@@ -83,7 +83,16 @@ pub enum ElfPlace {
     },
 }
 
-/// Why a call gives no output.
+/// An outcome of an exploration that ended otherwise than was expected.
+#[derive(Clone, Copy, Drop)]
+pub struct OtherEnd {
+    /// How its runs ended; None where that isn't told: they came to none of the outcomes that are told apart.
+    pub end: Option<End>,
+    /// The seed of its first run.
+    pub seed: u64,
+}
+
+/// Why a call gives no output, or how its output isn't as was expected.
 #[derive(Clone, Copy, Drop)]
 pub enum Reason {
     /// The words are no command: this is what is wrong with them.
@@ -117,6 +126,8 @@ pub enum Reason {
     },
     /// This number is outside the range of the guest that is asked for.
     Guest(u64),
+    /// The output was written, and this outcome of it ended otherwise than was expected.
+    EndedOtherwise(OtherEnd),
     /// The text couldn't be written.
     Unwritten {
         /// What the system said, where that is known.
@@ -125,7 +136,7 @@ pub enum Reason {
 }
 
 impl Reason {
-    /// The fault whose line is written; None where no line could be written.
+    /// The fault whose line is written; None where no line is: the output was written, or nothing could be.
     pub fn fault(&self) -> Option<Fault>
         ensures { result ≡ fault_told self.now }
     {
@@ -137,7 +148,7 @@ impl Reason {
             Reason::Elf { fault, .. } => Some(Fault::Elf(*fault)),
             Reason::Script { line, .. } => Some(Fault::Script(*line)),
             Reason::Guest(number) => Some(Fault::Guest(*number)),
-            Reason::Unwritten { .. } => None,
+            Reason::EndedOtherwise(_) | Reason::Unwritten { .. } => None,
         }
     }
 
@@ -146,6 +157,7 @@ impl Reason {
         ensures { result ≡ reason_status self.now }
     {
         match self {
+            Reason::EndedOtherwise(_) => 1,
             Reason::Words(_) => 2,
             Reason::Elf { .. } => 3,
             Reason::Script { .. } => 4,
@@ -171,12 +183,13 @@ impl From<AllocError> for Reason {
 
 /// The exit status of a call, and the reason that goes with it: there is none exactly at status 0.
 ///
+/// At status 1 the whole output was written, and the reason is an outcome of it that ended otherwise than was expected.
 /// At status 6 the reason is that the text couldn't be written; what that text was to tell stands beside it.
 #[derive(Clone, Copy, Drop)]
 pub struct Explained {
     /// The exit status.
     pub status: u8,
-    /// Why there is no output, or not all of it.
+    /// Why there is no output, or not all of it, or how it isn't as was expected.
     pub reason: Option<Reason>,
     /// The reason that was to be told, where that couldn't be written.
     pub untold: Option<Reason>,

@@ -13,7 +13,7 @@ use Rattle.clap.specs.declared.parser.matches.ValueSource.TheVariants.{CommandLi
 use Rattle.clap.specs.declared.builder.value_parser.Reading.TheVariants.{AsWritten}
 use Rattle.std.proofs.lemmas.Slice.Eq.{bytes_eq-Decides}
 use Rattle.command_words.specs.Grammar.{Arguments, Item, Given, is_option}
-use Rattle.command_words.specs.Options.{OptionName, Harts, Frames, Steps, Seed, Policy, Calm, After, RunCount, Until, By, Jobs, From, To, Memory, long_name, same_option}
+use Rattle.command_words.specs.Options.{OptionName, Harts, Frames, Steps, Seed, Policy, Calm, After, RunCount, Until, By, Jobs, From, To, Memory, Expect, Places, Deep, Scripts, long_name, same_option}
 use Rattle.command_words.proofs.EachOption.{names_apart, same_is}
 use Rattle.command_words.proofs.Parts.{with_item, with_option}
 use Rattle.command_words.specs.Words.{Reading, Options, Value, Names, word_read}
@@ -138,6 +138,10 @@ module _ (given : Arguments) (rows : List Row) (v : Text) (fits : Fits given row
   apart From = ((refl, refl), (refl, refl), (refl, refl))
   apart To = ((refl, refl), (refl, refl), (refl, refl))
   apart Memory = ((refl, refl), (refl, refl), (refl, refl))
+  apart Expect = ((refl, refl), (refl, refl), (refl, refl))
+  apart Places = ((refl, refl), (refl, refl), (refl, refl))
+  apart Deep = ((refl, refl), (refl, refl), (refl, refl))
+  apart Scripts = ((refl, refl), (refl, refl), (refl, refl))
 
   as_before : (names : List Text) (o : OptionName) → Holds (long_name o) rows (value_of o (with_names names given))
   as_before names o = fits.options o
@@ -189,6 +193,10 @@ module _ (given : Arguments) (rows : List Row) (v : Text) (fits : Fits given row
       go From absent = rw absent refl
       go To absent = rw absent refl
       go Memory absent = rw absent refl
+      go Expect absent = rw absent refl
+      go Places absent = rw absent refl
+      go Deep absent = rw absent refl
+      go Scripts absent = rw absent refl
 
   pub first_fits : given.names ≡ []
       → Fits (with_names (v ∷ []) given) (used (name_built 1 (codes "first")) (v ∷ []) rows)

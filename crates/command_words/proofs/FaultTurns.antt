@@ -6,7 +6,7 @@ use Rattle.std.proofs.lemmas.Bool.{and_parts}
 use Rattle.std.specs.Option.{is_some}
 use Rattle.step_log.specs.Script.{◌>>=◌}
 use Rattle.command_words.specs.Grammar.{Arguments, Item, Name, Given, asked_by, suits}
-use Rattle.command_words.specs.Options.{OptionName, Harts, Frames, Steps, Seed, Policy, Calm, After, RunCount, Until, By, Jobs, From, To, Memory}
+use Rattle.command_words.specs.Options.{OptionName, Harts, Frames, Steps, Seed, Policy, Calm, After, RunCount, Until, By, Jobs, From, To, Memory, Expect, Places, Deep, Scripts}
 use Rattle.command_words.specs.Takes.{OptionSet, Takes, has, takes_of}
 use Rattle.command_words.specs.Takes.{with_option as with_one}
 use Rattle.command_words.specs.WordFaults.{SoFar, kind_at}
@@ -37,6 +37,10 @@ given_options given = record {
   from = is_some (given.values From);
   to = is_some (given.values To);
   memory = is_some (given.values Memory);
+  expect = is_some (given.values Expect);
+  places = is_some (given.values Places);
+  deep = is_some (given.values Deep);
+  scripts = is_some (given.values Scripts);
 }
 
 -- how far the words are read that give so many names and these options, or these arguments
@@ -64,6 +68,10 @@ has_given Jobs given = refl
 has_given From given = refl
 has_given To given = refl
 has_given Memory given = refl
+has_given Expect given = refl
+has_given Places given = refl
+has_given Deep given = refl
+has_given Scripts given = refl
 
 -- with a value more the names stay
 pub names_same : (option : OptionName) (text : List ℕ) (given : Arguments)
@@ -87,6 +95,10 @@ options_after Jobs text given = refl
 options_after From text given = refl
 options_after To text given = refl
 options_after Memory text given = refl
+options_after Expect text given = refl
+options_after Places text given = refl
+options_after Deep text given = refl
+options_after Scripts text given = refl
 
 -- with this value
 pub own_value : (option : OptionName) (text : List ℕ) (given : Arguments)

@@ -17,7 +17,7 @@ use Rattle.command_words.specs.Commands.{Command}
 use Rattle.command_words.specs.Grammar.{Arguments, AreWritten, Given, IsCommandLine, IsLine}
 use Rattle.command_words.specs.Grammar.{IsWritten, Item, Name, arguments_in, asked_by, names_in}
 use Rattle.command_words.specs.Grammar.{values_in, begins_with_dash, command_in, is_option}
-use Rattle.command_words.specs.Options.{OptionName, Harts, Frames, Steps, Seed, Policy, Calm, After, RunCount, Until, By, Jobs, From, To, Memory, all_options, option_named}
+use Rattle.command_words.specs.Options.{OptionName, Harts, Frames, Steps, Seed, Policy, Calm, After, RunCount, Until, By, Jobs, From, To, Memory, Expect, Places, Deep, Scripts, all_options, option_named}
 use Rattle.command_words.specs.Options.{option_word}
 use Rattle.command_words.specs.Words.{Reading, Options, Value, Names, arguments_of, behind_equals, command_of}
 use Rattle.command_words.specs.Words.{few_arguments, is_equals, items, option_read, word_read}
@@ -324,6 +324,30 @@ joined_read Memory text =
       longer_than 8 (codes "--memory=") text
           (omega arith),
     )
+joined_read Expect text =
+    simp (
+      longer_than 1 (codes "--expect=") text (omega arith),
+      longer_than 8 (codes "--expect=") text
+          (omega arith),
+    )
+joined_read Places text =
+    simp (
+      longer_than 1 (codes "--places=") text (omega arith),
+      longer_than 8 (codes "--places=") text
+          (omega arith),
+    )
+joined_read Deep text =
+    simp (
+      longer_than 1 (codes "--deep=") text (omega arith),
+      longer_than 6 (codes "--deep=") text
+          (omega arith),
+    )
+joined_read Scripts text =
+    simp (
+      longer_than 1 (codes "--scripts=") text (omega arith),
+      longer_than 9 (codes "--scripts=") text
+          (omega arith),
+    )
 
 option_alone : (option : OptionName) → word_read Options (option_word option) ≡ Some (None, Value option)
 option_alone Harts = refl
@@ -340,6 +364,10 @@ option_alone Jobs = refl
 option_alone From = refl
 option_alone To = refl
 option_alone Memory = refl
+option_alone Expect = refl
+option_alone Places = refl
+option_alone Deep = refl
+option_alone Scripts = refl
 
 value_read : (option : OptionName) (text : List ℕ) → begins_with_dash text ≡ false
     → word_read (Value option) text ≡ Some (Some (Given option text), Options)

@@ -40,6 +40,7 @@ IsRow (kind.Runs source shown) = IsRowOf source shown
 IsRow kind.Makes = Unit {0}
 IsRow kind.Tries = Unit {0}
 IsRow kind.Explores = Unit {0}
+IsRow kind.Searches = Unit {0}
 IsRow kind.Pairs = Unit {0}
 
 -- of two, either way
@@ -75,9 +76,10 @@ each_row word =
     (of_either IsRow (bytes_eq word (codes "run")) _ _ tt
     (of_either IsRow (bytes_eq word (codes "draw")) _ _ tt
     (of_either IsRow (bytes_eq word (codes "explore")) _ _ tt
+    (of_either IsRow (bytes_eq word (codes "outcomes")) _ _ tt
     (of_either IsRow (bytes_eq word (codes "make")) _ _ tt
     (of_either IsRow (bytes_eq word (codes "trial")) _ _ tt
-    (of_either IsRow (bytes_eq word (codes "pair")) _ _ tt tt))))))))))))
+    (of_either IsRow (bytes_eq word (codes "pair")) _ _ tt tt)))))))))))))
 
 -- of two names the second is a script's
 of_script : (shown : ShownKind) (settings : Settings) (after memory : Option (List ℕ)) (names : List (List ℕ))
@@ -118,6 +120,7 @@ of_kind (kind.Runs source shown) settings after memory names row = of_run source
 of_kind kind.Makes settings after memory names row = of_mapped HasItsShown (guest_for names) _ (λ guest. tt)
 of_kind kind.Tries settings after memory names row = of_mapped HasItsShown (guest_for names) _ (λ guest. tt)
 of_kind kind.Explores settings after memory names row = of_mapped HasItsShown (program_for names) _ (λ program. tt)
+of_kind kind.Searches settings after memory names row = of_mapped HasItsShown (program_for names) _ (λ program. tt)
 of_kind kind.Pairs settings after memory names row = of_mapped HasItsShown (pair_for settings.limits names) _ (λ pair. tt)
 
 by_word : (word : List ℕ) (given : Arguments) → IfSome (asked_by word given) HasItsShown

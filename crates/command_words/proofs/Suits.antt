@@ -11,7 +11,7 @@ use Rattle.command_words.specs.declared.commands.Guest.{Guest as AskedGuest}
 use Rattle.command_words.specs.declared.commands.Settings.{Settings}
 use Rattle.step_log.specs.Script.{◌>>=◌}
 use Rattle.command_words.specs.declared.table.CommandKind.{CommandKind}
-use Rattle.command_words.specs.declared.table.CommandKind.TheVariants.{Runs, Makes, Tries, Explores, Pairs}
+use Rattle.command_words.specs.declared.table.CommandKind.TheVariants.{Runs, Makes, Tries, Explores, Searches, Pairs}
 use Rattle.command_words.specs.declared.table.SourceKind.{SourceKind}
 use Rattle.command_words.specs.declared.table.SourceKind.TheVariants.{ByRule, ByScript, ByWorkers, ByDraws}
 use Rattle.command_words.specs.declared.takes.NameKind.{NameKind}
@@ -179,6 +179,7 @@ names_are (Runs source shown) settings after memory names =
 names_are Makes settings after memory names = mapped _ (guest_for names) ∙ guests_are names
 names_are Tries settings after memory names = mapped _ (guest_for names) ∙ guests_are names
 names_are Explores settings after memory names = mapped _ (program_for names) ∙ program_is names
+names_are Searches settings after memory names = mapped _ (program_for names) ∙ program_is names
 names_are Pairs settings after memory names = mapped _ (pair_for settings.limits names) ∙ pair_is settings.limits names
 
 -- so a command of a kind is asked for exactly where the arguments are its own
@@ -226,6 +227,7 @@ three_names_most (Runs source shown) = three_names_by source
 three_names_most Makes = omega arith
 three_names_most Tries = omega arith
 three_names_most Explores = omega arith
+three_names_most Searches = omega arith
 three_names_most Pairs = omega arith
 
 pub few_taken : (word : List ℕ) (takes : Takes) → takes_of word ≡ Some takes → length takes.names ≤ 3

@@ -1,17 +1,21 @@
 -- Worked examples of words, by computation.
-use Rattle.std.proofs.Common.{◌≡◌, ℕ, ◌-◌, ◌^◌, ◌==◌, Bool, true, not, List, [], ◌∷◌, Option, Some, None, is_some, refl, codes}
+use Rattle.std.proofs.Common.{◌≡◌, ℕ, ◌-◌, ◌^◌, ◌==◌, Bool, true, false, not, List, [], ◌∷◌, Option, Some, None, is_some, refl, codes}
 use Rattle.std.specs.List.{list_all, slice_split}
 use Rattle.mach_types.specs.declared.limits.Limits.{Limits}
 use Rattle.draw_policies.specs.declared.policies.Policies.{Policies}
 use Rattle.draw_policies.specs.declared.policies.Policies.TheVariants.{All, Only}
 use Rattle.draw_policies.specs.declared.policies.Policy.TheVariants as policy
 use Rattle.guest_names.specs.declared.names.Name.TheVariants.{Counter, Migrate}
-use Rattle.command_words.specs.Commands.{Command, Runs, Makes, Tries, Explores, Pairs, Source, Rule, Script, Workers, Drawn, DrawnAfter}
+use Rattle.command_words.specs.Commands.{Command, Runs, Makes, Tries, Explores, Searches, Pairs, Source, Rule, Script, Workers, Drawn, DrawnAfter}
 use Rattle.command_words.specs.declared.commands.LineSpan.{LineSpan}
+use Rattle.command_words.specs.declared.commands.SearchSettings.{SearchSettings}
 use Rattle.command_words.specs.declared.commands.Settings.{Settings}
-use Rattle.command_words.specs.declared.options.Apart.{Apart}
-use Rattle.command_words.specs.declared.options.Apart.TheVariants.{ByText, ByEnd}
+use Rattle.draw_policies.specs.declared.outcome_keys.OutcomeKey.{OutcomeKey}
+use Rattle.draw_policies.specs.declared.outcome_keys.OutcomeKey.TheVariants.{ByText, ByEnd}
 use Rattle.command_words.specs.declared.spans.MemorySpan.{MemorySpan}
+use Rattle.command_words.specs.Ends.{end_named}
+use Rattle.mach_types.specs.declared.limits.End.{End}
+use Rattle.mach_types.specs.declared.limits.End.TheVariants.{Exit, Killed, Stuck, Limit}
 use Rattle.command_words.specs.Options.{number_of}
 use Rattle.command_words.specs.Shown.{Shown, Output, Summary, Place, Gathered, Trace}
 use Rattle.command_words.specs.Spans.{address_of, span_of}
@@ -302,7 +306,10 @@ no_policies : are_refused (
 unfolding command_of arguments_of
 no_policies = refl
 
-abbrev settings : ℕ → Option ℕ → Apart → Option ℕ → Settings
+abbrev searching : Limits → ℕ → Bool → SearchSettings
+searching limits places scripts = record { limits = limits; places = places; scripts = scripts }
+
+abbrev settings : ℕ → Option ℕ → OutcomeKey → Option ℕ → Settings
 settings runs until apart jobs = record {
   limits = limits 2 4096 200000;
   seed = 1;
@@ -312,6 +319,8 @@ settings runs until apart jobs = record {
   apart = apart;
   jobs = jobs;
   span = lines 1 None;
+  expected = None;
+  search = searching (limits 2 4096 100000) 1000000 true;
 }
 
 explore_defaults : command_of (codes "explore" ∷ codes "F" ∷ []) ≡ Some (Explores (codes "F") (settings 10000 None ByText None))
@@ -323,6 +332,58 @@ explore_options : command_of
     ≡ Some (Explores (codes "F") (settings 7 (Some 2) ByEnd (Some 64)))
 unfolding command_of arguments_of
 explore_options = refl
+
+-- each end that is expected
+abbrev expecting : List ℕ → End → Type 0
+expecting text end = command_of (codes "explore" ∷ codes "F" ∷ codes "--expect" ∷ text ∷ [])
+    ≡ Some (Explores (codes "F") (record (settings 10000 None ByText None) { expected = Some end }))
+
+explore_expects :
+    expecting (codes "exit 0") (Exit 0) × expecting (codes "killed 11") (Killed 11) × expecting (codes "stuck") Stuck
+    × expecting (codes "limit") Limit
+unfolding command_of arguments_of
+explore_expects = (refl, refl, refl, refl)
+
+-- no run of an exploration is left open, and no status is above 255
+wrong_ends : are_refused (
+    codes "explore F --expect=open" ∷
+    codes "explore F --expect=exit" ∷
+    codes "explore F --expect=0" ∷
+    codes "draw F --expect=stuck" ∷
+    []) ≡ true
+unfolding command_of arguments_of
+wrong_ends = refl
+
+no_such_status : end_named (codes "exit 256") ≡ None
+no_such_status = refl
+
+no_second_space : end_named (codes "exit  0") ≡ None
+no_second_space = refl
+
+-- `outcomes F` finds all outcomes, with the harts, the frames, the places and the events to a place that are given, or else the defaults
+outcomes_defaults : command_of (codes "outcomes" ∷ codes "F" ∷ [])
+    ≡ Some (Searches (codes "F") (searching (limits 2 4096 100000) 1000000 true))
+unfolding command_of arguments_of
+outcomes_defaults = refl
+
+outcomes_options : command_of
+    (codes "outcomes" ∷ codes "--places" ∷ codes "16000000" ∷ codes "--deep=7" ∷ codes "F" ∷ codes "--scripts=no"
+    ∷ codes "--harts=1" ∷ codes "--frames=128" ∷ []) ≡ Some (Searches (codes "F") (searching (limits 1 128 7) 16000000 false))
+unfolding command_of arguments_of
+outcomes_options = refl
+
+wrong_outcomes : are_refused (
+    codes "outcomes F --places=0" ∷
+    codes "outcomes F --places=16000001" ∷
+    codes "outcomes F --deep=1000001" ∷
+    codes "outcomes F --scripts=maybe" ∷
+    codes "outcomes F --steps=5" ∷
+    codes "outcomes F --seed=1" ∷
+    codes "explore F --places=5" ∷
+    codes "outcomes F S" ∷
+    []) ≡ true
+unfolding command_of arguments_of
+wrong_outcomes = refl
 
 wrong_draws : are_refused (
     codes "explore F --runs=0" ∷

@@ -10,7 +10,10 @@ use Rattle.std.specs.Prelude.{None, if◌then◌else◌, nat_le, nat_lt, nat_eq,
 use Rattle.std.specs.List.{list_all, starts_with}
 use Rattle.std.specs.Option.{option_map, unwrap_or}
 use Rattle.mach_types.specs.declared.limits.Limits.{Limits}
+use Rattle.draw_policies.specs.OutcomeKeys.{key_of_word}
 use Rattle.draw_policies.specs.Policies.{policies_of_word}
+use Rattle.draw_policies.specs.declared.outcome_keys.OutcomeKey.{OutcomeKey}
+use Rattle.draw_policies.specs.declared.outcome_keys.OutcomeKey.TheVariants.{ByText}
 use Rattle.draw_policies.specs.declared.policies.Policies.{Policies}
 use Rattle.draw_policies.specs.declared.policies.Policies.TheVariants.{All}
 use Rattle.guest_names.specs.Guests.{name_of}
@@ -19,18 +22,17 @@ use Rattle.command_words.specs.declared.commands.Guest.{Guest}
 use Rattle.command_words.specs.declared.commands.LineSpan.{LineSpan}
 use Rattle.command_words.specs.declared.commands.Settings.{Settings}
 use Rattle.command_words.specs.declared.commands.Trial.{Trial}
-use Rattle.command_words.specs.declared.options.Apart.{Apart}
-use Rattle.command_words.specs.declared.options.Apart.TheVariants.{ByText}
 use Rattle.command_words.specs.declared.table.CommandKind.{CommandKind}
 use Rattle.command_words.specs.declared.table.CommandKind.TheVariants as kind
 use Rattle.command_words.specs.declared.table.ShownKind.{ShownKind}
 use Rattle.command_words.specs.declared.table.ShownKind.TheVariants as kinds
 use Rattle.command_words.specs.declared.table.SourceKind.{SourceKind}
 use Rattle.command_words.specs.declared.table.SourceKind.TheVariants.{ByRule, ByScript, ByWorkers, ByDraws}
-use Rattle.command_words.specs.Commands.{Command, PairRun, Run, Runs, Makes, Tries, Explores, Pairs, Source, Rule, Script, Workers, Drawn, DrawnAfter}
-use Rattle.command_words.specs.Options.{OptionName, Harts, Frames, Steps, Seed, Policy, Calm, After, RunCount, Until, By, Jobs, From, To, Memory}
-use Rattle.command_words.specs.Options.{Range, all_options, apart_named, is_value}
-use Rattle.command_words.specs.Options.{number_in, number_of, option_word, range_of, same_option, values_of}
+use Rattle.command_words.specs.Ends.{expected_end}
+use Rattle.command_words.specs.Commands.{Command, PairRun, Run, Runs, Makes, Tries, Explores, Searches, Pairs, Source, Rule, Script, Workers, Drawn, DrawnAfter}
+use Rattle.command_words.specs.Options.{OptionName, Harts, Frames, Steps, Seed, Policy, Calm, After, RunCount, Until, By, Jobs, From, To, Memory, Expect, Places, Deep, Scripts}
+use Rattle.command_words.specs.Options.{Range, all_options, is_value}
+use Rattle.command_words.specs.Options.{number_in, number_of, option_word, range_of, same_option, values_of, yes_or_no}
 use Rattle.command_words.specs.Shown.{Shown}
 use Rattle.command_words.specs.Shown as shows
 use Rattle.command_words.specs.Spans.{spans_given}
@@ -124,8 +126,12 @@ abbrev pub number_given : Range → Option (List ℕ) → Option ℕ
 number_given range value = value >>= number_in range
 
 -- by what outcomes are told apart: as it is said, or by their texts
-abbrev pub apart_or_text : Option (List ℕ) → Apart
-apart_or_text value = unwrap_or (value >>= apart_named) ByText
+abbrev pub apart_or_text : Option (List ℕ) → OutcomeKey
+apart_or_text value = unwrap_or (value >>= key_of_word) ByText
+
+-- whether it is said, or else yes
+abbrev pub said_or_yes : Option (List ℕ) → Bool
+said_or_yes value = unwrap_or (value >>= yes_or_no) true
 
 -- what the options come to
 abbrev pub settings_of : (OptionName → Option (List ℕ)) → Settings
@@ -147,6 +153,16 @@ settings_of values = record {
   span = record {
     from = number_or 1 (range_of 1 1000000) (values From);
     to = number_given (range_of 1 1000000) (values To);
+  };
+  expected = expected_end (values Expect);
+  search = record {
+    limits = record {
+      harts = number_or 2 (range_of 1 8) (values Harts);
+      frames = number_or 4096 (range_of 128 16384) (values Frames);
+      steps = number_or 100000 (range_of 1 1000000) (values Deep);
+    };
+    places = number_or 1000000 (range_of 1 16000000) (values Places);
+    scripts = said_or_yes (values Scripts);
   };
 }
 
@@ -234,6 +250,8 @@ command_for (kind.Runs source shown) settings after memory names =
 command_for kind.Makes settings after memory names = option_map Makes (guest_for names)
 command_for kind.Tries settings after memory names = option_map (λ guest. Tries (trial_of settings guest)) (guest_for names)
 command_for kind.Explores settings after memory names = option_map (λ program. Explores program settings) (program_for names)
+command_for kind.Searches settings after memory names =
+    option_map (λ program. Searches program settings.search) (program_for names)
 command_for kind.Pairs settings after memory names = option_map Pairs (pair_for settings.limits names)
 
 -- what such a command asks for with these arguments: each value that is given suits it

@@ -27,11 +27,11 @@ use Rattle.command_words.specs.declared.takes.NameKinds.{NameKinds}
 use Rattle.command_words.specs.declared.takes.NameKinds.TheVariants as kinds
 use Rattle.command_words.specs.declared.takes.OptionSet.{OptionSet}
 use Rattle.command_words.specs.declared.takes.Takes.{Takes}
-use Rattle.command_words.specs.Commands.{Command as Asked, PairRun as AskedPair, Run as AskedRun, Runs, Makes, Tries, Explores, Pairs}
+use Rattle.command_words.specs.Commands.{Command as Asked, PairRun as AskedPair, Run as AskedRun, Runs, Makes, Tries, Explores, Searches, Pairs}
 use Rattle.command_words.specs.Commands.{Source as FromSource, Rule, Script, Workers, Drawn, DrawnAfter}
 use Rattle.command_words.specs.Grammar.{Arguments as Stated}
-use Rattle.command_words.specs.Options.{OptionName as Named, Harts, Frames, Steps, Seed, Policy, Calm, After, RunCount, Until, By, Jobs, From, To, Memory, Range}
-use Rattle.command_words.specs.Options.{Values as ItsValues, Numbers as InRange, PolicyNames, ApartNames, FileNames, MemorySpans as SpansOfMemory}
+use Rattle.command_words.specs.Options.{OptionName as Named, Harts, Frames, Steps, Seed, Policy, Calm, After, RunCount, Until, By, Jobs, From, To, Memory, Expect, Places, Deep, Scripts, Range}
+use Rattle.command_words.specs.Options.{Values as ItsValues, Numbers as InRange, PolicyNames, KeyNames, FileNames, MemorySpans as SpansOfMemory, EndNames as NamesOfEnds, YesOrNo}
 use Rattle.command_words.specs.Shown.{Shown as AskedShown}
 use Rattle.command_words.specs.Shown as shows
 use Rattle.command_words.specs.Spans.{spans_given}
@@ -55,6 +55,10 @@ named option.Jobs = Jobs
 named option.From = From
 named option.To = To
 named option.Memory = Memory
+named option.Expect = Expect
+named option.Places = Places
+named option.Deep = Deep
+named option.Scripts = Scripts
 
 -- the numbers that an option takes
 abbrev pub range : Numbers → Range
@@ -64,9 +68,11 @@ range numbers = record { least = numbers.least; most = numbers.most }
 abbrev pub values_kept : Values → ItsValues
 values_kept (values.Numbers numbers) = InRange (range numbers)
 values_kept values.PolicyNames = PolicyNames
-values_kept values.ApartNames = ApartNames
+values_kept values.KeyNames = KeyNames
 values_kept values.FileNames = FileNames
 values_kept values.MemorySpans = SpansOfMemory
+values_kept values.EndNames = NamesOfEnds
+values_kept values.YesOrNo = YesOrNo
 
 -- the names, as texts
 abbrev pub names_kept : KeptNames → List (List ℕ)
@@ -91,6 +97,10 @@ value_kept kept Jobs = option_copied kept.jobs
 value_kept kept From = option_copied kept.from
 value_kept kept To = option_copied kept.to
 value_kept kept Memory = option_copied kept.memory
+value_kept kept Expect = option_copied kept.expect
+value_kept kept Places = option_copied kept.places
+value_kept kept Deep = option_copied kept.deep
+value_kept kept Scripts = option_copied kept.scripts
 
 -- the arguments, with the texts of their words
 abbrev pub stated : Arguments → Stated
@@ -141,6 +151,7 @@ said (command.Runs run) = Runs (run_said run)
 said (command.Makes guest) = Makes guest
 said (command.Tries trial) = Tries trial
 said (command.Explores explore) = Explores explore.program.now explore.settings
+said (command.Searches search) = Searches search.program.now search.settings
 said (command.Pairs pair) = Pairs (pair_said pair)
 
 -- some of the options
@@ -160,6 +171,10 @@ options_kept options = record {
   from = options.from;
   to = options.to;
   memory = options.memory;
+  expect = options.expect;
+  places = options.places;
+  deep = options.deep;
+  scripts = options.scripts;
 }
 
 -- what the names of a command are

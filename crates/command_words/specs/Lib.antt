@@ -1,5 +1,6 @@
 pub mod Commands
 pub mod Decimals
+pub mod Ends
 pub mod Grammar
 pub mod Kept
 pub mod Line

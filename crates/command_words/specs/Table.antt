@@ -1,9 +1,9 @@
--- The commands (own): of each its word, and whether it makes or tries a guest, explores runs or runs two programs together, or how the
+-- The commands (own): of each its word, and whether it makes or tries a guest, explores runs, searches for all outcomes or runs two programs together, or how the
 -- log of its run comes about and what is shown of it.
 use Rattle.std.specs.Prelude.{ℕ, List, Option, Some, None, if◌then◌else◌, codes}
 use Rattle.std.specs.Str.{bytes_eq}
 use Rattle.command_words.specs.declared.table.CommandKind.{CommandKind}
-use Rattle.command_words.specs.declared.table.CommandKind.TheVariants.{Runs, Makes, Tries, Explores, Pairs}
+use Rattle.command_words.specs.declared.table.CommandKind.TheVariants.{Runs, Makes, Tries, Explores, Searches, Pairs}
 use Rattle.command_words.specs.declared.table.ShownKind.{ShownKind}
 use Rattle.command_words.specs.declared.table.ShownKind.TheVariants as shows
 use Rattle.command_words.specs.declared.table.SourceKind.{SourceKind}
@@ -26,6 +26,7 @@ command_kind word =
     else if bytes_eq word (codes "run") then row ByWorkers shows.Output
     else if bytes_eq word (codes "draw") then row ByDraws shows.Output
     else if bytes_eq word (codes "explore") then Some Explores
+    else if bytes_eq word (codes "outcomes") then Some Searches
     else if bytes_eq word (codes "make") then Some Makes
     else if bytes_eq word (codes "trial") then Some Tries
     else if bytes_eq word (codes "pair") then Some Pairs

@@ -1,14 +1,14 @@
 -- What each command takes behind its word (own): which names, and which options.
 use Rattle.std.specs.Prelude.{ℕ, Bool, true, false, List, [], ◌∷◌, Option, option_map}
 use Rattle.command_words.specs.declared.table.CommandKind.{CommandKind}
-use Rattle.command_words.specs.declared.table.CommandKind.TheVariants.{Runs, Makes, Tries, Explores, Pairs}
+use Rattle.command_words.specs.declared.table.CommandKind.TheVariants.{Runs, Makes, Tries, Explores, Searches, Pairs}
 use Rattle.command_words.specs.declared.table.ShownKind.{ShownKind}
 use Rattle.command_words.specs.declared.table.ShownKind.TheVariants as shows
 use Rattle.command_words.specs.declared.table.SourceKind.{SourceKind}
 use Rattle.command_words.specs.declared.table.SourceKind.TheVariants.{ByRule, ByScript, ByWorkers, ByDraws}
 use Rattle.command_words.specs.declared.takes.NameKind.{NameKind}
 use Rattle.command_words.specs.declared.takes.NameKind.TheVariants.{Program, SecondProgram, Script, Guest, Size}
-use Rattle.command_words.specs.Options.{OptionName, Harts, Frames, Steps, Seed, Policy, Calm, After, RunCount, Until, By, Jobs, From, To, Memory}
+use Rattle.command_words.specs.Options.{OptionName, Harts, Frames, Steps, Seed, Policy, Calm, After, RunCount, Until, By, Jobs, From, To, Memory, Expect, Places, Deep, Scripts}
 use Rattle.command_words.specs.Table.{command_kind}
 
 -- some of the options
@@ -27,6 +27,10 @@ pub record OptionSet : Type 0 where
   pub from : Bool
   pub to : Bool
   pub memory : Bool
+  pub expect : Bool
+  pub places : Bool
+  pub deep : Bool
+  pub scripts : Bool
 
 -- none of them
 abbrev pub no_options : OptionSet
@@ -45,6 +49,10 @@ no_options = record {
   from = false;
   to = false;
   memory = false;
+  expect = false;
+  places = false;
+  deep = false;
+  scripts = false;
 }
 
 -- whether an option is among them
@@ -63,6 +71,10 @@ has options Jobs = options.jobs
 has options From = options.from
 has options To = options.to
 has options Memory = options.memory
+has options Expect = options.expect
+has options Places = options.places
+has options Deep = options.deep
+has options Scripts = options.scripts
 
 -- these and one more
 abbrev pub with_option : OptionSet → OptionName → OptionSet
@@ -80,6 +92,10 @@ with_option options Jobs = record options { jobs = true }
 with_option options From = record options { from = true }
 with_option options To = record options { to = true }
 with_option options Memory = record options { memory = true }
+with_option options Expect = record options { expect = true }
+with_option options Places = record options { places = true }
+with_option options Deep = record options { deep = true }
+with_option options Scripts = record options { scripts = true }
 
 -- what a command takes: these names in this order, and these options in any
 pub record Takes : Type 0 where
@@ -123,7 +139,15 @@ abbrev pub taken_by_explore : Takes
 taken_by_explore =
     record {
       names = Program ∷ [];
-      options = record options_by_draws { run_count = true; until = true; by = true; jobs = true };
+      options = record options_by_draws { run_count = true; until = true; by = true; jobs = true; expect = true };
+    }
+
+-- what a search for all outcomes takes
+abbrev pub taken_by_search : Takes
+taken_by_search =
+    record {
+      names = Program ∷ [];
+      options = record no_options { harts = true; frames = true; places = true; deep = true; scripts = true };
     }
 
 -- what the making of a guest takes
@@ -159,6 +183,7 @@ takes_kind (Runs source shown) =
 takes_kind Makes = taken_by_make
 takes_kind Tries = taken_by_trial
 takes_kind Explores = taken_by_explore
+takes_kind Searches = taken_by_search
 takes_kind Pairs = taken_by_pair
 
 -- what the command of a word takes, if a command has the word

@@ -57,6 +57,14 @@ pub(crate) struct Arguments<'a> {
     pub(crate) to: Option<&'a str>,
     /// The value of `--memory`.
     pub(crate) memory: Option<&'a str>,
+    /// The value of `--expect`.
+    pub(crate) expect: Option<&'a str>,
+    /// The value of `--places`.
+    pub(crate) places: Option<&'a str>,
+    /// The value of `--deep`.
+    pub(crate) deep: Option<&'a str>,
+    /// The value of `--scripts`.
+    pub(crate) scripts: Option<&'a str>,
 }
 
 /// An option of this name, which takes a value.
@@ -94,7 +102,11 @@ fn options<'a>(alloc: Global) -> Result<Parser<'a>, AllocError>
         .arg(option(alloc, "jobs"))?
         .arg(option(alloc, "from"))?
         .arg(option(alloc, "to"))?
-        .arg(option(alloc, "memory"))
+        .arg(option(alloc, "memory"))?
+        .arg(option(alloc, "expect"))?
+        .arg(option(alloc, "places"))?
+        .arg(option(alloc, "deep"))?
+        .arg(option(alloc, "scripts"))
 }
 
 /// A parser of what may stand behind a command.
@@ -148,6 +160,10 @@ fn arguments_in<'a>(matches: &ArgMatches<'a>) -> Arguments<'a>
         from: matches.get_str("from"),
         to: matches.get_str("to"),
         memory: matches.get_str("memory"),
+        expect: matches.get_str("expect"),
+        places: matches.get_str("places"),
+        deep: matches.get_str("deep"),
+        scripts: matches.get_str("scripts"),
     }
 }
 

@@ -3,25 +3,26 @@
 ghost use Rattle.std.specs.Prelude.{◌≡◌, ◌≤◌, IfOk, IfSome, option_copied, option_map};
 ghost use Rattle.std.specs.List.{list_all};
 ghost use Rattle.mach_types.specs.Limits.{InRange};
-ghost use Rattle.command_words.specs.Commands.{AreInRange, HasHartsOf, HasItsHarts, HasLimits, trial_limits};
+ghost use Rattle.command_words.specs.Commands.{AreInRange, AreSearchable, HasHartsOf, HasItsHarts, HasLimits, trial_limits};
 ghost use Rattle.command_words.specs.Kept.{named, names_kept, pair_said, range, run_said, said, shown_said, source_said, spans_kept, stated, takes_kept};
 ghost use Rattle.command_words.specs.Grammar.{all_suit, apart_or_text, asked_by, asked_for, command_for, drawn_source, files_for, guest_for, guest_named};
 ghost use Rattle.command_words.specs.Grammar.{harts_for, one_name, policies_or_all, run_for, settings_of, shown_for, suits, trial_of};
-ghost use Rattle.command_words.specs.Grammar.{number_given, pair_for, program_for, two_names};
+ghost use Rattle.command_words.specs.Grammar.{number_given, pair_for, program_for, said_or_yes, two_names};
 ghost use Rattle.command_words.specs.Options.{After, Memory};
 ghost use Rattle.command_words.specs.Words.{command_of, texts};
 
 use crate::arguments::{Arguments, FileNames, arguments_of};
+use crate::ends::expected_end;
 use crate::options::{
-    ALL_OPTIONS, Apart, CALM, FRAMES, HARTS, JOBS, LINES, Numbers, OUTCOMES, OptionName, RUNS,
-    SEEDS, STEPS, number_of,
+    ALL_OPTIONS, CALM, DEPTHS, FRAMES, HARTS, JOBS, LINES, Numbers, OUTCOMES, OptionName, PLACES,
+    RUNS, SEEDS, STEPS, number_of, yes_or_no,
 };
 use crate::spans::MemorySpans;
 use crate::table::{CommandKind, ShownKind, SourceKind, command_kind};
 use crate::takes::Takes;
-use draw_policies::Policies;
+use draw_policies::{OutcomeKey, Policies};
 use guest_names::Name;
-use mach_types::Limits;
+use mach_types::{End, Limits};
 use std::alloc::{AllocError, Global};
 
 /// How the events of runs are drawn from their seeds.
@@ -127,6 +128,17 @@ pub struct Trial {
     pub seed: u64,
 }
 
+/// What the options of a search come to.
+#[derive(Clone, Copy, Drop)]
+pub struct SearchSettings {
+    /// The limits of a run; its steps are how many events lead to a place at most.
+    pub limits: Limits,
+    /// How many places are kept, 1 to 16,000,000.
+    pub places: u32,
+    /// Whether the script of each outcome is printed.
+    pub scripts: bool,
+}
+
 /// What the options of a command come to.
 #[derive(Clone, Copy, Drop)]
 pub struct Settings {
@@ -141,11 +153,15 @@ pub struct Settings {
     /// How many different outcomes are enough, 1 to 64; None: all runs are made.
     pub until: Option<u8>,
     /// By what outcomes are told apart.
-    pub apart: Apart,
+    pub apart: OutcomeKey,
     /// How many host threads make the runs, 1 to 64; None: as many as there are processors.
     pub jobs: Option<u8>,
     /// Which lines of a log are told.
     pub span: LineSpan,
+    /// How all runs are expected to end; None: nothing is.
+    pub expected: Option<End>,
+    /// What a search comes to.
+    pub search: SearchSettings,
 }
 
 /// To make runs of a program that seeds draw, one behind the other, and to tell their different outcomes.
@@ -155,6 +171,15 @@ pub struct Explore<'a> {
     pub program: &'a str,
     /// Which runs are made, and how.
     pub settings: Settings,
+}
+
+/// To find all outcomes of a program, and a script for each.
+#[derive(Clone, Copy, Drop)]
+pub struct Search<'a> {
+    /// The name of the program's file.
+    pub program: &'a str,
+    /// How far it is searched, and what is printed.
+    pub settings: SearchSettings,
 }
 
 /// To run two programs together, on the events of a script.
@@ -181,6 +206,8 @@ pub enum Command<'a> {
     Tries(Trial),
     /// An exploration of the runs of a program.
     Explores(Explore<'a>),
+    /// A search for all outcomes of a program.
+    Searches(Search<'a>),
     /// A run of two programs together.
     Pairs(PairRun<'a>),
 }
@@ -203,7 +230,8 @@ impl Trial {
 /// The first word is the command: `solo FILE`, with `--frames` and `--steps`; `play FILE SCRIPT` and the other
 /// commands on a script, with `--harts` too, `inspect` with `--memory` besides, and `trace` with `--from` and `--to`;
 /// `run FILE`, with `--harts` and `--seed` too; `draw FILE`, with `--policy`, `--calm` and `--after` besides; `explore FILE`,
-/// with `--policy`, `--calm`, `--runs`, `--until`, `--by` and `--jobs`; `make NAME N`, with no option; `trial NAME N`, with
+/// with `--policy`, `--calm`, `--runs`, `--until`, `--by`, `--jobs` and `--expect`; `outcomes FILE`, with `--harts`,
+/// `--frames`, `--places`, `--deep` and `--scripts`; `make NAME N`, with no option; `trial NAME N`, with
 /// `--harts`, `--steps` and `--seed`; or `pair FILE1 FILE2 SCRIPT`, with the options of `play`. Each limit is in its range.
 #[tactic(auto, unfolding(crate::specs::Words::command_of))]
 pub(crate) fn command_of<'a>(
@@ -253,6 +281,10 @@ impl<'a> Arguments<'a> {
             OptionName::From => self.from,
             OptionName::To => self.to,
             OptionName::Memory => self.memory,
+            OptionName::Expect => self.expect,
+            OptionName::Places => self.places,
+            OptionName::Deep => self.deep,
+            OptionName::Scripts => self.scripts,
         }
     }
 
@@ -313,6 +345,22 @@ impl<'a> Arguments<'a> {
         }
     }
 
+    /// What the options of a search come to.
+    fn search(&self) -> SearchSettings
+        ensures settings { result ≡ (settings_of (stated self.now).values).search }
+        ensures range { AreSearchable result }
+    {
+        SearchSettings {
+            limits: Limits {
+                harts: HARTS.number_or(2, self.harts) as u8,
+                frames: FRAMES.number_or(4_096, self.frames) as u32,
+                steps: DEPTHS.number_or(100_000, self.deep) as u32,
+            },
+            places: PLACES.number_or(1_000_000, self.places) as u32,
+            scripts: said_or_yes(self.scripts),
+        }
+    }
+
     /// What the options come to.
     fn settings(&self) -> Settings
         ensures settings { result ≡ settings_of (stated self.now).values }
@@ -327,6 +375,8 @@ impl<'a> Arguments<'a> {
             apart: apart_or_text(self.by),
             jobs: small_in(JOBS, self.jobs),
             span: self.span(),
+            expected: expected_end(self.expect),
+            search: self.search(),
         }
     }
 }
@@ -360,13 +410,23 @@ fn small_in(numbers: Numbers, text: Option<&str>) -> Option<u8>
     Some(number as u8)
 }
 
+/// Whether it is said, or else yes.
+fn said_or_yes(word: Option<&str>) -> bool
+    ensures { result ≡ said_or_yes (option_copied word.entry) }
+{
+    match word {
+        Some(word) => yes_or_no(word).unwrap_or(true),
+        None => true,
+    }
+}
+
 /// By what outcomes are told apart: as it is said, or by their texts.
-fn apart_or_text(word: Option<&str>) -> Apart
+fn apart_or_text(word: Option<&str>) -> OutcomeKey
     ensures { result ≡ apart_or_text (option_copied word.entry) }
 {
     match word {
-        Some(word) => Apart::of_word(word).unwrap_or(Apart::ByText),
-        None => Apart::ByText,
+        Some(word) => OutcomeKey::of_word(word).unwrap_or(OutcomeKey::ByText),
+        None => OutcomeKey::ByText,
     }
 }
 
@@ -409,6 +469,11 @@ fn command_for<'a>(
         CommandKind::Explores => {
             let program = program_for(names)?;
             Some(Command::Explores(Explore { program, settings }))
+        }
+        CommandKind::Searches => {
+            let program = program_for(names)?;
+            let settings = settings.search;
+            Some(Command::Searches(Search { program, settings }))
         }
         CommandKind::Pairs => Some(Command::Pairs(pair_for(settings.limits, names)?)),
     }

@@ -40,6 +40,10 @@ pub enum WordsFault {
     /// The value in this word isn't spans of memory, `AT:LENGTH` one comma apart: each an address of 1 to 16 hexadecimal digits in
     /// lower case and a number of bytes from 1 to 65,536, none past the end of addresses.
     NoSpans(usize),
+    /// The value in this word is no end of a run: `exit N` or `killed N` with a number from 0 to 255, `stuck` or `limit`.
+    NoEnd(usize),
+    /// The value in this word is neither `yes` nor `no`.
+    NeitherYesNorNo(usize),
     /// This word is a name too many.
     OneNameTooMany(usize),
     /// This word is to name a guest, and names none.

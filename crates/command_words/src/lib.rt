@@ -3,6 +3,7 @@
 
 mod arguments;
 mod commands;
+mod ends;
 mod faults;
 mod options;
 mod read;
@@ -13,10 +14,10 @@ mod takes;
 mod theorems;
 
 pub use commands::{
-    Command, Draws, Explore, Guest, LineSpan, PairRun, Run, Settings, Shown, Source, Trial,
+    Command, Draws, Explore, Guest, LineSpan, PairRun, Run, Search, SearchSettings, Settings,
+    Shown, Source, Trial,
 };
-pub use faults::{WordsFault, words_fault};
-pub use options::Apart;
+pub use faults::WordsFault;
 pub use read::{WordsError, read_words};
 pub use spans::{MemorySpan, MemorySpans};
 pub use table::{COMMANDS, CommandKind, ShownKind, SourceKind, command_kind};

@@ -5,10 +5,11 @@ ghost use Rattle.std.specs.Char.{is_ascii_digit};
 ghost use Rattle.std.specs.List.{list_all};
 ghost use Rattle.command_words.specs.Grammar.{number_given, number_or};
 ghost use Rattle.command_words.specs.Kept.{named, range, values_kept};
-ghost use Rattle.command_words.specs.Options.{apart_named, is_value, number_in, number_of, option_named, values_of};
+ghost use Rattle.command_words.specs.Options.{is_value, number_in, number_of, option_named, values_of, yes_or_no};
 
+use crate::ends::end_of_text;
 use crate::spans::are_spans;
-use draw_policies::Policies;
+use draw_policies::{OutcomeKey, Policies};
 
 /// The options that commands have.
 #[derive(Clone, Copy, Drop)]
@@ -41,10 +42,18 @@ pub(crate) enum OptionName {
     To,
     /// Which bytes of memory are shown.
     Memory,
+    /// How all runs of an exploration are expected to end.
+    Expect,
+    /// How many places a search keeps.
+    Places,
+    /// How many events lead to a place of a search at most.
+    Deep,
+    /// Whether the scripts of outcomes are printed.
+    Scripts,
 }
 
 /// All options.
-pub(crate) const ALL_OPTIONS: [OptionName; 14] = [
+pub(crate) const ALL_OPTIONS: [OptionName; 18] = [
     OptionName::Harts,
     OptionName::Frames,
     OptionName::Steps,
@@ -59,29 +68,11 @@ pub(crate) const ALL_OPTIONS: [OptionName; 14] = [
     OptionName::From,
     OptionName::To,
     OptionName::Memory,
+    OptionName::Expect,
+    OptionName::Places,
+    OptionName::Deep,
+    OptionName::Scripts,
 ];
-
-/// By what outcomes are told apart.
-#[derive(Clone, Copy, Drop)]
-pub enum Apart {
-    /// By their consoles and their ends.
-    ByText,
-    /// By their ends alone.
-    ByEnd,
-}
-
-impl Apart {
-    /// What a word says of it; None where it says nothing.
-    pub(crate) fn of_word(word: &str) -> Option<Apart>
-        ensures { result ≡ apart_named word.now }
-    {
-        match word {
-            "text" => Some(Apart::ByText),
-            "end" => Some(Apart::ByEnd),
-            _ => None,
-        }
-    }
-}
 
 /// Some numbers.
 #[derive(Clone, Copy, Drop)]
@@ -137,6 +128,29 @@ pub(crate) const LINES: Numbers = Numbers {
     most: 1_000_000,
 };
 
+/// How many places a search may keep.
+pub(crate) const PLACES: Numbers = Numbers {
+    least: 1,
+    most: 16_000_000,
+};
+
+/// How many events may lead to a place of a search.
+pub(crate) const DEPTHS: Numbers = Numbers {
+    least: 1,
+    most: 1_000_000,
+};
+
+/// What `yes` and `no` say; None of any other text.
+pub(crate) fn yes_or_no(text: &str) -> Option<bool>
+    ensures { result ≡ yes_or_no text.now }
+{
+    match text {
+        "yes" => Some(true),
+        "no" => Some(false),
+        _ => None,
+    }
+}
+
 /// The values of an option.
 #[derive(Clone, Copy, Drop)]
 pub(crate) enum Values {
@@ -145,11 +159,15 @@ pub(crate) enum Values {
     /// The names of policies.
     PolicyNames,
     /// By what outcomes are told apart.
-    ApartNames,
+    KeyNames,
     /// The names of files: any text but `-`.
     FileNames,
     /// Spans of memory, one comma apart.
     MemorySpans,
+    /// Ends of runs.
+    EndNames,
+    /// `yes` and `no`.
+    YesOrNo,
 }
 
 impl OptionName {
@@ -172,6 +190,10 @@ impl OptionName {
             "--from" => Some(OptionName::From),
             "--to" => Some(OptionName::To),
             "--memory" => Some(OptionName::Memory),
+            "--expect" => Some(OptionName::Expect),
+            "--places" => Some(OptionName::Places),
+            "--deep" => Some(OptionName::Deep),
+            "--scripts" => Some(OptionName::Scripts),
             _ => None,
         }
     }
@@ -190,11 +212,15 @@ impl OptionName {
             OptionName::After => Values::FileNames,
             OptionName::RunCount => Values::Numbers(RUNS),
             OptionName::Until => Values::Numbers(OUTCOMES),
-            OptionName::By => Values::ApartNames,
+            OptionName::By => Values::KeyNames,
             OptionName::Jobs => Values::Numbers(JOBS),
             OptionName::From => Values::Numbers(LINES),
             OptionName::To => Values::Numbers(LINES),
             OptionName::Memory => Values::MemorySpans,
+            OptionName::Expect => Values::EndNames,
+            OptionName::Places => Values::Numbers(PLACES),
+            OptionName::Deep => Values::Numbers(DEPTHS),
+            OptionName::Scripts => Values::YesOrNo,
         }
     }
 }
@@ -207,9 +233,11 @@ impl Values {
         match self {
             Values::Numbers(numbers) => numbers.number_in(text).is_some(),
             Values::PolicyNames => Policies::of_word(text).is_some(),
-            Values::ApartNames => Apart::of_word(text).is_some(),
+            Values::KeyNames => OutcomeKey::of_word(text).is_some(),
             Values::FileNames => text != "-",
             Values::MemorySpans => are_spans(text),
+            Values::EndNames => end_of_text(text).is_some(),
+            Values::YesOrNo => yes_or_no(text).is_some(),
         }
     }
 }

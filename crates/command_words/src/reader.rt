@@ -72,9 +72,11 @@ impl Values {
                 WordsFault::OutOfRange { word, least, most }
             }
             Values::PolicyNames => WordsFault::UnknownPolicy(word),
-            Values::ApartNames => WordsFault::NeitherTextNorEnd(word),
+            Values::KeyNames => WordsFault::NeitherTextNorEnd(word),
             Values::FileNames => WordsFault::NoValue(word),
             Values::MemorySpans => WordsFault::NoSpans(word),
+            Values::EndNames => WordsFault::NoEnd(word),
+            Values::YesOrNo => WordsFault::NeitherYesNorNo(word),
         }
     }
 }

@@ -1,5 +1,5 @@
-//! The commands: of each its word, and whether it makes or tries a guest, explores runs or runs two programs together, or how the log of
-//! its run comes about and what is shown of it.
+//! The commands: of each its word, and whether it makes or tries a guest, explores runs, searches for all outcomes or runs two programs
+//! together, or how the log of its run comes about and what is shown of it.
 
 ghost use Rattle.std.specs.Prelude.{◌≡◌};
 ghost use Rattle.command_words.specs.Table.{command_kind};
@@ -76,14 +76,16 @@ pub enum CommandKind {
     Tries,
     /// It explores the runs of a program.
     Explores,
+    /// It searches for all outcomes of a program.
+    Searches,
     /// It runs two programs together, on the events of a script.
     Pairs,
 }
 
 /// The words of the commands.
-pub const COMMANDS: [&str; 13] = [
+pub const COMMANDS: [&str; 14] = [
     "solo", "play", "blocks", "inspect", "trace", "acts", "gather", "run", "draw", "explore",
-    "make", "trial", "pair",
+    "outcomes", "make", "trial", "pair",
 ];
 
 /// What the command of a word is; None where no command has the word.
@@ -101,6 +103,7 @@ pub fn command_kind(word: &str) -> Option<CommandKind>
         "run" => (SourceKind::ByWorkers, ShownKind::Output),
         "draw" => (SourceKind::ByDraws, ShownKind::Output),
         "explore" => return Some(CommandKind::Explores),
+        "outcomes" => return Some(CommandKind::Searches),
         "make" => return Some(CommandKind::Makes),
         "trial" => return Some(CommandKind::Tries),
         "pair" => return Some(CommandKind::Pairs),

@@ -26,6 +26,10 @@ pub(crate) struct OptionSet {
     from: bool,
     to: bool,
     memory: bool,
+    expect: bool,
+    places: bool,
+    deep: bool,
+    scripts: bool,
 }
 
 impl OptionSet {
@@ -55,6 +59,10 @@ impl OptionSet {
             OptionName::From => self.from,
             OptionName::To => self.to,
             OptionName::Memory => self.memory,
+            OptionName::Expect => self.expect,
+            OptionName::Places => self.places,
+            OptionName::Deep => self.deep,
+            OptionName::Scripts => self.scripts,
         }
     }
 
@@ -78,6 +86,10 @@ impl OptionSet {
             OptionName::From => all.from = true,
             OptionName::To => all.to = true,
             OptionName::Memory => all.memory = true,
+            OptionName::Expect => all.expect = true,
+            OptionName::Places => all.places = true,
+            OptionName::Deep => all.deep = true,
+            OptionName::Scripts => all.scripts = true,
         }
         all
     }
@@ -99,6 +111,10 @@ const NO_OPTIONS: OptionSet = OptionSet {
     from: false,
     to: false,
     memory: false,
+    expect: false,
+    places: false,
+    deep: false,
+    scripts: false,
 };
 
 /// The options of a command that runs on one hart: it chooses nothing.
@@ -152,7 +168,18 @@ const OF_EXPLORE: OptionSet = OptionSet {
     until: true,
     by: true,
     jobs: true,
+    expect: true,
     ..OF_DRAWS
+};
+
+/// The options of a search for all outcomes.
+const OF_A_SEARCH: OptionSet = OptionSet {
+    harts: true,
+    frames: true,
+    places: true,
+    deep: true,
+    scripts: true,
+    ..NO_OPTIONS
 };
 
 /// What a name is.
@@ -274,6 +301,7 @@ impl CommandKind {
             CommandKind::Makes => of_a_guest(NO_OPTIONS),
             CommandKind::Tries => of_a_guest(OF_A_TRIAL),
             CommandKind::Explores => of_a_program(OF_EXPLORE),
+            CommandKind::Searches => of_a_program(OF_A_SEARCH),
             CommandKind::Pairs => Takes {
                 names: NameKinds::Three(
                     NameKind::Program,

@@ -3,6 +3,7 @@ pub mod Acting
 pub mod Aims
 pub mod Beginning
 pub mod Conditions
+pub mod OutcomeKeys
 pub mod OwnSignals
 pub mod Policies
 pub mod Turns

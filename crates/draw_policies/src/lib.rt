@@ -8,15 +8,17 @@ mod accesses;
 mod acting;
 mod aims;
 mod beginning;
+mod outcome_keys;
 mod policies;
 mod theorems;
 mod turns;
 mod words;
 
 pub use accesses::{Access, access_of_effect, access_of_store, race};
-pub use acting::{can_act, has_stores};
+pub use acting::has_stores;
 pub use aims::{Aim, still_due};
 pub use beginning::thread_to_run;
+pub use outcome_keys::OutcomeKey;
 pub use policies::{Policies, Policy, Weights};
 pub use theorems::{own_signals_come_first, turn_is_allowed, turns_come};
 pub use turns::{Turn, turn_of};

@@ -74,7 +74,7 @@ fn register_alone(machine: &Machine, hart: Hart) -> Option<u8>
     }
 }
 
-/// Makes the next instruction of a hart that goes freely ([`Machine::goes_freely`]), which sets a register and
+/// Makes the next instruction of a hart that goes freely (`goes_freely`), which sets a register and
 /// the pc alone, and appends all that is told of it: its entry. None exactly where the hart doesn't go freely;
 /// then nothing is made or told. The run must go on.
 ///

@@ -7,7 +7,7 @@ use Rattle.mach_types.specs.declared.limits.End.TheVariants.{Exit, Stuck}
 use Rattle.draw_policies.specs.declared.policies.Policy.TheVariants as policy
 use Rattle.drawn_machine.specs.Waits.{counts_of, no_waits}
 use Rattle.drawn_machine.specs.declared.store_pcs.StorePcs.{StorePcs}
-use Rattle.explored_runs.specs.declared.exploration.Apart.TheVariants.{ByText, ByEnd}
+use Rattle.draw_policies.specs.declared.outcome_keys.OutcomeKey.TheVariants.{ByText, ByEnd}
 use Rattle.explored_runs.specs.declared.made.Made.{Made}
 use Rattle.explored_runs.specs.Accounts.{Account, nothing, told}
 use Rattle.explored_runs.specs.Explorations.{seed_at}

@@ -6,20 +6,20 @@ use Rattle.block_model.specs.History.{console}
 use Rattle.block_model.specs.Setting.{Setting}
 use Rattle.drawn_runs.specs.declared.manner.Manner.{Manner}
 use Rattle.drawn_runs.specs.WholeRuns.{IsDrawnRun}
-use Rattle.explored_runs.specs.declared.exploration.Apart.{Apart}
-use Rattle.explored_runs.specs.declared.exploration.Apart.TheVariants.{ByText, ByEnd}
+use Rattle.draw_policies.specs.declared.outcome_keys.OutcomeKey.{OutcomeKey}
+use Rattle.draw_policies.specs.declared.outcome_keys.OutcomeKey.TheVariants.{ByText, ByEnd}
 use Rattle.explored_runs.specs.declared.exploration.Exploration.{Exploration}
 use Rattle.explored_runs.specs.declared.made.Made.{Made}
 use Rattle.explored_runs.specs.Explorations.{manner_at}
 use Rattle.explored_runs.specs.Tallies.{tally_of}
 
 -- the console of a run, where outcomes are told apart by it; else nothing
-abbrev pub kept : Apart → List ℕ → List ℕ
+abbrev pub kept : OutcomeKey → List ℕ → List ℕ
 kept ByText bytes = bytes
 kept ByEnd bytes = []
 
 -- what a run in this manner came to, where this is its log
-abbrev pub made_by : Apart → Manner → Setting → List Entry → Made
+abbrev pub made_by : OutcomeKey → Manner → Setting → List Entry → Made
 made_by apart manner s log = record {
   seed = manner.seed;
   policy = manner.policy;

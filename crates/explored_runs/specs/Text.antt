@@ -5,11 +5,10 @@ use Rattle.std.specs.List.{flat_map}
 use Rattle.draw_policies.specs.Policies.{word_of}
 use Rattle.drawn_machine.specs.declared.store_pcs.StorePcs.{StorePcs}
 use Rattle.drawn_machine.specs.declared.store_waits.TheConstants.{LONG_WAIT}
-use Rattle.place_text.specs.Ends.{end_line, number_line}
+use Rattle.place_text.specs.Ends.{console_text, end_line, number_line}
 use Rattle.place_text.specs.Fields.{line}
-use Rattle.step_log.specs.Text.{newline}
-use Rattle.explored_runs.specs.declared.exploration.Apart.{Apart}
-use Rattle.explored_runs.specs.declared.exploration.Apart.TheVariants.{ByText, ByEnd}
+use Rattle.draw_policies.specs.declared.outcome_keys.OutcomeKey.{OutcomeKey}
+use Rattle.draw_policies.specs.declared.outcome_keys.OutcomeKey.TheVariants.{ByText, ByEnd}
 use Rattle.explored_runs.specs.declared.explored.Found.{Found}
 use Rattle.explored_runs.specs.declared.explored.Others.{Others}
 use Rattle.explored_runs.specs.Accounts.{Account}
@@ -22,13 +21,13 @@ found_line f = line (codes "runs")
     (decimal f.runs ∷ codes "seed" ∷ decimal f.seed ∷ codes "policy" ∷ word_of f.policy
     ∷ codes "steps" ∷ decimal f.steps ∷ [])
 
--- the console's length, its bytes and a newline, where outcomes are told apart by it
-abbrev pub console_part : Apart → List ℕ → List ℕ
-console_part ByText console = number_line (codes "console") (length console) ++ console ++ newline ∷ []
+-- the console, where outcomes are told apart by it
+abbrev pub console_part : OutcomeKey → List ℕ → List ℕ
+console_part ByText console = console_text console
 console_part ByEnd console = []
 
 -- an outcome
-abbrev pub found_text : Apart → Found → List ℕ
+abbrev pub found_text : OutcomeKey → Found → List ℕ
 found_text apart f = found_line f ++ console_part apart f.console ++ end_line f.end
 
 -- `others N seed S`: how many runs came to none of the outcomes that are told apart, and the seed of the first of them
@@ -62,7 +61,7 @@ overtaken_line stores =
     line (codes "overtaken") (decimal (length stores.overtaken) ∷ codes "of" ∷ decimal (length stores.executed) ∷ [])
 
 -- the whole text
-unfoldable pub explored_text : Apart → Account → List ℕ
+unfoldable pub explored_text : OutcomeKey → Account → List ℕ
 explored_text apart a =
     number_line (codes "outcomes") (length a.found) ++ flat_map (found_text apart) a.found ++ others_text a.others
     ++ number_line (codes "runs") a.runs ++ line (codes "harts") (harts_fields 0 a.tried.harts)

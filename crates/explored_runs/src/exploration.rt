@@ -4,17 +4,8 @@ ghost use Rattle.std.specs.Prelude.{◌≡◌};
 ghost use Rattle.drawn_runs.specs.Manners.{manner_for};
 ghost use Rattle.explored_runs.specs.Explorations.{seed_at};
 
-use draw_policies::Policies;
+use draw_policies::{OutcomeKey, Policies};
 use drawn_runs::Manner;
-
-/// By what outcomes are told apart.
-#[derive(Clone, Copy, Drop)]
-pub enum Apart {
-    /// By their consoles and their ends.
-    ByText,
-    /// By their ends alone. No console is kept.
-    ByEnd,
-}
 
 /// Which runs are made, and when that is enough.
 #[derive(Clone, Copy, Drop)]
@@ -30,7 +21,7 @@ pub struct Exploration {
     /// How many different outcomes are enough, 1 to 64: no run is told behind the one that brings the last of them.
     pub until: Option<u8>,
     /// By what outcomes are told apart.
-    pub apart: Apart,
+    pub apart: OutcomeKey,
 }
 
 impl Exploration {

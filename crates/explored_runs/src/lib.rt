@@ -20,8 +20,8 @@ mod text;
 mod theorems;
 mod waits;
 
-pub use exploration::{Apart, Exploration};
-pub use explored::{Explored, Found, MOST_FOUND, Others};
+pub use exploration::Exploration;
+pub use explored::{Explored, Found, Others};
 pub use exploring::explore;
 pub use printed::Printed;
 pub use sharing::explore_on;

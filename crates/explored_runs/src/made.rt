@@ -7,10 +7,10 @@ ghost use Rattle.block_model.specs.Setting.{setting_of};
 ghost use Rattle.drawn_machine.specs.{Overtaken.stores_in, Preemptions.left_inside_in, Waits.wait_counts_in};
 ghost use Rattle.explored_runs.specs.Made.{IsMadeAt, kept, made_by};
 
-use crate::exploration::{Apart, Exploration};
+use crate::exploration::Exploration;
 use crate::printed::Printed;
 use crate::tallies::Tally;
-use draw_policies::Policy;
+use draw_policies::{OutcomeKey, Policy};
 use drawn_machine::DrawnRun;
 use drawn_runs::Manner;
 use elf_load::Image;
@@ -55,7 +55,12 @@ pub(crate) fn make_run(
 }
 
 /// What a run in this manner came to.
-fn made_by(alloc: Global, apart: Apart, manner: &Manner, run: &DrawnRun) -> Result<Made, AllocError>
+fn made_by(
+    alloc: Global,
+    apart: OutcomeKey,
+    manner: &Manner,
+    run: &DrawnRun,
+) -> Result<Made, AllocError>
     requires harts { run.now.machine.setting.limits.harts ≤ 8 }
     requires log { length run.now.machine.log ≤ 1000000 }
     requires inside { run.now.left_inside ≡ left_inside_in run.now.machine }
@@ -87,11 +92,11 @@ fn made_by(alloc: Global, apart: Apart, manner: &Manner, run: &DrawnRun) -> Resu
 }
 
 /// The console of a run, where outcomes are told apart by it; else nothing.
-fn kept(apart: Apart, console: &[u8]) -> &[u8]
+fn kept(apart: OutcomeKey, console: &[u8]) -> &[u8]
     ensures { result.now ≡ kept apart console.now }
 {
     match apart {
-        Apart::ByText => console,
-        Apart::ByEnd => &[],
+        OutcomeKey::ByText => console,
+        OutcomeKey::ByEnd => &[],
     }
 }

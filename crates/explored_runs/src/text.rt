@@ -10,8 +10,8 @@ ghost use Rattle.explored_runs.specs.{Accounts.account_of, Deciles.deciles};
 ghost use Rattle.explored_runs.specs.Text.{console_part, explored_text, found_line, found_text, harts_fields, others_text, wait_field, waited_line, overtaken_line};
 
 use crate::deciles::{TENTHS, decile, total_of};
-use crate::exploration::Apart;
 use crate::explored::{Explored, Found, Others};
+use draw_policies::OutcomeKey;
 use drawn_machine::{LONG_WAIT, StorePcs};
 use place_text::fields::{begin_line, push_named_number, push_number, push_word};
 use place_text::push_end;
@@ -24,7 +24,7 @@ use std::alloc::{AllocError, Global};
 pub fn explored_text(
     alloc: Global,
     explored: &Explored,
-    apart: Apart,
+    apart: OutcomeKey,
 ) -> Result<Vec<u8>, AllocError>
     ensures { IfOk result (λ text. text.items ≡ explored_text apart (account_of explored.now)) }
 {
@@ -70,7 +70,7 @@ fn push_two_counts(
 }
 
 /// Appends the outcomes.
-fn push_all_found(text: &mut Vec<u8>, apart: Apart, all: &[Found]) -> Result<(), AllocError>
+fn push_all_found(text: &mut Vec<u8>, apart: OutcomeKey, all: &[Found]) -> Result<(), AllocError>
     ensures { OnOk result (text.new.items ≡ text.old.items ++ flat_map (found_text apart) all.now) }
 {
     for found in all {
@@ -80,7 +80,7 @@ fn push_all_found(text: &mut Vec<u8>, apart: Apart, all: &[Found]) -> Result<(),
 }
 
 /// Appends an outcome.
-fn push_found(text: &mut Vec<u8>, apart: Apart, found: &Found) -> Result<(), AllocError>
+fn push_found(text: &mut Vec<u8>, apart: OutcomeKey, found: &Found) -> Result<(), AllocError>
     ensures { OnOk result (text.new.items ≡ text.old.items ++ found_text apart found.now) }
 {
     push_found_line(text, found)?;
@@ -102,17 +102,17 @@ fn push_found_line(text: &mut Vec<u8>, found: &Found) -> Result<(), AllocError>
 }
 
 /// Appends the console's length, its bytes and a newline, where outcomes are told apart by it.
-fn push_console(text: &mut Vec<u8>, apart: Apart, console: &[u8]) -> Result<(), AllocError>
+fn push_console(text: &mut Vec<u8>, apart: OutcomeKey, console: &[u8]) -> Result<(), AllocError>
     ensures { OnOk result (text.new.items ≡ text.old.items ++ console_part apart console.now) }
 {
     match apart {
-        Apart::ByText => {
+        OutcomeKey::ByText => {
             push_count(text, b"console", console.len() as u64)?;
             text.extend_from_slice(console)?;
             text.push(b'\n')?;
             Ok(())
         }
-        Apart::ByEnd => Ok(()),
+        OutcomeKey::ByEnd => Ok(()),
     }
 }
 

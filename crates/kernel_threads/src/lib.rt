@@ -10,6 +10,7 @@ mod theorems;
 mod waiters;
 
 pub use mach_types::{Saved, ThreadState};
+pub use rows::{Row, Stage};
 pub use table::Threads;
 pub use theorems::{
     others_keep_what_they_were_saved_with, thread_has_what_it_was_saved_with,

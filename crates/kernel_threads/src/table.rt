@@ -1,8 +1,8 @@
 //! The table of threads.
 
-ghost use Rattle.std.specs.Prelude.{◌≡◌, ◌∷◌, [], ◌+◌, ◌-◌, ◌^◌, ◌<◌, ◌↔◌, not, filter, length, IfOk, IfErr, OnOk, OnErr, IsErr, IfSome, IfNone, IsTrue, Some, None};
+ghost use Rattle.std.specs.Prelude.{◌≡◌, ◌∷◌, [], ◌+◌, ◌-◌, ◌^◌, ◌<◌, ◌↔◌, not, filter, length, slice_get, IfOk, IfErr, OnOk, OnErr, IsErr, IfSome, IfNone, IsTrue, Some, None};
 ghost use Rattle.std.specs.Option.{option_map};
-ghost use Rattle.kernel_threads.specs.Rows.{new_row};
+ghost use Rattle.kernel_threads.specs.Rows.{all_saved_in, new_row, threads_in};
 ghost use Rattle.kernel_threads.specs.Table as spec;
 ghost use Rattle.mach_types.specs.Kernel.Threads as process;
 ghost use Rattle.mach_types.specs.declared.errors.TheConstants.{EAGAIN};
@@ -234,6 +234,28 @@ impl Threads {
         ensures table { spec.IsTable self.now }
     {
         self.slots.rows.len() as u8
+    }
+
+    /// The rows of the live threads, in rising order of number.
+    pub fn rows(&self) -> &[Row]
+        ensures threads { threads_in result.now ≡ self.now.threads.live }
+        ensures saved { all_saved_in result.now ≡ self.now.saved }
+    {
+        &self.slots.rows
+    }
+
+    /// How many threads wait.
+    pub fn waiting(&self) -> u8
+        ensures { result ≡ length self.now.threads.waiters }
+    {
+        self.slots.waiters.len() as u8
+    }
+
+    /// The waiting thread at an index, 0 for the longest waiting; None exactly where no more wait.
+    pub fn waiter(&self, index: u8) -> Option<u32>
+        ensures { result ≡ slice_get self.now.threads.waiters index }
+    {
+        Some(self.slots.waiters.get(index as usize)?.number)
     }
 
     /// How many numbers were given: those of thread 1 and of each child, live or gone.

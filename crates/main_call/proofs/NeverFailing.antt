@@ -53,6 +53,8 @@ sure_of words files after held held_after status outcome =
       no_write_fault = λ is. none.1 (outcome.write is).0;
       done = outcome.done;
       plain = outcome.plain;
+      met = outcome.met;
+      unmet = outcome.unmet;
       usage = outcome.usage;
       usage_always = λ no_command.
           without_six status (λ is. none.1 (outcome.write is).0) (outcome.usage_always no_command);

@@ -13,8 +13,9 @@ use top_call::rseq_explained;
 /// Does what the words ask for, and gives the exit status.
 ///
 /// `words` are those of the command line without the program's own name. The answer is written to `sink`:
-/// at status 0 the output of the command, at every other status one line that names the fault. Where the
-/// sink fails, the status is 6, and it holds a prefix of the text.
+/// at status 0 and 1 the output of the command, at every other status one line that names the fault. It is 1 where `explore` is told
+/// how its runs are expected to end, and one that it tells of ended otherwise. Where the sink fails, the status is 6, and it holds a
+/// prefix of the text.
 ///
 /// `run` alone starts worker threads and waits for them, and `explore` other threads, unless its `--jobs` is 1. The gate is
 /// passed once before each turn of a worker.

@@ -14,7 +14,7 @@ use std::thread::Threads;
 use top_call::rseq_quiet;
 
 /// `rseq_main` over files and a sink that never fail. Its status is neither 5 nor 6, and on good
-/// files it is 0, or 7 for want of memory.
+/// files it is 0, or 1 where a run ended otherwise than was expected, or 7 for want of memory.
 pub fn sure_main<R: Threads + Wait + Sync, G: Gate + Sync>(
     alloc: Global,
     rt: &R,

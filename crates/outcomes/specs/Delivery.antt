@@ -1,5 +1,5 @@
 -- Writing a text and giving its status.
-use Rattle.std.specs.Prelude.{ℕ, ◌≡◌, ◌⊎◌, List, Option, Some, None, Result, Ok, Err, false}
+use Rattle.std.specs.Prelude.{ℕ, ◌≡◌, ◌⊎◌, List, Option, Some, None, Result, Ok, Err, false, option_map}
 use Rattle.std.specs.declared.io.ErrorKind.{ErrorKind}
 use Rattle.mach_types.specs.declared.limits.Limits.{Limits}
 use Rattle.elf_load.specs.Faults.{first_fault}
@@ -9,9 +9,11 @@ use Rattle.outside.specs.Told.{Gained, GainedPrefix}
 use Rattle.command_words.specs.declared.commands.Guest.{Guest as AskedGuest}
 use Rattle.call_reasons.specs.declared.reasons.Explained.{Explained}
 use Rattle.call_reasons.specs.declared.reasons.FileRole.{FileRole}
+use Rattle.call_reasons.specs.declared.reasons.OtherEnd.{OtherEnd}
 use Rattle.call_reasons.specs.declared.reasons.Reason.{Reason}
-use Rattle.call_reasons.specs.declared.reasons.Reason.TheVariants.{Words, Unread, NoMemory, TooBig, Elf, Script, Guest, Unwritten}
+use Rattle.call_reasons.specs.declared.reasons.Reason.TheVariants.{Words, Unread, NoMemory, TooBig, Elf, Script, Guest, EndedOtherwise, Unwritten}
 use Rattle.outcomes.specs.ElfPlaces.{place_of}
+use Rattle.outcomes.specs.Judged.{output_status}
 use Rattle.outcomes.specs.Programs.{Files, IsTooBig}
 use Rattle.call_reasons.specs.Reasons.{most_program_bytes}
 use Rattle.outcomes.specs.Reasons.{IsRefusedAbout}
@@ -35,8 +37,9 @@ IsDelivered old new before after text due status =
     IsWritten old new text due status ⊎ IsCutShort old new before after text status
 
 -- how a call that has this answer is explained where it is written
-abbrev pub due_for : Result (List ℕ) Reason → Explained
-due_for (Ok text) = record { status = 0; reason = None; untold = None }
+abbrev pub due_for : Result (List ℕ × Option OtherEnd) Reason → Explained
+due_for (Ok judged) =
+    record { status = output_status judged.1; reason = option_map EndedOtherwise judged.1; untold = None }
 due_for (Err reason) = record { status = reason_status reason; reason = Some reason; untold = None }
 
 -- the sink failed, whose count of faults rose and which says this of it, and what was due is untold
@@ -68,6 +71,7 @@ IsFileReason files name file old new said (TooBig other) =
 IsFileReason files name file old new said (Elf other fault about) = ⊥
 IsFileReason files name file old new said (Script number fault) = ⊥
 IsFileReason files name file old new said (Guest number) = ⊥
+IsFileReason files name file old new said (EndedOtherwise found) = ⊥
 IsFileReason files name file old new said (Unwritten trouble) = ⊥
 
 -- why no image is taken from these bytes, which are those of a file of this role
@@ -80,6 +84,7 @@ IsLoadReason file bytes limits (Elf other fault about) =
     (other ≡ file) × (first_fault bytes limits.frames ≡ Some fault) × (about ≡ place_of bytes limits fault)
 IsLoadReason file bytes limits (Script number fault) = ⊥
 IsLoadReason file bytes limits (Guest number) = ⊥
+IsLoadReason file bytes limits (EndedOtherwise found) = ⊥
 IsLoadReason file bytes limits (Unwritten trouble) = ⊥
 
 -- why the program of this name isn't taken, which has this role: its file isn't read, or no image is taken from its bytes
@@ -95,6 +100,7 @@ IsTakeReason files name file limits old new said (Elf other fault about) =
     (other ≡ file) × IsRefusedAbout files name limits fault about
 IsTakeReason files name file limits old new said (Script number fault) = ⊥
 IsTakeReason files name file limits old new said (Guest number) = ⊥
+IsTakeReason files name file limits old new said (EndedOtherwise found) = ⊥
 IsTakeReason files name file limits old new said (Unwritten trouble) = ⊥
 
 -- why the file of a guest isn't made: memory is short, or the guest doesn't take its size
@@ -106,4 +112,5 @@ IsGuestReason guest (TooBig file) = ⊥
 IsGuestReason guest (Elf file fault about) = ⊥
 IsGuestReason guest (Script number fault) = ⊥
 IsGuestReason guest (Guest number) = (is_size guest.name guest.size ≡ false) × (number ≡ guest.size)
+IsGuestReason guest (EndedOtherwise found) = ⊥
 IsGuestReason guest (Unwritten trouble) = ⊥

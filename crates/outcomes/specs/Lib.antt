@@ -4,10 +4,12 @@ pub mod Delivery
 pub mod ElfPlaces
 pub mod Explorations
 pub mod Guests
+pub mod Judged
 pub mod Needs
 pub mod Outcome
 pub mod Outputs
 pub mod PairFiles
 pub mod Programs
 pub mod Reasons
+pub mod Searches
 pub mod Told

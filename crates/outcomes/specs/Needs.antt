@@ -30,6 +30,7 @@ needs_of (Some (words.Runs run)) = needs_by run.program run.source run.limits
 needs_of (Some (words.Makes guest)) = Guest guest
 needs_of (Some (words.Tries trial)) = Guest trial.guest
 needs_of (Some (words.Explores program settings)) = Program program settings.limits
+needs_of (Some (words.Searches program settings)) = Program program settings.limits
 needs_of (Some (words.Pairs pair)) = Pair pair
 
 -- what the command of the words needs

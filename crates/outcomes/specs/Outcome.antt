@@ -6,6 +6,7 @@ use Rattle.outside.specs.Told.{Gained, GainedPrefix}
 use Rattle.call_reasons.specs.declared.faults.Fault.{Fault}
 use Rattle.call_reasons.specs.declared.faults.Fault.TheVariants.{Usage, Read, Memory, Big, Elf, Script, Guest}
 use Rattle.outcomes.specs.Causes.{HasBigFile, IsCause, IsOutsideGuest, IsRefusalOf, IsScriptRefusalOf, ReadFailed}
+use Rattle.outcomes.specs.Judged.{IsMet, IsUnmet}
 use Rattle.outcomes.specs.Needs.{needs_in}
 use Rattle.outcomes.specs.Outputs.{IsOutput, IsPlainOutput}
 use Rattle.outcomes.specs.Programs.{Files}
@@ -102,7 +103,7 @@ NoneFailed call = ¬ (CouldNotRead call) × ¬ (CouldNotWrite call)
 -- the statuses that can come
 abbrev pub IsStatus : ℕ → Type 0
 IsStatus status =
-    (status ≡ 0) ⊎ (status ≡ 2) ⊎ (status ≡ 3) ⊎ (status ≡ 4)
+    (status ≡ 0) ⊎ (status ≡ 1) ⊎ (status ≡ 2) ⊎ (status ≡ 3) ⊎ (status ≡ 4)
     ⊎ (status ≡ 5) ⊎ (status ≡ 6) ⊎ (status ≡ 7) ⊎ (status ≡ 8) ⊎ (status ≡ 9)
 
 -- what a call answers, and what it leaves
@@ -111,6 +112,10 @@ pub record IsOutcome (call : Call) (status : ℕ) : Type 0 where
   -- 0: the sink gained the output of the words, which is the plain machine's too
   pub done : status ≡ 0 → Wrote call (IsOutput call.files call.words)
   pub plain : status ≡ 0 → Wrote call (IsPlainOutput call.files call.words)
+  -- and where an end is expected, all runs that are told ended so
+  pub met : status ≡ 0 → Wrote call (IsMet call.files (command_of call.words))
+  -- 1: the sink gained the output of the words, of which a run ended otherwise than was expected
+  pub unmet : status ≡ 1 → Wrote call (IsUnmet call.files (command_of call.words))
   -- 2: the words are of no command; it yields to a failed write, and not to want of memory
   pub usage : status ≡ 2 → (command_of call.words ≡ None) × WroteText call (fault_line Usage)
   pub usage_always : command_of call.words ≡ None → (status ≡ 2) ⊎ (status ≡ 6)
@@ -138,7 +143,7 @@ pub record IsOutcome (call : Call) (status : ℕ) : Type 0 where
       → NoneFailed call → (status ≡ 9) ⊎ (status ≡ 7)
   -- where the files are told and good, or the guest takes its size, and no device fails, there is an output
   pub complete : TellsGoodFiles call.files (needs_in call.words)
-      → NoneFailed call → (status ≡ 0) ⊎ (status ≡ 7)
+      → NoneFailed call → (status ≡ 0) ⊎ (status ≡ 1) ⊎ (status ≡ 7)
   -- no file changes, and no count of faults falls
   pub files : call.files_after ≡ call.files
   pub shelf_counts : NoneFalls call.read_faults call.read_faults_after
@@ -158,6 +163,10 @@ pub record IsSureOutcome
   -- 0: the sink gained the output of the words, which is the plain machine's too
   pub done : status ≡ 0 → GainedOf held held_after (IsOutput (all_told files) words)
   pub plain : status ≡ 0 → GainedOf held held_after (IsPlainOutput (all_told files) words)
+  -- and where an end is expected, all runs that are told ended so
+  pub met : status ≡ 0 → GainedOf held held_after (IsMet (all_told files) (command_of words))
+  -- 1: the sink gained the output of the words, of which a run ended otherwise than was expected
+  pub unmet : status ≡ 1 → GainedOf held held_after (IsUnmet (all_told files) (command_of words))
   -- 2: exactly where the words are of no command
   pub usage : status ≡ 2 → (command_of words ≡ None) × Gained held held_after (fault_line Usage)
   pub usage_always : command_of words ≡ None → status ≡ 2
@@ -176,4 +185,4 @@ pub record IsSureOutcome
   pub guest : status ≡ 9 → GainedOf held held_after (IsGuestLine words)
   pub guest_always : (number : ℕ) → IsOutsideGuest (needs_in words) number → (status ≡ 9) ⊎ (status ≡ 7)
   -- where the files are good, or the guest takes its size, there is an output
-  pub complete : TellsGoodFiles (all_told files) (needs_in words) → (status ≡ 0) ⊎ (status ≡ 7)
+  pub complete : TellsGoodFiles (all_told files) (needs_in words) → (status ≡ 0) ⊎ (status ≡ 1) ⊎ (status ≡ 7)

@@ -1,5 +1,5 @@
 -- The output of a command: what it shows of a whole run of its program, the file of its guest, the text of its trial, that of its
--- exploration, or that of its pair.
+-- exploration, that of its search for all outcomes, or that of its pair.
 use Rattle.std.specs.Prelude.{ℕ, ◌≡◌, ◌++◌, List, Option, Some, None, Ok, length, map}
 use Rattle.std.specs.List.{flat_map}
 use Rattle.mach_types.specs.declared.events.Entry.{Entry}
@@ -17,7 +17,7 @@ use Rattle.block_view.specs.Acts.{acts_of}
 use Rattle.log_gather.specs.Gathered.{gathered}
 use Rattle.command_words.specs.declared.commands.Draws.{Draws}
 use Rattle.command_words.specs.declared.commands.Trial.{Trial}
-use Rattle.command_words.specs.Commands.{Command, Run, Runs, Makes, Tries, Explores, Pairs, Source, Rule, Script, Workers, Drawn, DrawnAfter}
+use Rattle.command_words.specs.Commands.{Command, Run, Runs, Makes, Tries, Explores, Searches, Pairs, Source, Rule, Script, Workers, Drawn, DrawnAfter}
 use Rattle.command_words.specs.Shown.{Shown}
 use Rattle.command_words.specs.Shown as shows
 use Rattle.command_words.specs.Words.{command_of}
@@ -26,6 +26,7 @@ use Rattle.outcomes.specs.Guests.{IsGuestOutput, IsPlainTrialOutput, IsTrialOutp
 use Rattle.outcomes.specs.PairFiles.{IsPairOutput}
 use Rattle.run_texts.specs.Places.{asked_place}
 use Rattle.outcomes.specs.Programs.{Files, IsProgram, IsScript}
+use Rattle.outcomes.specs.Searches.{IsSearchOutput}
 use Rattle.whole_runs.specs.Asks.{asks_of}
 use Rattle.whole_runs.specs.Runs.{IsChosenRun, IsSoloRun, IsPlayedRun}
 use Rattle.run_texts.specs.Summary.{act_line, summary_text}
@@ -98,6 +99,7 @@ IsOutputBy IsOfRun IsOfTrial files (Some (Runs run)) written = IsOfRun run writt
 IsOutputBy IsOfRun IsOfTrial files (Some (Makes guest)) written = IsGuestOutput guest written
 IsOutputBy IsOfRun IsOfTrial files (Some (Tries trial)) written = IsOfTrial trial written
 IsOutputBy IsOfRun IsOfTrial files (Some (Explores program settings)) written = IsExploreOutput files program settings written
+IsOutputBy IsOfRun IsOfTrial files (Some (Searches program settings)) written = IsSearchOutput files program settings written
 IsOutputBy IsOfRun IsOfTrial files (Some (Pairs pair)) written = IsPairOutput files pair written
 
 -- the output of a command
@@ -151,8 +153,8 @@ pub record IsPlainRunOutput (files : Files) (asked : Run) (written : List ℕ) :
   pub made : IsPlainRunOf files asked.source (setting_for asked image) run
   pub text : written ≡ plain_text asked.shown (setting_for asked image) run
 
--- the plain machine's output of a command; for the file of a guest no machine runs, and of an exploration and of a pair this says
--- no more than their own definitions
+-- the plain machine's output of a command; for the file of a guest no machine runs, and of an exploration, a search and a pair this
+-- says no more than their own definitions
 abbrev pub IsPlainOutputOf : Files → Option Command → List ℕ → Type 0
 IsPlainOutputOf files command written = IsOutputBy (IsPlainRunOutput files) IsPlainTrialOutput files command written
 

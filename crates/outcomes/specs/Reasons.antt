@@ -16,12 +16,12 @@ use Rattle.call_reasons.specs.declared.reasons.FileRole.{FileRole}
 use Rattle.call_reasons.specs.declared.reasons.FileRole.TheVariants as role
 use Rattle.call_reasons.specs.declared.reasons.LineFault.{LineFault}
 use Rattle.call_reasons.specs.declared.reasons.Reason.{Reason}
-use Rattle.call_reasons.specs.declared.reasons.Reason.TheVariants.{Words, Unread, NoMemory, TooBig, Elf, Script, Guest, Unwritten}
+use Rattle.call_reasons.specs.declared.reasons.Reason.TheVariants.{Words, Unread, NoMemory, TooBig, Elf, Script, Guest, EndedOtherwise, Unwritten}
 use Rattle.outcomes.specs.Causes.{IsBigScript, IsOutsideGuest, IsScriptRefused, IsUnreadScript}
 use Rattle.outcomes.specs.ElfPlaces.{place_of}
 use Rattle.outcomes.specs.Needs as need
-use Rattle.outcomes.specs.Outcome.{Call, CouldNotWrite, IsOutcome, WrotePrefix, WroteText}
-use Rattle.outcomes.specs.Outputs.{IsOutput}
+use Rattle.outcomes.specs.Judged.{IsJudged, IsMet}
+use Rattle.outcomes.specs.Outcome.{Call, CouldNotWrite, IsOutcome, Wrote, WrotePrefix, WroteText}
 use Rattle.outcomes.specs.PairFiles.{AfterBoth, AfterFirst, IsPairScriptRefused}
 use Rattle.whole_runs.specs.PlayedPairs.{pair_at}
 use Rattle.outcomes.specs.Programs.{Files, IsRefused, IsTooBig}
@@ -122,6 +122,7 @@ IsReasonFor files needs old new said (TooBig file) = IsBig files needs file
 IsReasonFor files needs old new said (Elf file fault about) = IsRefusalAbout files needs file fault about
 IsReasonFor files needs old new said (Script number fault) = IsScriptRefusalFor files needs number fault
 IsReasonFor files needs old new said (Guest number) = IsOutsideGuest needs number
+IsReasonFor files needs old new said (EndedOtherwise other) = ⊥
 IsReasonFor files needs old new said (Unwritten trouble) = ⊥
 
 -- the words are no command, and this is what is wrong with them
@@ -145,8 +146,10 @@ pub record IsUnwrittenFor (call : Call) (said trouble : Option ErrorKind) : Type
   pub failed : CouldNotWrite call
   pub trouble_told : trouble ≡ said
 
--- why a reason is told of a call: the sink failed, or it is the reason of the words and the files
+-- why a reason is told of a call: the sink failed; or the output was written, and this is the first outcome of it that ended otherwise
+-- than was expected; or it is the reason of the words and the files
 abbrev pub IsReason : Call → Troubles → Reason → Type 0
+IsReason call troubles (EndedOtherwise other) = Wrote call (IsJudged call.files (command_of call.words) (Some other))
 IsReason call troubles (Unwritten trouble) = IsUnwrittenFor call troubles.sink trouble
 IsReason call troubles reason =
     IsReasonOf call.files call.words call.read_faults call.read_faults_after troubles.shelf reason
@@ -155,10 +158,18 @@ IsReason call troubles reason =
 abbrev pub WroteLine : Call → Reason → Type 0
 WroteLine call reason = IfSome (fault_told reason) (λ fault. WroteText call (fault_line fault))
 
+-- why a reason was to be told of a call whose text wasn't written whole: it is the first outcome of that output that ended otherwise
+-- than was expected, or the reason of the words and the files
+abbrev pub WasDue : Call → Troubles → Reason → Type 0
+WasDue call troubles (EndedOtherwise other) =
+    WrotePrefix call (IsJudged call.files (command_of call.words) (Some other))
+WasDue call troubles reason =
+    IsReasonOf call.files call.words call.read_faults call.read_faults_after troubles.shelf reason
+
 -- it was to be told, and the sink failed
 pub record IsUntold (call : Call) (troubles : Troubles) (status : ℕ) (reason : Reason) : Type 0 where
   pub unwritten : status ≡ 6
-  pub why : IsReasonOf call.files call.words call.read_faults call.read_faults_after troubles.shelf reason
+  pub why : WasDue call troubles reason
 
 -- the status of a call, and the reason that goes with it
 pub record IsExplained (call : Call) (troubles : Troubles) (explained : Explained) : Type 0 where
@@ -174,7 +185,7 @@ pub record IsExplained (call : Call) (troubles : Troubles) (explained : Explaine
   pub line : IfSome explained.reason (WroteLine call)
   -- and it is why the output isn't there
   pub why : IfSome explained.reason (IsReason call troubles)
-  -- a reason that was to be told and couldn't be written comes at status 6 alone, and is of the words and the files
+  -- a reason that was to be told comes at status 6 alone, and is of the words and the files, or of an output of which a part was written
   pub untold : IfSome explained.untold (IsUntold call troubles explained.status)
-  -- and at status 6 there is one, unless a part of the output was written
-  pub in_part : explained.status ≡ 6 → explained.untold ≡ None → WrotePrefix call (IsOutput call.files call.words)
+  -- and at status 6 there is one, unless a part of an output was written in which all is as was expected
+  pub in_part : explained.status ≡ 6 → explained.untold ≡ None → WrotePrefix call (IsMet call.files (command_of call.words))

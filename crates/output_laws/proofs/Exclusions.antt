@@ -1,8 +1,7 @@
 -- What a shelf tells of the files of a command leaves one answer, beside want of memory and failed reads.
-use Rattle.std.proofs.Common.{◌≡◌, ◌≢◌, ℕ, ◌<◌, ◌≤◌, ◌⊎◌, inl, inr, List, length, refl, sym, ap, ◌∙◌, subst}
+use Rattle.std.proofs.Common.{◌≡◌, ℕ, ◌≤◌, ◌⊎◌, inl, inr, List, length, refl, sym, ap, ◌∙◌, subst}
 use Rattle.std.proofs.Common.{arith, Option, Some, None, Ok, Err, true}
 use Rattle.guest_names.specs.Guests.{is_size}
-use Rattle.std.specs.Prelude.{IfSome}
 use Rattle.mach_types.specs.declared.events.Entry.{Entry}
 use Rattle.mach_types.specs.declared.limits.Limits.{Limits}
 use Rattle.elf_load.specs.declared.fault.ElfFault.{ElfFault}
@@ -25,7 +24,7 @@ use Rattle.output_laws.proofs.PairExclusions.{no_big_when_faulty_pair, no_big_wh
 use Rattle.output_laws.proofs.PairExclusions.{no_refusal_when_big_pair, no_refusal_when_told_pair, not_taken_when_faulty_pair}
 use Rattle.output_laws.proofs.PairExclusions.{unused_when_bad_line_of_pair, unused_when_big_pair}
 use Rattle.outcomes.specs.Outputs.{IsLogOf, IsOutputOf}
-use Rattle.outcomes.specs.Programs.{Files, IsFaulty, IsGood, IsProgram, IsReadAs, IsRefused, IsScript}
+use Rattle.outcomes.specs.Programs.{Files, IsProgram, IsReadAs, IsScript}
 use Rattle.outcomes.specs.Programs.{IsTooBig}
 use Rattle.whole_runs.specs.Asks.{asks_of}
 use Rattle.call_reasons.specs.Reasons.{most_program_bytes, most_script_bytes}
@@ -84,6 +83,7 @@ used_by_output files (Some (words.Runs run)) written output =
 used_by_output files (Some (words.Makes guest)) written output = output.taken
 used_by_output files (Some (words.Tries trial)) written output = output.taken.made.taken
 used_by_output files (Some (words.Explores program settings)) written output = (output.image, output.taken)
+used_by_output files (Some (words.Searches program settings)) written output = (output.image, output.taken)
 used_by_output files (Some (words.Pairs pair)) written output = (output.seen, output.made)
 
 script_fits : (files : Files) (program script : List ℕ) (limits : Limits)

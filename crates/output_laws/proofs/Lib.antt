@@ -3,6 +3,8 @@ mod DrawnOutputs
 mod Exclusions
 mod FileExclusions
 mod GatheredOutputs
+mod Judgements
+mod LastLines
 pub mod Laws
 mod OneExploration
 mod OneOutput

@@ -18,7 +18,7 @@ use Rattle.command_words.specs.declared.commands.Draws.{Draws}
 use Rattle.command_words.specs.Commands as words
 use Rattle.explored_runs.specs.Explored.{IsExploredAs}
 use Rattle.explored_runs.specs.Text.{explored_text}
-use Rattle.outcomes.specs.Explorations.{apart_of, exploration_of}
+use Rattle.outcomes.specs.Explorations.{exploration_of}
 use Rattle.shared_procs.specs.Pairs.{PairSetting, pair_setting_of}
 use Rattle.shared_procs.specs.PairRuns.{PairSeen}
 use Rattle.outcomes.specs.Needs.{Needs, Nothing, Program, Script, Guest, Pair, needs_by, needs_of}
@@ -133,7 +133,7 @@ one_pair files pair a b told first second =
     let setting = first.setting ∙ start ∙ sym second.setting in
     λ i. record { setting = setting i; log = log i }
 
-one_plain : (files : Files) (command : Option words.Command) (a b : List ℕ) → words.depends_on_turns command ≡ false
+one_plain : (files : Files) (command : Option words.Command) (a b : List ℕ) → words.depends_on_host command ≡ false
     → AreTold files (needs_of command)
     → IsPlainOutputOf files command a → IsPlainOutputOf files command b → a ≡ b
 one_plain files None a b quiet told first second = absurd first
@@ -144,7 +144,8 @@ one_plain files (Some (words.Explores program settings)) a b quiet told first se
     let account = one_account (setting_of second.image settings.limits) (exploration_of settings) first.account
     second.account
     (subst (λ (s : Setting). IsExploredAs s (exploration_of settings) first.account) start first.told) second.told in
-    first.text ∙ ap (explored_text (apart_of settings.apart)) account ∙ sym second.text
+    first.text ∙ ap (explored_text settings.apart) account ∙ sym second.text
+one_plain files (Some (words.Searches program settings)) a b quiet told first second = absurd (cc quiet)
 one_plain files (Some (words.Pairs pair)) a b quiet told first second =
     first.text ∙ ap pair_output (one_pair files pair first.seen second.seen told first.made second.made) ∙ sym second.text
 one_plain files (Some (words.Runs asked)) a b quiet told first second =
@@ -155,7 +156,7 @@ one_plain files (Some (words.Runs asked)) a b quiet told first second =
     (subst (λ (s : Setting). IsPlainRunOf files asked.source s first.run) start first.made) second.made in
     first.text ∙ ap₂ (plain_text asked.shown) start run ∙ sym second.text
 
-pub one_output : (files : Files) (command : Option words.Command) (a b : List ℕ) → words.depends_on_turns command ≡ false
+pub one_output : (files : Files) (command : Option words.Command) (a b : List ℕ) → words.depends_on_host command ≡ false
     → AreTold files (needs_of command)
     → IsOutputOf files command a → IsOutputOf files command b → a ≡ b
 one_output files command a b no_run told first second =
@@ -229,6 +230,7 @@ needs_some files (Some (words.Runs run)) written output none = some_need run.pro
 needs_some files (Some (words.Makes guest)) written output none = absurd cc
 needs_some files (Some (words.Tries trial)) written output none = absurd cc
 needs_some files (Some (words.Explores program settings)) written output none = absurd cc
+needs_some files (Some (words.Searches program settings)) written output none = absurd cc
 needs_some files (Some (words.Pairs pair)) written output none = absurd cc
 
 pub good_files : (files : Files) (command : Option words.Command) (written : List ℕ)

@@ -10,7 +10,7 @@ use Rattle.block_model.proofs.Laws.{answers_itself, plain_makes, plain_solo_log,
 use Rattle.drawn_runs.specs.Manners.{manner_for}
 use Rattle.drawn_runs.specs.WholeRuns.{IsDrawnRun}
 use Rattle.command_words.specs.Shown.{Shown}
-use Rattle.command_words.specs.Commands.{Command, Runs, Makes, Tries, Explores, Pairs, Source, Rule, Script, Workers, Drawn, DrawnAfter}
+use Rattle.command_words.specs.Commands.{Command, Runs, Makes, Tries, Explores, Searches, Pairs, Source, Rule, Script, Workers, Drawn, DrawnAfter}
 use Rattle.outcomes.specs.Outputs.{IsDrawnAfter, IsLogOf, IsOutputOf, IsPlainOutputOf, IsPlainRunOf, IsPlainRunOver, plain_text}
 use Rattle.outcomes.specs.Outputs.{setting_for, shown_text, text_of}
 use Rattle.outcomes.specs.Guests.{setting_tried}
@@ -81,6 +81,7 @@ pub plain_output_of : (files : Files) (command : Option Command) (written : List
 plain_output_of files None written output = absurd output
 plain_output_of files (Some (Makes guest)) written output = output
 plain_output_of files (Some (Explores program settings)) written output = output
+plain_output_of files (Some (Searches program settings)) written output = output
 plain_output_of files (Some (Pairs pair)) written output = output
 plain_output_of files (Some (Tries trial)) written output =
     let s = setting_tried trial output.image in

@@ -1,5 +1,5 @@
 -- A run by rounds makes choices alone, and there is one of a setting and a seed.
-use Rattle.std.proofs.Common.{◌≡◌, ◌∙◌, ℕ, zero, suc, List, [], ◌∷◌, ◌++◌, Option, Some, None, refl, sym, subst, append-nil}
+use Rattle.std.proofs.Common.{◌≡◌, ◌∙◌, ℕ, zero, suc, List, ◌++◌, Option, Some, None, refl, sym, subst, append-nil}
 use Rattle.std.specs.Option.{option_to_list}
 use Rattle.mach_types.specs.declared.events.Entry.{Entry}
 use Rattle.block_model.specs.Choosing.{IsChosen, next_entry}
@@ -7,7 +7,7 @@ use Rattle.block_model.specs.Deciding.{history}
 use Rattle.block_model.specs.Run.{IsBlockRun}
 use Rattle.block_model.specs.Setting.{Setting}
 use Rattle.block_model.proofs.Laws.{chosen_more, chosen_start, start_run}
-use Rattle.whole_runs.specs.Rounds.{IsRoundsRun, after_round, after_rounds, after_turn, after_turns, log_by_rounds}
+use Rattle.whole_runs.specs.Rounds.{IsRoundsRun, after_rounds, after_turn, after_turns, log_by_rounds}
 use Rattle.whole_runs.specs.Runs.{IsChosenRun}
 
 -- a log of choices that are allowed

@@ -1,6 +1,6 @@
 -- Two calls that ask for the same of the same files, and that no device fails (own).
 use Rattle.std.specs.Prelude.{ℕ, ◌≡◌, ◌⊎◌, false, List}
-use Rattle.command_words.specs.Commands.{depends_on_turns}
+use Rattle.command_words.specs.Commands.{depends_on_host}
 use Rattle.command_words.specs.Words.{command_of}
 use Rattle.outcomes.specs.Needs.{Needs, Nothing, Program, Script, Guest, Pair, needs_in}
 use Rattle.outcomes.specs.Outcome.{Call, NoneFailed, WroteText}
@@ -27,9 +27,9 @@ pub record AreAlike (a b : Call) : Type 0 where
 abbrev pub IsOneStatus : ℕ → ℕ → Type 0
 IsOneStatus status other = (status ≡ other) ⊎ (status ≡ 7) ⊎ (other ≡ 7)
 
--- the words of a call have one output: it doesn't hang on how workers take turns, and it is of no guest
+-- the words of a call have one output: it hangs on the words and the files alone, and it is of no guest
 pub record HasOneOutput (a : Call) : Type 0 where
-  pub quiet : depends_on_turns (command_of a.words) ≡ false
+  pub quiet : depends_on_host (command_of a.words) ≡ false
   pub told : AreTold a.files (needs_in a.words)
 
 -- both sinks gained one text

@@ -1,9 +1,9 @@
 //! Laws of the outputs, each as the contract of a function that does nothing.
 
-ghost use Rattle.std.specs.Prelude.{◌≡◌, false, ℕ, List, Option, All, IsSome};
+ghost use Rattle.std.specs.Prelude.{◌≡◌, ◌++◌, codes, false, ℕ, List, Option, All, IsSome};
 ghost use Rattle.mach_types.specs.{declared.events.Entry.Entry, Limits.InRange};
 ghost use Rattle.step_log.specs.Grammar.{log_text};
-ghost use Rattle.block_model.specs.Setting.{Setting};
+ghost use Rattle.block_model.specs.Setting.{Setting, setting_of};
 ghost use Rattle.log_gather.specs.Gathered.{gathered};
 ghost use Rattle.draw_policies.specs.Policies.{policy_for};
 ghost use Rattle.draw_policies.specs.declared.policies.Policies.{Policies};
@@ -20,10 +20,12 @@ ghost use Rattle.whole_runs.specs.Runs.{IsChosenRun};
 ghost use Rattle.outcomes.specs.Told.{AreTold, TellsGoodFiles};
 ghost use Rattle.output_laws.specs.Agreement.{AreAlike, HasOneOutput, IsOneStatus, WroteOneText};
 ghost use Rattle.output_laws.specs.DrawnOutcomes.{HasOutcome, drawing};
-ghost use Rattle.output_laws.specs.PairEntries.{FitsEntry};
 ghost use Rattle.command_words.specs.Shown.{Gathered, Output};
+ghost use Rattle.command_words.specs.declared.commands.SearchSettings.{SearchSettings};
 ghost use Rattle.command_words.specs.declared.commands.Settings.{Settings};
-ghost use Rattle.command_words.specs.Commands.{Command, PairRun, Run, depends_on_turns};
+ghost use Rattle.found_outcomes.specs.Complete.{IsComplete};
+ghost use Rattle.outcomes.specs.Searches.{IsSearchOutput};
+ghost use Rattle.command_words.specs.Commands.{Command, PairRun, Run, depends_on_host};
 
 /// The log lines of the output of a run, read as a script by `play` with the same program and limits, are allowed at
 /// every line and give the same output text. The shelf of the later call has the same program, and those
@@ -47,22 +49,21 @@ pub fn gathered_log_replays()
 {}
 
 /// The log lines of an output of `pair`, read as a script by `pair` with the same programs and limits, are allowed at every line and
-/// give the same output text, where the numbers of the log fit the types that they have in the program.
+/// give the same output text.
 pub fn printed_pair_replays()
     ensures { (files later : Files) (pair : PairRun) (script written : List ℕ) → InRange pair.limits
         → later pair.first ≡ files pair.first → later pair.second ≡ files pair.second
-        → (output : IsPairOutput files pair written) → All FitsEntry output.seen.log
-        → IsReadAs later script (log_text output.seen.log)
+        → (output : IsPairOutput files pair written) → IsReadAs later script (log_text output.seen.log)
         → IsPairOutput later (record pair { script = script }) written }
 {}
 
 /// Where a shelf tells the files that a command needs, and it needs nothing else, there is one output, unless its log
-/// comes about by workers: which it is depends on their bytes, the limits and, for `draw` and `explore`, the seeds and the
-/// options alone. Which one comes
-/// of `run` hangs also on the order in which the harts take turns. And where there is an output, the files are good.
+/// comes about by workers, or it searches for all outcomes: which it is depends on their bytes, the limits and, for `draw` and
+/// `explore`, the seeds and the options alone. Which one comes of `run` hangs also on the order in which the harts take turns, and
+/// which one of `outcomes` on how much memory there is. And where there is an output, the files are good.
 pub fn told_files_have_one_output()
     ensures one { (files : Files) (command : Option Command) (written other : List ℕ)
-        → depends_on_turns command ≡ false → AreTold files (needs_of command)
+        → depends_on_host command ≡ false → AreTold files (needs_of command)
         → IsOutputOf files command written → IsOutputOf files command other → written ≡ other }
     ensures good { (files : Files) (command : Option Command) (written : List ℕ)
         → AreTold files (needs_of command)
@@ -105,7 +106,15 @@ pub fn explored_outcomes_are_drawn()
 pub fn calls_agree()
     ensures status { (a b : Call) (status other : ℕ) → AreAlike a b → IsOutcome a status → IsOutcome b other
         → IsOneStatus status other }
-    // and where they answer one status, they write one text, but for the output of a run by workers or of a guest
+    // and where they answer one status, they write one text, but for the output of a run by workers, of a search or of a guest
     ensures text { (a b : Call) (status : ℕ) → AreAlike a b → IsOutcome a status → IsOutcome b status
         → (status ≡ 0 → HasOneOutput a) → WroteOneText a b }
+{}
+
+/// Where the last line of an output of `outcomes` is `complete`, its outcomes are those of every run that ends. No other text of a
+/// search ends in this line, whatever the consoles hold.
+pub fn complete_outputs_have_every_outcome()
+    ensures { (files : Files) (program written before : List ℕ) (settings : SearchSettings)
+        → (output : IsSearchOutput files program settings written) → written ≡ before ++ codes "complete\n"
+        → IsComplete (setting_of output.image settings.limits) output.found.outcomes.items }
 {}

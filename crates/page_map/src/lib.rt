@@ -9,6 +9,7 @@ mod boot;
 mod calls;
 mod changes;
 mod directory;
+mod listing;
 mod map;
 mod mapped_page;
 mod restart;
@@ -16,6 +17,7 @@ mod table;
 mod theorems;
 
 pub use calls::pages_of;
+pub use listing::ALL_PAGES;
 pub use map::PageMap;
 pub use table::PageTable;
 pub use theorems::{

@@ -11,7 +11,7 @@ ghost use Rattle.elf_load.specs.Start.{start_runs};
 ghost use Rattle.elf_load.specs.declared.image.ImagePage.{ImagePage};
 ghost use Rattle.frame_pool.specs.Held.{AreHeld};
 ghost use Rattle.frame_pool.specs.Pool.{IsTaken, free_count, fresh};
-ghost use Rattle.page_map.specs.Map.{break_in, break_start_in, bytes_if, first_bytes, frame_bytes, frames_in, free_in, page_at, page_in, page_with, page_with_words, permission_in, protected_page, with_words, zero_page};
+ghost use Rattle.page_map.specs.Map.{Page, break_in, break_start_in, bytes_if, first_bytes, frame_bytes, frames_in, free_in, page_at, page_in, page_with, page_with_words, permission_in, protected_page, with_words, zero_page};
 ghost use Rattle.page_map.specs.Mapping.{CanLie, IsGap, frames_of};
 ghost use Rattle.page_map.specs.Starting.{AreLaidOut, StandsWith};
 
@@ -337,6 +337,15 @@ impl PageMap {
         } else {
             None
         }
+    }
+
+    /// The bytes of a page, where it is mapped, whether or not they can be read.
+    pub fn bytes(&self, number: u64) -> Option<&[u8]>
+        ensures bytes { option_copied result ≡ option_map (λ (p : Page). p.bytes) (page_in self.now number) }
+        ensures size { IfSome result (λ bytes. length bytes.now ≡ 4096) }
+    {
+        let page = self.find(number)?;
+        Some(self.pool.bytes(&page.frame))
     }
 
     /// Writes the low `size` bytes of `value`, the lowest first, in a page that is mapped.

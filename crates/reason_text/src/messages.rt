@@ -6,12 +6,12 @@ mod programs;
 mod shown;
 mod words;
 
-use call_reasons::{FileRole, Reason};
+use call_reasons::{FileRole, OtherEnd, Reason};
 use command_words::{Command, PairRun, Source, WordsError, read_words};
 use lines::push_line_fault;
 pub(crate) use nearest::Nearest;
 use programs::push_elf_fault;
-use shown::Shown;
+use shown::{Shown, ShownEnd};
 use std::alloc::{AllocError, Global};
 use std::fmt::Write;
 use std::io::ErrorKind;
@@ -22,6 +22,10 @@ const BEGIN: &str = "rseq_run: ";
 
 /// The text where memory ran out. It is fixed, since there is no memory for another.
 pub const OUT_OF_MEMORY: &str = "rseq_run: out of memory\n";
+
+/// What is said where runs came to none of the outcomes that are told apart.
+const NOT_TOLD_APART: &str =
+    "how all runs ended isn't known: some came to none of the outcomes that are told apart";
 
 /// What is at hand where a reason is explained.
 #[derive(Clone, Copy, Drop)]
@@ -42,6 +46,7 @@ pub fn brief(reason: &Reason) -> &'static str {
         Reason::Elf { .. } => "rseq_run: the program is refused\n",
         Reason::Script { .. } => "rseq_run: a line of the script is refused\n",
         Reason::Guest(_) => "rseq_run: the guest doesn't take this size\n",
+        Reason::EndedOtherwise(_) => "rseq_run: a run ended otherwise than was expected\n",
         Reason::Unwritten { .. } => "rseq_run: standard output can't be written\n",
     }
 }
@@ -69,6 +74,7 @@ pub fn explain(alloc: Global, reason: &Reason, at_hand: AtHand) -> Result<String
             push_line_fault(&mut text, name, at_hand.script, *line, *fault)?;
         }
         Reason::Guest(number) => push_bad_size(&mut text, alloc, at_hand.words, *number)?,
+        Reason::EndedOtherwise(other) => push_other_end(&mut text, *other)?,
         Reason::Unwritten { trouble } => push_unwritten(&mut text, *trouble)?,
     }
     Ok(text)
@@ -79,6 +85,7 @@ fn file_name(alloc: Global, words: &[String], role: FileRole) -> Result<&str, Al
     let run = match read_words(alloc, words) {
         Ok(Command::Runs(run)) => run,
         Ok(Command::Explores(explore)) => return Ok(explore.program),
+        Ok(Command::Searches(search)) => return Ok(search.program),
         Ok(Command::Pairs(pair)) => return Ok(name_in(&pair, role)),
         Ok(Command::Makes(_) | Command::Tries(_)) | Err(WordsError::Wrong(_)) => {
             return Ok("the file");
@@ -112,7 +119,7 @@ fn push_bad_size(
     let guest = match read_words(alloc, words) {
         Ok(Command::Makes(guest)) => guest,
         Ok(Command::Tries(trial)) => trial.guest,
-        Ok(Command::Runs(_) | Command::Explores(_) | Command::Pairs(_))
+        Ok(Command::Runs(_) | Command::Explores(_) | Command::Searches(_) | Command::Pairs(_))
         | Err(WordsError::Wrong(_)) => {
             return writeln!(text, "{number}: the guest doesn't take this size");
         }
@@ -138,6 +145,18 @@ fn push_too_big(text: &mut String, name: &str, role: FileRole) -> Result<(), All
     let name = Shown(name);
     let most = role.most_bytes();
     writeln!(text, "{name} has more than {most} bytes")
+}
+
+/// Appends that an outcome ended otherwise than was expected, and the seed of its first run.
+fn push_other_end(text: &mut String, other: OtherEnd) -> Result<(), AllocError> {
+    let seed = other.seed;
+    match other.end {
+        Some(end) => {
+            let end = ShownEnd(end);
+            writeln!(text, "a run ended otherwise: {end}, seed {seed}")
+        }
+        None => writeln!(text, "{NOT_TOLD_APART}, the first with seed {seed}"),
+    }
 }
 
 /// Appends that the text couldn't be written.

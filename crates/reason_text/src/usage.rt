@@ -20,6 +20,10 @@ const OPTIONS: &str = "  --harts N   how many harts there are: 1 to 8 (default 2
   --from N    from which line the log is told: 1 to 1000000 (default 1)
   --to N      to which line the log is told: 1 to 1000000 (default its last)
   --memory M  which bytes of memory are shown: AT:LENGTH, an address in hexadecimal and 1 to 65536; or several, one comma apart (default none)
+  --expect E  how all runs are expected to end: \"exit N\", \"killed N\", stuck or limit; where one ends otherwise the status is 1 (default nothing is)
+  --places N  how many places are visited: 1 to 16000000 (default 1000000)
+  --deep N    how many events lead to a place at most: 1 to 1000000 (default 100000)
+  --scripts W whether a script of each outcome is printed: yes or no (default yes)
 ";
 
 /// The version (own).
@@ -32,7 +36,9 @@ fn words_behind(kind: CommandKind) -> &'static str {
         CommandKind::Makes => "NAME N",
         CommandKind::Tries => "NAME N [--harts N] [--steps N] [--seed N]",
         CommandKind::Explores =>
-            "FILE [--harts N] [--frames N] [--steps N] [--seed N] [--policy P] [--calm N] [--runs N] [--until K] [--by B] [--jobs N]",
+            "FILE [--harts N] [--frames N] [--steps N] [--seed N] [--policy P] [--calm N] [--runs N] [--until K] [--by B] [--jobs N] [--expect E]",
+        CommandKind::Searches =>
+            "FILE [--harts N] [--frames N] [--places N] [--deep N] [--scripts W]",
         CommandKind::Pairs => "FILE1 FILE2 SCRIPT [--harts N] [--frames N] [--steps N]",
     }
 }
@@ -115,6 +121,9 @@ fn push_about(text: &mut String, kind: CommandKind) -> Result<(), AllocError> {
         }
         CommandKind::Explores => text.push_str(
             "makes the runs of FILE that the seed and those behind it draw; prints each different outcome, and how many runs came to it\n",
+        ),
+        CommandKind::Searches => text.push_str(
+            "visits each place that runs of FILE come to; prints each outcome with a script of it, and whether there is no other\n",
         ),
         CommandKind::Makes => text.push_str("prints the file of the guest NAME for the size N\n"),
         CommandKind::Tries => text.push_str(

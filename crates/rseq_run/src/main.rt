@@ -80,14 +80,29 @@ fn is_of_script(explained: &Explained) -> bool {
         || matches!(explained.untold, Some(Reason::Script { .. }))
 }
 
-/// Says a reason, if there is one.
+/// Says a reason, if there is one. Of a pipe that has no reader left nothing is said: whoever closed it, as
+/// `head` does, wants no more.
 fn say_reason<R: Eprint>(alloc: Global, rt: &R, reason: &Option<Reason>, at_hand: AtHand) {
-    if let Some(reason) = reason {
-        match explain(alloc, reason, at_hand) {
-            Ok(text) => say(rt, text.as_str()),
-            Err(_) => say(rt, brief(reason)),
-        }
+    let Some(reason) = reason else {
+        return;
+    };
+    if is_closed_pipe(reason) {
+        return;
     }
+    match explain(alloc, reason, at_hand) {
+        Ok(text) => say(rt, text.as_str()),
+        Err(_) => say(rt, brief(reason)),
+    }
+}
+
+/// Whether the text couldn't be written since nobody reads the pipe any more.
+fn is_closed_pipe(reason: &Reason) -> bool {
+    matches!(
+        reason,
+        Reason::Unwritten {
+            trouble: Some(ErrorKind::BrokenPipe)
+        }
+    )
 }
 
 /// Prints a text to standard error. Where that can't be written, nobody is told.

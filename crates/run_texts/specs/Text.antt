@@ -1,14 +1,10 @@
 -- The text of a run (own). Characters are ASCII codes, and numbers are decimal where nothing else is said.
-use Rattle.std.specs.Prelude.{ℕ, List, [], ◌∷◌, ◌++◌, length, codes}
+use Rattle.std.specs.Prelude.{ℕ, List, ◌++◌, length, codes}
 use Rattle.mach_types.specs.declared.events.Entry.{Entry}
 use Rattle.mach_types.specs.declared.limits.End.{End}
-use Rattle.step_log.specs.Text.{newline}
 use Rattle.step_log.specs.Grammar.{log_text}
 use Rattle.place_text.specs.Ends.{end_line, number_line}
-
--- the console's length, its bytes, and a newline
-abbrev pub console_text : List ℕ → List ℕ
-console_text console = number_line (codes "console") (length console) ++ console ++ newline ∷ []
+pub use Rattle.place_text.specs.Ends.{console_text}
 
 -- how many entries the log has, and its lines
 abbrev pub entries_text : List Entry → List ℕ

@@ -69,6 +69,13 @@ impl Affinities {
         self.rising = true;
     }
 
+    /// The entries.
+    pub fn entries(&self) -> &[Entry]
+        ensures { result.now ≡ self.now }
+    {
+        &self.entries
+    }
+
     /// Where the entry of a thread stands: found by halving while the numbers rise, else by going over all.
     fn place_of(&self, tid: u32) -> Option<usize>
         ensures { result ≡ position (is_of tid) self.now }

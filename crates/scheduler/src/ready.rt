@@ -6,6 +6,7 @@ ghost use Rattle.std.specs.List.{list_any};
 ghost use Rattle.mach_types.specs.Kernel.Scheduling as scheduling;
 ghost use Rattle.mach_types.specs.declared.errors.TheConstants.{EINVAL};
 ghost use Rattle.mach_types.specs.declared.kernel_words.TheConstants.{MOST_THREADS};
+ghost use Rattle.scheduler.specs.Entries.{numbers};
 ghost use Rattle.scheduler.specs.Holding.{is_held, is_ready};
 
 use crate::affinities::Affinities;
@@ -100,6 +101,20 @@ impl Ready {
         ensures unchanged { OnFalse result (self.new ≡ self.old) }
     {
         entry_list::take_out(&mut self.order, tid.0)
+    }
+
+    /// The ready threads in order, each with a copy of its harts.
+    pub fn order(&self) -> &[(u32, u8)]
+        ensures { numbers result.now ≡ self.now.order }
+    {
+        &self.order
+    }
+
+    /// The threads that are held, each with its harts.
+    pub fn affinities(&self) -> &[(u32, u8)]
+        ensures { result.now ≡ self.now.affinities }
+    {
+        self.affinities.entries()
     }
 
     /// Whether a thread is ready.

@@ -1,10 +1,12 @@
 mod BarrierReturns
 mod Common
 mod Entered
+mod EntryWidths
 mod EventFacts
 mod Halves
 mod HartsApart
 mod InsideWrites
+pub mod Laws
 mod OthersEvents
 mod OwnDeeds
 mod OwnRuns

@@ -64,22 +64,24 @@ both_start s false = start_stands (setting s false) _
 pub over_lt : (a b : ℕ) → leb a b ≡ false → b < a
 over_lt a b is = leb-false a b is
 
--- an entry that comes: some process goes on, the machine has the hart, and no condition fails
-pub record IsDecided (s : PairSetting) (m : Pair) (h : ℕ) (c : Choice) : Type 0 where
+-- an entry that comes: some process goes on, the log has room, the machine has the hart, no condition fails, and it is the one of the choice
+pub record IsDecided (s : PairSetting) (m : Pair) (h : ℕ) (c : Choice) (e : Entry) : Type 0 where
   pub over : is_over m ≡ false
+  pub room : leb s.limits.steps m.made ≡ false
   pub hart : leb s.limits.harts h ≡ false
   pub free : refusal_two s m h c ≡ None
+  pub is : entry_two s m h c ≡ e
 
-pub decided : (s : PairSetting) (m : Pair) (h : ℕ) (c : Choice) (e : Entry) → pair_decide s m h c ≡ Ok e → IsDecided s m h c
-decided s m h c e is = by (is_over m) (leb s.limits.steps m.made) (leb s.limits.harts h) (refusal_two s m h c) refl refl refl is
+pub decided : (s : PairSetting) (m : Pair) (h : ℕ) (c : Choice) (e : Entry) → pair_decide s m h c ≡ Ok e → IsDecided s m h c e
+decided s m h c e is = by (is_over m) (leb s.limits.steps m.made) (leb s.limits.harts h) (refusal_two s m h c) refl refl refl refl is
   where
-    by : (over full out : Bool) (why : Option Why) → is_over m ≡ over → leb s.limits.harts h ≡ out → refusal_two s m h c ≡ why
-        → decide_with over full out (unless_two (entry_two s m h c) why) ≡ Ok e → IsDecided s m h c
-    by true full out why a b d is = cc
-    by false true out why a b d is = cc
-    by false false true why a b d is = cc
-    by false false false (Some w) a b d is = cc
-    by false false false None a b d is = record { over = a; hart = b; free = d }
+    by : (over full out : Bool) (why : Option Why) → is_over m ≡ over → leb s.limits.steps m.made ≡ full → leb s.limits.harts h ≡ out → refusal_two s m h c ≡ why
+        → decide_with over full out (unless_two (entry_two s m h c) why) ≡ Ok e → IsDecided s m h c e
+    by true full out why a f b d is = cc
+    by false true out why a f b d is = cc
+    by false false true why a f b d is = cc
+    by false false false (Some w) a f b d is = cc
+    by false false false None a f b d is = record { over = a; room = f; hart = b; free = d; is = cc }
 
 -- so they do at each place of a pair run
 pub settled : (s : PairSetting) (before : PairHistory) → IsPairRunHistory s before → AreStanding s (pair_after s before)

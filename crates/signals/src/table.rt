@@ -67,6 +67,20 @@ impl Signals {
         }
     }
 
+    /// The actions of the signals 1 to 31.
+    pub fn actions(&self) -> &[Action]
+        ensures { result.now ≡ self.now.actions }
+    {
+        &self.actions
+    }
+
+    /// The mask and the pending signals of each thread that is held.
+    pub fn threads(&self) -> &[ThreadSignals]
+        ensures { result.now ≡ self.now.threads }
+    {
+        &self.threads
+    }
+
     /// Thread 1 alone again, as in a new table: each action is the default, nothing is masked, and nothing is
     /// pending.
     pub fn reset(&mut self)

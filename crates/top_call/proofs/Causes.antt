@@ -12,7 +12,7 @@ use Rattle.block_model.specs.Setting.{setting_of}
 use Rattle.call_reasons.specs.declared.reasons.FileRole.{FileRole}
 use Rattle.call_reasons.specs.declared.reasons.FileRole.TheVariants as role
 use Rattle.call_reasons.specs.declared.reasons.Reason.{Reason}
-use Rattle.call_reasons.specs.declared.reasons.Reason.TheVariants.{Words, Unread, NoMemory, TooBig, Elf, Script, Guest, Unwritten}
+use Rattle.call_reasons.specs.declared.reasons.Reason.TheVariants.{Words, Unread, NoMemory, TooBig, Elf, Script, Guest, EndedOtherwise, Unwritten}
 use Rattle.outcomes.specs.Causes.{HasBigFile, IsCause, IsRefusalOf, IsScriptRefusalOf, ReadFailed}
 use Rattle.outcomes.specs.Delivery.{IsFileReason, IsLoadReason, IsTakeReason}
 use Rattle.whole_runs.specs.PlayReasons.{IsPlayReason}
@@ -48,6 +48,7 @@ unread_as files name file limits old new said (TooBig other) most why =
 unread_as files name file limits old new said (Elf other fault about) most why = absurd why
 unread_as files name file limits old new said (Script number fault) most why = absurd why
 unread_as files name file limits old new said (Guest number) most why = absurd why
+unread_as files name file limits old new said (EndedOtherwise other) most why = absurd why
 unread_as files name file limits old new said (Unwritten trouble) most why = absurd why
 
 -- it is read, and no image is taken from its bytes
@@ -74,6 +75,7 @@ refused_as files name bytes given file limits old new said (Elf other fault abou
 )
 refused_as files name bytes given file limits old new said (Script number fault) same read fits why = absurd why
 refused_as files name bytes given file limits old new said (Guest number) same read fits why = absurd why
+refused_as files name bytes given file limits old new said (EndedOtherwise other) same read fits why = absurd why
 refused_as files name bytes given file limits old new said (Unwritten trouble) same read fits why = absurd why
 
 -- where it is the one that is needed, that is why
@@ -92,6 +94,7 @@ untaken_program files program limits old new said (TooBig role.Script) why = abs
 untaken_program files program limits old new said (Elf file fault about) why = why
 untaken_program files program limits old new said (Script number fault) why = absurd why
 untaken_program files program limits old new said (Guest number) why = absurd why
+untaken_program files program limits old new said (EndedOtherwise other) why = absurd why
 untaken_program files program limits old new said (Unwritten trouble) why = absurd why
 
 -- what is said of a program is said of it beside a script too
@@ -110,6 +113,7 @@ program_beside files program script limits old new said (TooBig role.Script) why
 program_beside files program script limits old new said (Elf file fault about) why = why
 program_beside files program script limits old new said (Script number fault) why = absurd why
 program_beside files program script limits old new said (Guest number) why = absurd why
+program_beside files program script limits old new said (EndedOtherwise other) why = absurd why
 program_beside files program script limits old new said (Unwritten trouble) why = absurd why
 
 -- the script isn't read, after the program was taken
@@ -148,6 +152,7 @@ unread_script files same program script limits image old mid new said (Elf file 
 unread_script files same program script limits image old mid new said (Script number fault) is taken first second why =
     absurd why
 unread_script files same program script limits image old mid new said (Guest number) is taken first second why = absurd why
+unread_script files same program script limits image old mid new said (EndedOtherwise other) is taken first second why = absurd why
 unread_script files same program script limits image old mid new said (Unwritten trouble) is taken first second why = absurd why
 
 -- the script isn't played to its end
@@ -178,6 +183,7 @@ unplayed files same program script lines text limits image old new said (Script 
       why = bad.why;
     }
 unplayed files same program script lines text limits image old new said (Guest number) is equal taken read why = absurd why
+unplayed files same program script lines text limits image old new said (EndedOtherwise other) is equal taken read why = absurd why
 unplayed files same program script lines text limits image old new said (Unwritten trouble) is equal taken read why = absurd why
 
 -- an error that is passed on
@@ -242,6 +248,7 @@ cause_of files words old new said (Script number fault) why = by_needs (need.nee
     by_needs (need.Guest guest) why = absurd why
     by_needs (need.Pair pair) why = why.refused
 cause_of files words old new said (Guest number) why = why
+cause_of files words old new said (EndedOtherwise other) why = absurd why
 cause_of files words old new said (Unwritten trouble) why = absurd why
 
 -- it stands for a fault
@@ -254,4 +261,5 @@ is_told files words old new said (TooBig file) why = refl
 is_told files words old new said (Elf file fault about) why = refl
 is_told files words old new said (Script number fault) why = refl
 is_told files words old new said (Guest number) why = refl
+is_told files words old new said (EndedOtherwise other) why = absurd why
 is_told files words old new said (Unwritten trouble) why = absurd why

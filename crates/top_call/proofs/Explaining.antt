@@ -5,20 +5,22 @@ use Rattle.call_reasons.specs.declared.faults.Fault.{Fault}
 use Rattle.call_reasons.specs.declared.faults.Fault.TheVariants as told
 use Rattle.call_reasons.specs.declared.reasons.Explained.{Explained}
 use Rattle.call_reasons.specs.declared.reasons.Reason.{Reason}
-use Rattle.call_reasons.specs.declared.reasons.Reason.TheVariants.{Words, Unread, NoMemory, TooBig, Elf, Script, Guest, Unwritten}
+use Rattle.call_reasons.specs.declared.reasons.Reason.TheVariants.{Words, Unread, NoMemory, TooBig, Elf, Script, Guest, EndedOtherwise, Unwritten}
 use Rattle.std.specs.Option.{is_some}
-use Rattle.std.specs.Prelude.{IfErr, IfOk, IfSome, IsSome}
+use Rattle.std.specs.Prelude.{IfErr, IfOk, IfSome, IsSome, option_map}
 use Rattle.command_words.specs.Commands.{Command}
 use Rattle.command_words.specs.Words.{command_of}
-use Rattle.outcomes.specs.Answers.{IsAnswerFor, IsToldFor}
+use Rattle.outcomes.specs.Answers.{IsAnswerFor, IsToldFor, Judged}
+use Rattle.call_reasons.specs.declared.reasons.OtherEnd.{OtherEnd}
+use Rattle.outcomes.specs.Judged.{IsJudged, IsMet, output_status}
 use Rattle.outcomes.specs.Causes.{IsCause}
+use Rattle.outside.specs.Told.{GainedPrefix}
 use Rattle.outcomes.specs.Delivery.{IsAsDue, IsDelivered, due_for}
 use Rattle.outcomes.specs.Outcome.{Call, IsOutcome, WrotePrefix, WroteText}
 use Rattle.outcomes.specs.Needs.{needs_of}
-use Rattle.outcomes.specs.Outputs.{IsOutput, IsOutputOf}
 use Rattle.outcomes.specs.Programs.{Files}
 use Rattle.call_reasons.specs.FaultLines.{fault_line}
-use Rattle.outcomes.specs.Reasons.{IsExplained, IsReason, IsReasonFor, IsReasonOf, IsUntold, Troubles, WroteLine}
+use Rattle.outcomes.specs.Reasons.{IsExplained, IsReason, IsReasonFor, IsReasonOf, IsUntold, Troubles, WasDue, WroteLine}
 use Rattle.call_reasons.specs.Reasons.{fault_told, reason_status}
 use Rattle.top_call.proofs.Causes.{cause_of, is_told}
 use Rattle.top_call.proofs.Outcomes.{IsKept, told_outcome}
@@ -31,11 +33,11 @@ cause call said reason why =
     cause_of call.files call.words call.read_faults call.read_faults_after said reason why
 
 -- the outcome of an answer that was told
-outcome_of : (call : Call) (said : Option ErrorKind) (answer : Result (List ℕ) Reason) (status : ℕ) → IsKept call
+outcome_of : (call : Call) (said : Option ErrorKind) (answer : Result Judged Reason) (status : ℕ) → IsKept call
     → IsAnswerFor call.files call.words call.read_faults call.read_faults_after said answer
     → IsToldFor call.held call.held_after call.write_faults call.write_faults_after answer status
     → IsOutcome call status
-outcome_of call said (Ok text) status keeps output told_so = told_outcome call (Ok text) status keeps output told_so
+outcome_of call said (Ok judged) status keeps output told_so = told_outcome call (Ok judged) status keeps output told_so
 outcome_of call said (Err (Words fault)) status keeps why told_so =
     told_outcome call (Err told.Usage) status keeps (cause call said (Words fault) why) told_so
 outcome_of call said (Err (Unread file trouble)) status keeps why told_so =
@@ -50,6 +52,7 @@ outcome_of call said (Err (Script number fault)) status keeps why told_so =
     told_outcome call (Err (told.Script number)) status keeps (cause call said (Script number fault) why) told_so
 outcome_of call said (Err (Guest number)) status keeps why told_so =
     told_outcome call (Err (told.Guest number)) status keeps (cause call said (Guest number) why) told_so
+outcome_of call said (Err (EndedOtherwise other)) status keeps why told_so = absurd why
 outcome_of call said (Err (Unwritten trouble)) status keeps why told_so = absurd why
 
 -- a reason of the words and the files
@@ -66,6 +69,7 @@ module _ (call : Call) (troubles : Troubles) where
   is_reason (Elf file fault about) why = why
   is_reason (Script number fault) why = why
   is_reason (Guest number) why = why
+  is_reason (EndedOtherwise other) why = absurd why
   is_reason (Unwritten trouble) why = absurd why
 
   -- has neither the status of an output nor that of a failed sink
@@ -81,6 +85,7 @@ module _ (call : Call) (troubles : Troubles) where
   not_six (Elf file fault about) why is = absurd cc
   not_six (Script number fault) why is = absurd cc
   not_six (Guest number) why is = absurd cc
+  not_six (EndedOtherwise other) why is = absurd why
   not_six (Unwritten trouble) why is = absurd why
 
   not_unwritten : (reason : Reason) → IsOfFiles reason → ¬ (reason ≡ Unwritten troubles.sink)
@@ -103,6 +108,7 @@ module _ (call : Call) (troubles : Troubles) where
   wrote_line (Elf file fault about) status is well told_so = line_of (told.Elf fault) 3 status is well told_so
   wrote_line (Script number fault) status is well told_so = line_of (told.Script number) 4 status is well told_so
   wrote_line (Guest number) status is well told_so = line_of (told.Guest number) 9 status is well told_so
+  wrote_line (EndedOtherwise other) status is well told_so = tt
   wrote_line (Unwritten trouble) status is well told_so = tt
 
   by_reason : (reason : Reason) → IsOfFiles reason → IsOutcome call (reason_status reason) → WroteLine call reason
@@ -121,38 +127,102 @@ module _ (call : Call) (troubles : Troubles) where
     in_part = λ six none. absurd (not_six reason why six);
   }
 
-  -- where the sink failed, what was due is untold: a reason of the words and the files, or a part of the output
-  untold_of : (answer : Result (List ℕ) Reason) → IsAnswerFor call.files call.words call.read_faults
-      call.read_faults_after troubles.shelf answer → IfSome (due_for answer).reason (IsUntold call troubles 6)
-  untold_of (Ok text) output = tt
-  untold_of (Err reason) why = record { unwritten = refl; why = why }
+  -- how a call is explained whose output was written
+  by_output : (text : List ℕ) (other : Option OtherEnd) → IsJudged call.files (command_of call.words) other text
+      → WroteText call text → IsOutcome call (output_status other)
+      → IsExplained call troubles (due_for (Ok (text, other)))
+  by_output text None judged gained outcome = record {
+    outcome = outcome;
+    none = (λ e. refl, λ e. refl);
+    unwritten = (λ e. absurd cc, λ e. absurd cc);
+    status = tt;
+    line = tt;
+    why = tt;
+    untold = tt;
+    in_part = λ six none. absurd (cc six);
+  }
+  by_output text (Some other) judged gained outcome = record {
+    outcome = outcome;
+    none = (λ e. absurd cc, λ e. absurd cc);
+    unwritten = (λ e. absurd cc, λ e. absurd cc);
+    status = refl;
+    line = tt;
+    why = (text, judged, gained);
+    untold = tt;
+    in_part = λ six none. absurd (cc six);
+  }
 
-  part_of : (answer : Result (List ℕ) Reason) (status : ℕ) → IsAnswerFor call.files call.words call.read_faults
+  -- its text was written, where the sink didn't fail
+  low_or_six : (other : Option OtherEnd) → ¬ (output_status other ≡ 6)
+  low_or_six None is = absurd cc
+  low_or_six (Some other) is = absurd cc
+
+  text_written : (text : List ℕ) (other : Option OtherEnd) (status : ℕ) → status ≡ output_status other
+      → IsDelivered call.held call.held_after call.write_faults call.write_faults_after text (output_status other) status
+      → WroteText call text
+  text_written text other status is (inl written) = written.gained
+  text_written text other status is (inr cut) = absurd (low_or_six other (sym is ∙ cut.status))
+
+  -- a reason of the words and the files was due
+  was_due : (reason : Reason) → IsOfFiles reason → WasDue call troubles reason
+  was_due (Words fault) why = why
+  was_due (Unread file trouble) why = why
+  was_due NoMemory why = why
+  was_due (TooBig file) why = why
+  was_due (Elf file fault about) why = why
+  was_due (Script number fault) why = why
+  was_due (Guest number) why = why
+  was_due (EndedOtherwise other) why = absurd why
+  was_due (Unwritten trouble) why = absurd why
+
+  -- where the sink failed, a part of an output was written
+  part : (text : List ℕ) (other : Option OtherEnd) (status : ℕ)
+      → IsDelivered call.held call.held_after call.write_faults call.write_faults_after text (output_status other) status
+      → status ≡ 6 → GainedPrefix call.held call.held_after text
+  part text other status (inl written) six = absurd (low_or_six other (sym written.status ∙ six))
+  part text other status (inr cut) six = cut.gained
+
+  -- and what was due is untold: an outcome of it that ended otherwise, or a reason of the words and the files
+  untold_other : (text : List ℕ) (other : Option OtherEnd) → IsJudged call.files (command_of call.words) other text
+      → GainedPrefix call.held call.held_after text → IfSome (option_map EndedOtherwise other) (IsUntold call troubles 6)
+  untold_other text None judged gained = tt
+  untold_other text (Some other) judged gained = record { unwritten = refl; why = (text, judged, gained) }
+
+  untold_of : (answer : Result Judged Reason) (status : ℕ) → IsAnswerFor call.files call.words call.read_faults
       call.read_faults_after troubles.shelf answer
       → IsToldFor call.held call.held_after call.write_faults call.write_faults_after answer status
-      → status ≡ 6 → (due_for answer).reason ≡ None → WrotePrefix call (IsOutput call.files call.words)
-  part_of (Ok text) status output (inl written) six none = absurd (cc (sym written.status ∙ six))
-  part_of (Ok text) status output (inr cut) six none = (text, output, cut.gained)
+      → status ≡ 6 → IfSome (due_for answer).reason (IsUntold call troubles 6)
+  untold_of (Ok judged) status is delivered six =
+      untold_other judged.0 judged.1 is (part judged.0 judged.1 status delivered six)
+  untold_of (Err reason) status why told_so six = record { unwritten = refl; why = was_due reason why }
+
+  -- unless all in it is as was expected
+  met_part : (text : List ℕ) (other : Option OtherEnd) → IsJudged call.files (command_of call.words) other text
+      → GainedPrefix call.held call.held_after text → option_map EndedOtherwise other ≡ None
+      → WrotePrefix call (IsMet call.files (command_of call.words))
+  met_part text None judged gained none = (text, judged, gained)
+  met_part text (Some other) judged gained none = absurd (cc none)
+
+  part_of : (answer : Result Judged Reason) (status : ℕ) → IsAnswerFor call.files call.words call.read_faults
+      call.read_faults_after troubles.shelf answer
+      → IsToldFor call.held call.held_after call.write_faults call.write_faults_after answer status
+      → status ≡ 6 → (due_for answer).reason ≡ None → WrotePrefix call (IsMet call.files (command_of call.words))
+  part_of (Ok judged) status is delivered six none =
+      met_part judged.0 judged.1 is (part judged.0 judged.1 status delivered six) none
   part_of (Err reason) status why told_so six none = absurd (cc none)
 
 -- how a call is explained whose answer was told, with this outcome
-explained_so : (call : Call) (troubles : Troubles) (answer : Result (List ℕ) Reason) (explained : Explained)
+explained_so : (call : Call) (troubles : Troubles) (answer : Result Judged Reason) (explained : Explained)
     → IsAnswerFor call.files call.words call.read_faults call.read_faults_after troubles.shelf answer
     → IsToldFor call.held call.held_after call.write_faults call.write_faults_after answer explained.status
     → IsAsDue call.write_faults call.write_faults_after troubles.sink (due_for answer) explained
     → IsOutcome call explained.status → IsExplained call troubles explained
-explained_so call troubles (Ok text) explained output told_so (inl due) outcome =
+explained_so call troubles (Ok judged) explained is told_so (inl due) outcome =
+    let status : explained.status ≡ output_status judged.1 = ap (λ (e : Explained). e.status) due in
     subst (IsExplained call troubles) (sym due)
-    (record {
-      outcome = subst (λ (e : Explained). IsOutcome call e.status) due outcome;
-      none = (λ e. refl, λ e. refl);
-      unwritten = (λ e. absurd cc, λ e. absurd cc);
-      status = tt;
-      line = tt;
-      why = tt;
-      untold = tt;
-      in_part = λ six none. absurd (cc six);
-    })
+    (by_output call troubles judged.0 judged.1 is
+    (text_written call troubles judged.0 judged.1 explained.status status told_so)
+    (subst (λ (e : Explained). IsOutcome call e.status) due outcome))
 explained_so call troubles (Err reason) explained why told_so (inl due) outcome =
     let is : explained.status ≡ reason_status reason = ap (λ (e : Explained). e.status) due in
     subst (IsExplained call troubles) (sym due)
@@ -167,12 +237,13 @@ explained_so call troubles answer explained answered told_so (inr unwritten) out
       status = refl;
       line = tt;
       why = record { failed = unwritten.rose; trouble_told = refl };
-      untold = untold_of call troubles answer answered;
+      untold = untold_of call troubles answer explained.status answered told_so
+          (ap (λ (e : Explained). e.status) unwritten.failed);
       in_part = λ six none. part_of call troubles answer explained.status answered told_so
           (ap (λ (e : Explained). e.status) unwritten.failed) none;
     })
 
-pub explained_of : (call : Call) (troubles : Troubles) (answer : Result (List ℕ) Reason) (explained : Explained)
+pub explained_of : (call : Call) (troubles : Troubles) (answer : Result Judged Reason) (explained : Explained)
     → IsKept call
     → IsAnswerFor call.files call.words call.read_faults call.read_faults_after troubles.shelf answer
     → IsToldFor call.held call.held_after call.write_faults call.write_faults_after answer explained.status
@@ -184,9 +255,9 @@ explained_of call troubles answer explained keeps answered told_so due =
 
 -- the reason of an answer stands for a fault, whose line can be told
 pub due_is_told : (files : Files) (words : List (List ℕ)) (old new : List ℕ → ℕ) (said : Option ErrorKind)
-    (answer : Result (List ℕ) Reason) → IsAnswerFor files words old new said answer
+    (answer : Result Judged Reason) → IsAnswerFor files words old new said answer
     → IfErr answer (λ reason. IsSome (fault_told reason))
-due_is_told files words old new said (Ok text) output = tt
+due_is_told files words old new said (Ok judged) output = tt
 due_is_told files words old new said (Err reason) why = is_told files words old new said reason why
 
 -- a reason of the files that the command of the words needs is one of the words
@@ -205,15 +276,16 @@ reason_for files words old new said command (Script number fault) is why =
     subst (λ (c : Option Command). IsReasonFor files (needs_of c) old new said (Script number fault)) (sym is) why
 reason_for files words old new said command (Guest number) is why =
     subst (λ (c : Option Command). IsReasonFor files (needs_of c) old new said (Guest number)) (sym is) why
+reason_for files words old new said command (EndedOtherwise other) is why = absurd why
 reason_for files words old new said command (Unwritten trouble) is why = absurd why
 
 -- the answer to the words, from the answer to their command
 pub answer_for : (files : Files) (words : List (List ℕ)) (old new : List ℕ → ℕ) (said : Option ErrorKind)
-    (command : Command) (answer : Result (List ℕ) Reason) → command_of words ≡ Some command
-    → IfOk answer (λ text. IsOutputOf files (Some command) text)
+    (command : Command) (answer : Result Judged Reason) → command_of words ≡ Some command
+    → IfOk answer (λ judged. IsJudged files (Some command) judged.1 judged.0)
     → IfErr answer (IsReasonFor files (needs_of (Some command)) old new said)
     → IsAnswerFor files words old new said answer
-answer_for files words old new said command (Ok text) is output why =
-    subst (λ (c : Option Command). IsOutputOf files c text) (sym is) output
+answer_for files words old new said command (Ok judged) is output why =
+    subst (λ (c : Option Command). IsJudged files c judged.1 judged.0) (sym is) output
 answer_for files words old new said command (Err reason) is output why =
     reason_for files words old new said command reason is why

@@ -4,6 +4,7 @@ mod Explaining
 mod Explorations
 mod Outcomes
 mod PairCauses
+mod Searches
 mod Taken
 mod Trials
 mod Wholes

@@ -1,16 +1,19 @@
 -- The outcome of a call, from what was answered and how it was delivered.
 use Rattle.std.proofs.Common.{◌≡◌, ℕ, ◌⊎◌, inl, inr, List, refl, sym, ap, ◌∙◌, subst}
-use Rattle.std.proofs.Common.{None, Result, Ok, Err}
+use Rattle.std.proofs.Common.{None, Some, Option, Result, Ok, Err}
 use Rattle.outside.specs.Counts.{NeverFalls, NoneFalls}
 use Rattle.call_reasons.specs.declared.faults.Fault.{Fault}
 use Rattle.call_reasons.specs.declared.faults.Fault.TheVariants.{Usage, Read, Memory, Big, Elf, Script, Guest}
-use Rattle.outcomes.specs.Answers.{IsAnswer, IsTold}
+use Rattle.outcomes.specs.Answers.{IsAnswer, IsTold, Judged}
 use Rattle.outcomes.specs.Causes.{HasBigFile, IsCause, IsCauseOf}
 use Rattle.outcomes.specs.Delivery.{IsCutShort, IsDelivered, IsWritten}
+use Rattle.outcomes.specs.Judged.{IsJudged, IsMet, IsUnmet, output_status}
 use Rattle.outcomes.specs.Needs.{needs_in, needs_of}
 use Rattle.outcomes.specs.Outcome.{Call, CouldNotRead, IsDue, IsElfLine, IsGuestLine, IsOutcome, IsScriptLine, IsStatus}
 use Rattle.outcomes.specs.Outcome.{Wrote, WroteText}
 use Rattle.outcomes.specs.Outputs.{IsOutput, IsOutputOf}
+use Rattle.call_reasons.specs.declared.reasons.OtherEnd.{OtherEnd}
+use Rattle.command_words.specs.Commands.{Command, Runs, Makes, Tries, Explores, Searches, Pairs}
 use Rattle.outcomes.specs.Programs.{Files}
 use Rattle.call_reasons.specs.Statuses.{fault_status}
 use Rattle.call_reasons.specs.FaultLines.{fault_line}
@@ -49,9 +52,11 @@ cut_short : (call : Call) (text : List ℕ) (status : ℕ) → IsKept call → I
 cut_short call text status keeps due cut =
     let is = cut.status in
     record {
-      statuses = inr (inr (inr (inr (inr (inl is)))));
+      statuses = inr (inr (inr (inr (inr (inr (inl is))))));
       done = not_both status 6 0 is (λ e. absurd cc);
       plain = not_both status 6 0 is (λ e. absurd cc);
+      met = not_both status 6 0 is (λ e. absurd cc);
+      unmet = not_both status 6 1 is (λ e. absurd cc);
       usage = not_both status 6 2 is (λ e. absurd cc);
       usage_always = λ none. inr is;
       elf = not_both status 6 3 is (λ e. absurd cc);
@@ -71,31 +76,77 @@ cut_short call text status keeps due cut =
       sink_counts = keeps.sink_counts;
     }
 
+or_seven : (status : ℕ) → (status ≡ 0) ⊎ (status ≡ 1) → (status ≡ 0) ⊎ (status ≡ 1) ⊎ (status ≡ 7)
+or_seven status (inl zero) = inl zero
+or_seven status (inr one) = inr (inl one)
+
+-- an output that is judged is one
+output_judged : (files : Files) (command : Option Command) (other : Option OtherEnd) (text : List ℕ)
+    → IsJudged files command other text → IsOutputOf files command text
+output_judged files None other text judged = absurd judged
+output_judged files (Some (Runs run)) other text judged = judged.1
+output_judged files (Some (Makes guest)) other text judged = judged.1
+output_judged files (Some (Tries trial)) other text judged = judged.1
+output_judged files (Some (Explores program settings)) other text judged =
+    record { image = judged.image; taken = judged.taken; account = judged.account; told = judged.told; text = judged.text }
+output_judged files (Some (Searches program settings)) other text judged = judged.1
+output_judged files (Some (Pairs pair)) other text judged = judged.1
+
+-- the status of an output
+an_output_status : (other : Option OtherEnd) → IsStatus (output_status other)
+an_output_status None = inl refl
+an_output_status (Some other) = inr (inl refl)
+
+zero_or_one : (other : Option OtherEnd) → (output_status other ≡ 0) ⊎ (output_status other ≡ 1)
+zero_or_one None = inl refl
+zero_or_one (Some other) = inr refl
+
+-- it is neither of these
+low_status : {P : Type 0} (other : Option OtherEnd) (status high : ℕ) → status ≡ output_status other → ¬ (0 ≡ high)
+    → ¬ (1 ≡ high) → status ≡ high → P
+low_status None status high is zero one at = absurd (zero (sym is ∙ at))
+low_status (Some other) status high is zero one at = absurd (one (sym is ∙ at))
+
+-- what was judged, by the status
+met_by : (call : Call) (other : Option OtherEnd) (text : List ℕ) → IsJudged call.files (command_of call.words) other text
+    → WroteText call text → output_status other ≡ 0 → Wrote call (IsMet call.files (command_of call.words))
+met_by call None text judged gained is = (text, judged, gained)
+met_by call (Some other) text judged gained is = absurd cc
+
+unmet_by : (call : Call) (other : Option OtherEnd) (text : List ℕ) → IsJudged call.files (command_of call.words) other text
+    → WroteText call text → output_status other ≡ 1 → Wrote call (IsUnmet call.files (command_of call.words))
+unmet_by call None text judged gained is = absurd cc
+unmet_by call (Some other) text judged gained is = (text, (other, judged), gained)
+
 -- the output was written
-written_output : (call : Call) (text : List ℕ) (status : ℕ) → IsKept call
-    → IsOutput call.files call.words text → IsWrittenBy call text 0 status → IsOutcome call status
-written_output call text status keeps output written =
+written_output : (call : Call) (text : List ℕ) (other : Option OtherEnd) (status : ℕ) → IsKept call
+    → IsJudged call.files (command_of call.words) other text → IsWrittenBy call text (output_status other) status
+    → IsOutcome call status
+written_output call text other status keeps judged written =
     let is = written.status in
+    let output : IsOutput call.files call.words text = output_judged call.files (command_of call.words) other text judged in
     let used = used_by_output call.files (command_of call.words) text output in
     record {
-      statuses = inl is;
+      statuses = subst IsStatus (sym is) (an_output_status other);
       done = λ at. (text, output, written.gained);
       plain = λ at. (text, plain_output_of call.files (command_of call.words) text output, written.gained);
-      usage = not_both status 0 2 is (λ e. absurd cc);
+      met = λ at. met_by call other text judged written.gained (sym is ∙ at);
+      unmet = λ at. unmet_by call other text judged written.gained (sym is ∙ at);
+      usage = low_status other status 2 is (λ e. absurd cc) (λ e. absurd cc);
       usage_always = λ none. absurd (subst (λ c. IsOutputOf call.files c text) none output);
-      elf = not_both status 0 3 is (λ e. absurd cc);
+      elf = low_status other status 3 is (λ e. absurd cc) (λ e. absurd cc);
       elf_always = λ told none. absurd (unused_when_faulty call.files (needs_in call.words) told used);
-      script = not_both status 0 4 is (λ e. absurd cc);
+      script = low_status other status 4 is (λ e. absurd cc) (λ e. absurd cc);
       script_always = λ told none. absurd (unused_when_bad_line call.files (needs_in call.words) told used);
-      read = not_both status 0 5 is (λ e. absurd cc);
-      write = not_both status 0 6 is (λ e. absurd cc);
-      memory = not_both status 0 7 is (λ e. absurd cc);
-      big = not_both status 0 8 is (λ e. absurd cc);
+      read = low_status other status 5 is (λ e. absurd cc) (λ e. absurd cc);
+      write = low_status other status 6 is (λ e. absurd cc) (λ e. absurd cc);
+      memory = low_status other status 7 is (λ e. absurd cc) (λ e. absurd cc);
+      big = low_status other status 8 is (λ e. absurd cc) (λ e. absurd cc);
       big_always = λ told none. absurd (unused_when_big call.files (needs_in call.words) told used);
-      guest = not_both status 0 9 is (λ e. absurd cc);
+      guest = low_status other status 9 is (λ e. absurd cc) (λ e. absurd cc);
       guest_always = λ number outside none.
           absurd (unused_when_outside call.files (needs_in call.words) number outside used);
-      complete = λ told none. inl is;
+      complete = λ told none. or_seven status (either_way (output_status other) status 0 1 is (zero_or_one other));
       files = keeps.files;
       shelf_counts = keeps.shelf_counts;
       sink_counts = keeps.sink_counts;
@@ -103,17 +154,21 @@ written_output call text status keeps output written =
 
 -- the fault of a status
 a_status : (fault : Fault) → IsStatus (fault_status fault)
-a_status Usage = inr (inl refl)
-a_status (Elf fault) = inr (inr (inl refl))
-a_status (Script number) = inr (inr (inr (inl refl)))
-a_status Read = inr (inr (inr (inr (inl refl))))
-a_status Memory = inr (inr (inr (inr (inr (inr (inl refl))))))
-a_status Big = inr (inr (inr (inr (inr (inr (inr (inl refl)))))))
-a_status (Guest number) = inr (inr (inr (inr (inr (inr (inr (inr refl)))))))
+a_status Usage = inr (inr (inl refl))
+a_status (Elf fault) = inr (inr (inr (inl refl)))
+a_status (Script number) = inr (inr (inr (inr (inl refl))))
+a_status Read = inr (inr (inr (inr (inr (inl refl)))))
+a_status Memory = inr (inr (inr (inr (inr (inr (inr (inl refl)))))))
+a_status Big = inr (inr (inr (inr (inr (inr (inr (inr (inl refl))))))))
+a_status (Guest number) = inr (inr (inr (inr (inr (inr (inr (inr (inr refl))))))))
 
 no_output_status : (fault : Fault) → ¬ (fault_status fault ≡ 0)
 no_output_status Usage is = absurd cc
 no_output_status fault is = absurd cc
+
+no_unmet_status : (fault : Fault) → ¬ (fault_status fault ≡ 1)
+no_unmet_status Usage is = absurd cc
+no_unmet_status fault is = absurd cc
 
 no_write_status : (fault : Fault) → ¬ (fault_status fault ≡ 6)
 no_write_status Usage is = absurd cc
@@ -185,6 +240,8 @@ written_line call fault status keeps cause written =
       statuses = subst IsStatus (sym is) (a_status fault);
       done = λ at. absurd (no_output_status fault (sym is ∙ at));
       plain = λ at. absurd (no_output_status fault (sym is ∙ at));
+      met = λ at. absurd (no_output_status fault (sym is ∙ at));
+      unmet = λ at. absurd (no_unmet_status fault (sym is ∙ at));
       usage = λ at. usage_said call fault cause written.gained (sym is ∙ at);
       usage_always = λ none. inl (is
           ∙ usage_alone call.files old new fault (subst (λ c. IsCauseOf call.files c old new fault) none cause));
@@ -203,19 +260,21 @@ written_line call fault status keeps cause written =
       guest = λ at. guest_said call fault cause written.gained (sym is ∙ at);
       guest_always = λ number outside none. is_now 9 7
           (status_left call.files command old new 9 fault (left_by_outside call.files needs number outside) none.0 cause);
-      complete = λ told none. inr (is
-          ∙ ap fault_status (fault_when_good call.files command old new fault told none.0 cause));
+      complete = λ told none. inr (inr (is
+          ∙ ap fault_status (fault_when_good call.files command old new fault told none.0 cause)));
       files = keeps.files;
       shelf_counts = keeps.shelf_counts;
       sink_counts = keeps.sink_counts;
     }
 
 -- the outcome of an output, and of a fault
-output_delivered : (call : Call) (text : List ℕ) (status : ℕ) → IsKept call
-    → IsOutput call.files call.words text → IsDeliveredBy call text 0 status → IsOutcome call status
-output_delivered call text status keeps output (inl written) =
-    written_output call text status keeps output written
-output_delivered call text status keeps output (inr cut) = cut_short call text status keeps (inl output) cut
+output_delivered : (call : Call) (text : List ℕ) (other : Option OtherEnd) (status : ℕ) → IsKept call
+    → IsJudged call.files (command_of call.words) other text → IsDeliveredBy call text (output_status other) status
+    → IsOutcome call status
+output_delivered call text other status keeps judged (inl written) =
+    written_output call text other status keeps judged written
+output_delivered call text other status keeps judged (inr cut) =
+    cut_short call text status keeps (inl (output_judged call.files (command_of call.words) other text judged)) cut
 
 fault_delivered : (call : Call) (fault : Fault) (status : ℕ) → IsKept call
     → IsCause call.files call.words call.read_faults call.read_faults_after fault
@@ -227,9 +286,9 @@ fault_delivered call fault status keeps cause (inr cut) =
     (inr (record { fault = fault; cause = cause; line = refl })) cut
 
 -- the outcome of an answer that was told
-pub told_outcome : (call : Call) (answer : Result (List ℕ) Fault) (status : ℕ) → IsKept call
+pub told_outcome : (call : Call) (answer : Result Judged Fault) (status : ℕ) → IsKept call
     → IsAnswer call.files call.words call.read_faults call.read_faults_after answer
     → IsTold call.held call.held_after call.write_faults call.write_faults_after answer status
     → IsOutcome call status
-told_outcome call (Ok text) status keeps output told = output_delivered call text status keeps output told
+told_outcome call (Ok judged) status keeps is told = output_delivered call judged.0 judged.1 status keeps is told
 told_outcome call (Err fault) status keeps cause told = fault_delivered call fault status keeps cause told

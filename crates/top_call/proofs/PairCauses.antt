@@ -9,7 +9,7 @@ use Rattle.shared_procs.specs.PairRuns.{IsPairRun, PairSeen}
 use Rattle.command_words.specs.Commands.{PairRun}
 use Rattle.call_reasons.specs.declared.reasons.FileRole.TheVariants as role
 use Rattle.call_reasons.specs.declared.reasons.Reason.{Reason}
-use Rattle.call_reasons.specs.declared.reasons.Reason.TheVariants.{Words, Unread, NoMemory, TooBig, Elf, Script, Guest, Unwritten}
+use Rattle.call_reasons.specs.declared.reasons.Reason.TheVariants.{Words, Unread, NoMemory, TooBig, Elf, Script, Guest, EndedOtherwise, Unwritten}
 use Rattle.outcomes.specs.Delivery.{IsFileReason, IsTakeReason}
 use Rattle.whole_runs.specs.PlayReasons.{IsPairPlayReason}
 use Rattle.outcomes.specs.Needs.{Pair}
@@ -40,6 +40,7 @@ first_untaken files pair old new said (Elf role.SecondProgram fault about) why =
 first_untaken files pair old new said (Elf role.Script fault about) why = absurd (cc why.0)
 first_untaken files pair old new said (Script number fault) why = absurd why
 first_untaken files pair old new said (Guest number) why = absurd why
+first_untaken files pair old new said (EndedOtherwise other) why = absurd why
 first_untaken files pair old new said (Unwritten trouble) why = absurd why
 
 -- the second isn't, after the first was
@@ -77,6 +78,7 @@ module _ (files same : Files) (pair : PairRun) (one : Image) (old mid new : List
   second_untaken (Elf role.Script fault about) why = absurd (cc why.0)
   second_untaken (Script number fault) why = absurd why
   second_untaken (Guest number) why = absurd why
+  second_untaken (EndedOtherwise other) why = absurd why
   second_untaken (Unwritten trouble) why = absurd why
 
 -- the script isn't read, after both were
@@ -109,6 +111,7 @@ module _ (files same : Files) (pair : PairRun) (one two : Image) (old mid new : 
   script_unread (Elf file fault about) why = absurd why
   script_unread (Script number fault) why = absurd why
   script_unread (Guest number) why = absurd why
+  script_unread (EndedOtherwise other) why = absurd why
   script_unread (Unwritten trouble) why = absurd why
 
 -- both were taken, where the second was after the first
@@ -141,6 +144,7 @@ unplayed_pair files same pair one two lines text old new said (Script number fau
       why = bad.why;
     }
 unplayed_pair files same pair one two lines text old new said (Guest number) is equal taken read why = absurd why
+unplayed_pair files same pair one two lines text old new said (EndedOtherwise other) is equal taken read why = absurd why
 unplayed_pair files same pair one two lines text old new said (Unwritten trouble) is equal taken read why = absurd why
 
 -- it is

@@ -11,7 +11,7 @@ ghost use Rattle.outcomes.specs.Answers.{IsAnswerFor, IsTold};
 ghost use Rattle.outcomes.specs.Outcome.{IsOutcome, call_between};
 ghost use Rattle.outcomes.specs.Reasons.{IsExplained};
 
-use crate::delivery::tell;
+use crate::delivery::{Judged, tell};
 use crate::texts::{quiet_text, workers_text};
 use call_reasons::{Explained, Reason};
 use command_words::{Command, Source, WordsError, read_words};
@@ -24,8 +24,10 @@ use std::thread::Threads;
 /// Does what the words ask for, and gives the exit status, with the reason that goes with it.
 ///
 /// `words` are those of the command line without the program's own name. The answer is written to `sink`:
-/// at status 0 the output of the command, at every other status one line that names the fault. Where the
-/// sink fails, the status is 6, and it holds a prefix of the text. While runs are explored the sink hears how far it is.
+/// at status 0 and 1 the output of the command, at every other status one line that names the fault. It is 1 where `explore` is told
+/// how its runs are expected to end, and one that it tells of ended otherwise. Where the sink fails, the status is 6, and it holds a
+/// prefix of the text. While runs are explored, or all outcomes are searched for, the
+/// sink hears how far it is.
 ///
 /// `run` alone starts worker threads and waits for them, and `explore` other threads, unless its `--jobs` is 1. The gate is
 /// passed once before each turn of a worker.
@@ -116,7 +118,7 @@ fn quiet_answer<'a, S: Shelf, K: Sink>(
     words: &'a [String],
     shelf: &mut S,
     sink: &K,
-) -> Result<Result<Output, Reason>, Command<'a>>
+) -> Result<Result<Judged, Reason>, Command<'a>>
     ensures left { IfErr result (λ command. command_of (texts words.now) ≡ Some (said command)) }
     ensures workers { IfErr result (λ command. needs_workers (said command) ≡ true) }
     ensures limits { IfErr result (λ command. HasLimits (said command)) }
@@ -165,7 +167,7 @@ fn needs_workers(command: &Command) -> bool
             Source::Rule | Source::Script(_) | Source::Drawn { .. } | Source::DrawnAfter { .. } =>
                 false,
         },
-        Command::Makes(_) | Command::Tries(_) | Command::Pairs(_) => false,
+        Command::Makes(_) | Command::Tries(_) | Command::Searches(_) | Command::Pairs(_) => false,
         Command::Explores(explore) => !is_alone(explore.settings.jobs),
     }
 }

@@ -1,21 +1,25 @@
 //! Writing an answer: an output, or the line of a fault.
 
-ghost use Rattle.std.specs.Prelude.{◌≡◌, IfErr, IsSome, None, Some};
+ghost use Rattle.std.specs.Prelude.{◌≡◌, IfErr, IsSome, None, Some, option_map};
 ghost use Rattle.outside.specs.Counts.{NeverFalls};
 ghost use Rattle.outcomes.specs.Answers.{IsToldFor};
 ghost use Rattle.outcomes.specs.Delivery.{IsAsDue, IsDelivered, due_for};
+ghost use Rattle.outcomes.specs.Judged.{output_status};
 ghost use Rattle.call_reasons.specs.Reasons.{fault_told, reason_status};
-ghost use Rattle.call_reasons.specs.declared.reasons.Reason.TheVariants.{Unwritten};
+ghost use Rattle.call_reasons.specs.declared.reasons.Reason.TheVariants.{EndedOtherwise, Unwritten};
 
-use call_reasons::{Explained, Reason};
+use call_reasons::{Explained, OtherEnd, Reason};
 use outside::{Sink, emit};
 use run_texts::Output;
+
+/// An output, and the first outcome of it that ended otherwise than was expected.
+pub(crate) type Judged = (Output, Option<OtherEnd>);
 
 /// The exit status of a call that wrote its output.
 const DONE: u8 = 0;
 
 /// Writes the output, or the line of the fault that a reason stands for, and explains how the call ended.
-pub(crate) fn tell<K: Sink>(sink: &mut K, answer: Result<Output, Reason>) -> Explained
+pub(crate) fn tell<K: Sink>(sink: &mut K, answer: Result<Judged, Reason>) -> Explained
     requires { IfErr answer (λ reason. IsSome (fault_told reason)) }
     ensures told { IsToldFor (K.held sink.old) (K.held sink.new) (K.faults sink.old) (K.faults sink.new)
         answer result.status }
@@ -24,14 +28,7 @@ pub(crate) fn tell<K: Sink>(sink: &mut K, answer: Result<Output, Reason>) -> Exp
     ensures counts { NeverFalls (K.faults sink.old) (K.faults sink.new) }
 {
     match answer {
-        Ok(output) => {
-            let due = Explained {
-                status: DONE,
-                reason: None,
-                untold: None,
-            };
-            deliver(sink, output, due)
-        }
+        Ok((output, other)) => deliver(sink, output, written(other)),
         Err(reason) => {
             let Some(fault) = reason.fault() else {
                 unreachable!()
@@ -82,6 +79,24 @@ fn unwritten<K: Sink>(sink: &K, due: Explained) -> Explained
         status: reason.status(),
         reason: Some(reason),
         untold: due.reason,
+    }
+}
+
+/// How a call ends whose output was written, where this ended otherwise than was expected.
+fn written(other: Option<OtherEnd>) -> Explained
+    ensures { result ≡ record {
+      status = output_status other;
+      reason = option_map EndedOtherwise other;
+      untold = None;
+    } }
+{
+    match other {
+        Some(other) => told(Reason::EndedOtherwise(other)),
+        None => Explained {
+            status: DONE,
+            reason: None,
+            untold: None,
+        },
     }
 }
 

@@ -7,6 +7,7 @@ mod elf_places;
 mod exploring;
 mod fetching;
 mod pairing;
+mod searching;
 mod shown;
 mod texts;
 

@@ -1,6 +1,5 @@
 //! The text of each command: its files are taken, the program is run, and what the command asks for is shown; its guest is made,
-//! or made and tried; its runs are explored; or two programs are
-//! run together.
+//! or made and tried; its runs are explored; all its outcomes are searched for; or two programs are run together.
 
 ghost use Rattle.std.specs.Prelude.{◌≡◌, IfErr, IfOk, Some, false, true};
 ghost use Rattle.mach_types.specs.Limits.{InRange};
@@ -14,12 +13,15 @@ ghost use Rattle.call_reasons.specs.declared.reasons.Reason.TheVariants.{NoMemor
 ghost use Rattle.outcomes.specs.Delivery.{IsGuestReason};
 ghost use Rattle.outcomes.specs.Needs.{needs_by, needs_of};
 ghost use Rattle.outcomes.specs.Guests.{IsGuestImage, IsGuestOutput, IsTrialOutput};
-ghost use Rattle.outcomes.specs.Outputs.{HasRun, IsOutputOf, IsRunOutput};
+ghost use Rattle.outcomes.specs.Judged.{IsJudged};
+ghost use Rattle.outcomes.specs.Outputs.{HasRun, IsRunOutput};
 ghost use Rattle.outcomes.specs.Reasons.{IsReasonFor};
 
+use crate::delivery::Judged;
 use crate::exploring::{explored_alone, explored_together};
 use crate::fetching::{ScriptFiles, read_file, scripted, taken};
 use crate::pairing::pair_text;
+use crate::searching::searched_text;
 use crate::shown::shown_text;
 use call_reasons::{FileRole, Reason};
 use command_words::{Command, Draws, Guest, LineSpan, Run, Shown, Source, Trial};
@@ -54,12 +56,13 @@ pub(crate) fn quiet_text<S: Shelf, K: Sink>(
     command: &Command,
     shelf: &mut S,
     sink: &K,
-) -> Result<Output, Reason>
+) -> Result<Judged, Reason>
     requires limits { HasLimits (said command.now) }
     requires harts { HasItsHarts (said command.now) }
     requires shown { HasItsShown (said command.now) }
     requires quiet { needs_workers (said command.now) ≡ false }
-    ensures output { IfOk result (λ text. IsOutputOf (S.file shelf.old) (Some (said command.now)) text) }
+    ensures output { IfOk result
+        (λ judged. IsJudged (S.file shelf.old) (Some (said command.now)) judged.1 judged.0) }
     ensures cause { let needs = needs_of (Some (said command.now)) in
         IfErr result (IsReasonFor (S.file shelf.old) needs (S.faults shelf.old) (S.faults shelf.new)
         (S.last_trouble shelf.new)) }
@@ -67,11 +70,12 @@ pub(crate) fn quiet_text<S: Shelf, K: Sink>(
     ensures counts { NoneFalls (S.faults shelf.old) (S.faults shelf.new) }
 {
     match command {
-        Command::Runs(run) => quiet_run_text(alloc, run, shelf),
-        Command::Makes(guest) => guest_output(alloc, *guest),
-        Command::Tries(trial) => tried(alloc, trial),
+        Command::Runs(run) => Ok((quiet_run_text(alloc, run, shelf)?, None)),
+        Command::Makes(guest) => Ok((guest_output(alloc, *guest)?, None)),
+        Command::Tries(trial) => Ok((tried(alloc, trial)?, None)),
         Command::Explores(explore) => explored_alone(alloc, explore, shelf, sink),
-        Command::Pairs(pair) => pair_text(alloc, pair, shelf),
+        Command::Searches(search) => Ok((searched_text(alloc, search, shelf, sink)?, None)),
+        Command::Pairs(pair) => Ok((pair_text(alloc, pair, shelf)?, None)),
     }
 }
 
@@ -83,11 +87,12 @@ pub(crate) fn workers_text<R: Threads + Wait + Sync, S: Shelf, K: Sink, G: Gate 
     shelf: &mut S,
     sink: &K,
     gate: &G,
-) -> Result<Output, Reason>
+) -> Result<Judged, Reason>
     requires limits { HasLimits (said command.now) }
     requires shown { HasItsShown (said command.now) }
     requires workers { needs_workers (said command.now) ≡ true }
-    ensures output { IfOk result (λ text. IsOutputOf (S.file shelf.old) (Some (said command.now)) text) }
+    ensures output { IfOk result
+        (λ judged. IsJudged (S.file shelf.old) (Some (said command.now)) judged.1 judged.0) }
     ensures cause { let needs = needs_of (Some (said command.now)) in
         IfErr result (IsReasonFor (S.file shelf.old) needs (S.faults shelf.old) (S.faults shelf.new)
         (S.last_trouble shelf.new)) }
@@ -95,9 +100,10 @@ pub(crate) fn workers_text<R: Threads + Wait + Sync, S: Shelf, K: Sink, G: Gate 
     ensures counts { NoneFalls (S.faults shelf.old) (S.faults shelf.new) }
 {
     match command {
-        Command::Runs(run) => workers_run_text(alloc, rt, run, shelf, gate),
+        Command::Runs(run) => Ok((workers_run_text(alloc, rt, run, shelf, gate)?, None)),
         Command::Explores(explore) => explored_together(alloc, rt, explore, shelf, sink),
-        Command::Makes(_) | Command::Tries(_) | Command::Pairs(_) => unreachable!(),
+        Command::Makes(_) | Command::Tries(_) | Command::Searches(_) | Command::Pairs(_) =>
+            unreachable!(),
     }
 }
 

@@ -4,7 +4,7 @@ use Rattle.block_model.specs.Setting.{Setting}
 use Rattle.shared_procs.specs.Pairs.{PairSetting}
 use Rattle.call_reasons.specs.declared.reasons.LineFault.{LineFault}
 use Rattle.call_reasons.specs.declared.reasons.Reason.{Reason}
-use Rattle.call_reasons.specs.declared.reasons.Reason.TheVariants.{Words, Unread, NoMemory, TooBig, Elf, Script, Guest, Unwritten}
+use Rattle.call_reasons.specs.declared.reasons.Reason.TheVariants.{Words, Unread, NoMemory, TooBig, Elf, Script, Guest, EndedOtherwise, Unwritten}
 use Rattle.whole_runs.specs.BadLines.{IsBadLine, IsBadLineOfPair}
 
 -- why a script isn't played to its end: memory is short, or a line is bad
@@ -16,6 +16,7 @@ IsScriptReason IsBad (TooBig file) = ⊥
 IsScriptReason IsBad (Elf file fault about) = ⊥
 IsScriptReason IsBad (Script number fault) = IsBad number fault
 IsScriptReason IsBad (Guest number) = ⊥
+IsScriptReason IsBad (EndedOtherwise found) = ⊥
 IsScriptReason IsBad (Unwritten trouble) = ⊥
 
 -- of a script of one process: one of its lines is the first bad one

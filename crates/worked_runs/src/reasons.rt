@@ -1,9 +1,9 @@
 //! Reasons that no call over devices in memory gives: want of memory, files that are too big, and what the
-//! system says of a device. And a reason of each kind, for what is said of it where there is no memory for more.
+//! system says of a device, and runs whose end isn't told. And a reason of each kind, for what is said of it where there is no memory for more.
 //! What is due stands in the program's file `stdout`.
 
 use crate::runs::words_of;
-use call_reasons::{FileRole, LineFault, Reason};
+use call_reasons::{FileRole, LineFault, OtherEnd, Reason};
 use command_words::WordsFault;
 use elf_load::ElfFault;
 use reason_text::{AtHand, brief, explain};
@@ -34,8 +34,11 @@ macro_rules! no_elf {
     };
 }
 
+/// Runs that came to none of the outcomes that are told apart.
+const UNKNOWN_END: Reason = Reason::EndedOtherwise(OtherEnd { end: None, seed: 9 });
+
 /// Reasons that are said in whole.
-const LONG: [Reason; 9] = [
+const LONG: [Reason; 10] = [
     unread!(NotFound),
     unread!(IsADirectory),
     unread!(PermissionDenied),
@@ -45,10 +48,11 @@ const LONG: [Reason; 9] = [
     no_elf!(NoMemory),
     Reason::TooBig(FileRole::Program),
     Reason::TooBig(FileRole::Script),
+    UNKNOWN_END,
 ];
 
 /// A reason of each kind but one, said in brief.
-const BRIEF: [Reason; 7] = [
+const BRIEF: [Reason; 8] = [
     Reason::Words(WordsFault::NoCommand),
     unread!(NotFound),
     unwritten!(BrokenPipe),
@@ -59,6 +63,7 @@ const BRIEF: [Reason; 7] = [
         line: 1,
         fault: LineFault::Malformed,
     },
+    UNKNOWN_END,
 ];
 
 /// Prints what is said of [`LONG`] and of [`BRIEF`].

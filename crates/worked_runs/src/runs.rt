@@ -34,11 +34,11 @@ pub(crate) fn asked_of(alloc: Global, words: &[String]) -> Result<Asked, AllocEr
             by_workers: explore.settings.jobs != Some(1),
             logged: None,
         }),
-        Ok(Command::Makes(_) | Command::Tries(_) | Command::Pairs(_)) | Err(WordsError::Wrong(_)) =>
-            Ok(Asked {
-                by_workers: false,
-                logged: None,
-            }),
+        Ok(Command::Makes(_) | Command::Tries(_) | Command::Searches(_) | Command::Pairs(_))
+        | Err(WordsError::Wrong(_)) => Ok(Asked {
+            by_workers: false,
+            logged: None,
+        }),
         Err(WordsError::NoMemory) => Err(AllocError),
     }
 }

@@ -71,9 +71,7 @@ def list_atomics(program: Program) -> Iterator[str]:
 
 def cells(program: Program, one: Emptying) -> tuple[str, ...]:
     at, instruction = one.instruction.address, one.instruction
-    lines, texts = program.line_name(at), program.outer_source(at)
-    shown = '  '.join([lines, *(text.partition('  ')[2] for text in texts[-1:])])
-    return f'{at:x}', instruction.text, program.where(at), one.what, shown
+    return f'{at:x}', instruction.text, program.where(at), one.what, program.source(at)
 
 
 def one_of(what: str) -> str:

@@ -13,6 +13,7 @@ from functools import cached_property
 from . import calls
 from .checks import failed_check
 from .facts import Answer, Called, Killed
+from .freed import of_second_free, says_freed_before
 from .history import History
 from .instructions import Instruction, Opcode
 from .machine import Machine
@@ -20,6 +21,7 @@ from .output import EXEC, RUN, SIGNAL, Step
 from .place import HartPlace, Place
 from .sleepers import of_sleeper
 from .trace_text import Record
+from .unbuilt import of_unbuilt
 from .unmapped import of_fault
 from .values import Values, read_values
 
@@ -28,6 +30,8 @@ SIGILL, SIGTRAP, SIGBUS, SIGSEGV = 4, 5, 7, 11
 ACCESSES = (Opcode.LOAD, Opcode.STORE, Opcode.AMO, Opcode.JALR)
 PAGE, STACK = 4_096, 0x3F_FFF0_0000
 LATE = 1_000
+RIGHT = 'exit 0'
+"""The end of a program that didn't fail."""
 SIZE = WORD = 4
 PROT_READ, PROT_WRITE = 1, 2
 AREA = 32
@@ -57,6 +61,8 @@ def explain(history: History, machine: Machine) -> Iterator[str]:
         'limit': causes.of_limit,
         'open': causes.of_no_end,
     }[reason](*map(int, number))
+    if reason != 'open' and history.output.end != RIGHT:
+        yield from of_unbuilt(history.program, causes.records)
 
 
 class Causes:
@@ -78,7 +84,7 @@ class Causes:
         return self.machine.inspect([step.line() for step in self.steps[: number - 1]])
 
     def spot(self, step: Step) -> str:
-        return f'{self.program.outer_spot(step.pc)} (step {step.number})'
+        return f'{self.program.spot(step.pc)} (step {step.number})'
 
     # exit
 
@@ -88,6 +94,14 @@ class Causes:
         yield f'Thread {last.thread} called {name} at {self.spot(last)}: the process exited with {code}.'
         yield from self.last_line()
         yield from self.late_stores()
+
+    def of_trap(self) -> Iterator[str]:
+        """What the program printed before it trapped: a check that failed, or a block that was freed twice."""
+        console = self.history.output.console
+        failed = failed_check(console)
+        yield from [failed] if failed else self.last_line()
+        if says_freed_before(console):
+            yield from of_second_free(self.values)
 
     def last_line(self) -> Iterator[str]:
         """The last line of the console, and who wrote last."""
@@ -145,8 +159,7 @@ class Causes:
             yield f'{instruction.word:#010x} is no instruction of this machine.'
         elif signal == SIGTRAP:
             yield 'It executed EBREAK.'
-            failed = failed_check(self.history.output.console)
-            yield from [failed] if failed else self.last_line()
+            yield from self.of_trap()
         elif instruction.opcode in ACCESSES:
             yield self.of_access(instruction, signal, here)
         if signal == SIGSEGV:
@@ -248,7 +261,7 @@ class Causes:
             word = self.program.word(one.abort - SIZE)
             if word != registered:
                 stands = 'no code' if word is None else f'{word:#010x}'
-                yield f'Before the abort handler {self.program.outer_spot(one.abort)} stands {stands}.'
+                yield f'Before the abort handler {self.program.spot(one.abort)} stands {stands}.'
 
     def of_signal(self, step: Step, signal: int, place: Place) -> Iterator[str]:
         here, due = place.harts[step.hart], place.threads[step.thread].next_signal()
@@ -293,7 +306,7 @@ class Causes:
         yield 'The script is over and the run isn\'t: `lens inspect` says what may come next.'
         for number, hart in self.place(len(self.steps) + 1).harts.items():
             if hart.thread is not None and hart.pc is not None:
-                yield f'Thread {hart.thread} is on hart {number}, at {self.program.outer_spot(hart.pc)}.'
+                yield f'Thread {hart.thread} is on hart {number}, at {self.program.spot(hart.pc)}.'
 
 
 def is_done(record: Record) -> bool:

@@ -81,24 +81,25 @@ def number_from(least: int, words: str) -> int:
 
 def end(name: str, command: Callable[[], int]) -> int:
     """Does what a command is asked: its status; 2 and one line on standard error where it can't. Where nobody
-    reads on (`.. | head`), it ends in silence."""
+    reads on (`.. | head`), it ends in silence, with the command's status if that was known by then, and with 0
+    else."""
+    status = 0
     try:
         status = command_status(command)
         sys.stdout.flush()
         sys.stderr.flush()
-        return status
     except LensFault as fault:
         print(f'{name}: {fault}', file=sys.stderr)
-        return fault.status
+        status = fault.status
     except BrokenPipeError:
         sys.stderr.close()
-        return 0
     except OSError as error:
         print(f'{name}: {error.filename or "standard output"}: {error.strerror}', file=sys.stderr)
-        return FAULT_STATUS
+        status = FAULT_STATUS
     except KeyboardInterrupt:
         print(f'{name}: interrupted', file=sys.stderr)
-        return INTERRUPTED_STATUS
+        status = INTERRUPTED_STATUS
+    return status
 
 
 def command_status(command: Callable[[], int]) -> int:

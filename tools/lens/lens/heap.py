@@ -43,6 +43,16 @@ class Freed:
     caller: int
 
 
+@dataclass(frozen=True)
+class Again:
+    """A call that frees what is freed already: the step in which it began, the instruction that made it, and
+    who freed the block before."""
+
+    step: Step
+    caller: int
+    before: Freed
+
+
 @dataclass
 class Call:
     """A call of one of these functions that hasn't returned: its name, where it returns to, the stack there,
@@ -73,6 +83,8 @@ class Heap:
     given: dict[int, Block] = field(default_factory=dict)
     freed: dict[int, Freed] = field(default_factory=dict)
     calls: dict[int, list[Call]] = field(default_factory=dict)
+    again: Again | None = None
+    """The call that begins in this step and frees what is freed already."""
 
     def __post_init__(self) -> None:
         for symbol in self.program.symbols:
@@ -89,6 +101,7 @@ class Heap:
 
     def before(self, step: Step) -> None:
         """What a thread begins or ends by standing at an instruction."""
+        self.again = None
         registers = self.registers.setdefault(step.thread, {})
         calls = self.calls.setdefault(step.thread, [])
         if calls and calls[-1].returns_at(step.pc, registers.get(SP, 0)):
@@ -119,9 +132,13 @@ class Heap:
         self.given[at] = block
 
     def take(self, call: Call) -> None:
-        block = self.given.pop(call.registers.get(A0, 0), None)
+        """A call has begun: the block that it is given is freed."""
+        at = call.registers.get(A0, 0)
+        block = self.given.pop(at, None)
         if block:
             self.freed[block.at] = Freed(block, call.step, call.caller)
+        elif at in self.freed:
+            self.again = Again(call.step, call.caller, self.freed[at])
 
     def freed_at(self, at: int, size: int) -> Freed | None:
         """The freed block that has one of some bytes."""

@@ -13,6 +13,8 @@ from .values import Values
 
 CONTEXT = 12
 SOURCE_SHOWN = 72
+"""So many characters of the name and the text of a source line are shown. The line that calls a helper comes
+in addition."""
 
 
 @dataclass(frozen=True)
@@ -63,8 +65,10 @@ def deed(history: History, step: Step) -> str:
 
 def source(history: History, address: int) -> str:
     """The name, number and text of a source line, shortened where it is long."""
-    text = history.program.source(address)
-    return text if len(text) <= SOURCE_SHOWN else f'{text[:SOURCE_SHOWN - 3].rstrip()} ..'
+    program = history.program
+    text, place = program.source(address), program.place(address)
+    most = SOURCE_SHOWN + (len(program.line_name(address)) - len(place.name) if place else 0)
+    return text if len(text) <= most else f'{text[: most - 3].rstrip()} ..'
 
 
 def make_row(history: History, step: Step) -> Row:

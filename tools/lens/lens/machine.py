@@ -16,7 +16,8 @@ from .trace_text import Trace, parse_trace
 REPOSITORY = Path(__file__).resolve().parents[3]
 BUILT = Path(os.environ.get('RSEQ_RUN', REPOSITORY / 'crates' / 'rseq_run' / 'out' / 'rseq_run'))
 """The program that is called where no other is named: that of the repository, or what RSEQ_RUN says."""
-DONE, USAGE, SCRIPT_REFUSED = 0, 2, 4
+DONE, USAGE, ELF_REFUSED, SCRIPT_REFUSED = 0, 2, 3, 4
+ADVICE = {ELF_REFUSED: ' (examples/common/rvcc builds a file that is taken: docs/PROGRAMS.md)'}
 UNKNOWN = 'there is no such command'
 SECONDS = 120
 NAME = 'rseq_run'
@@ -149,7 +150,8 @@ class Machine:
 
     def fault(self, command: str, answer: Answer) -> LensFault:
         """Why a command gave no output."""
-        return LensFault(f'{self.program} can\'t {command} {self.elf}: {answer.words()}')
+        told = f'{answer.words()}{ADVICE.get(answer.status, "")}'
+        return LensFault(f'{self.program} can\'t {command} {self.elf}: {told}')
 
     def check_name(self) -> None:
         """A fault where the program is another one than rseq_run."""

@@ -352,7 +352,7 @@ class Picture:
             self.arc_label(store, (left + right) / 2, base - height - 2)
 
     def arc_label(self, store: Step, across: float, down: float) -> None:
-        place = self.history.program.place(store.pc)
+        place = self.history.program.outer_place(store.pc)
         if place:
             self.add('text', str(place.line), x=across, y=down, kind='small', text_anchor='middle')
 

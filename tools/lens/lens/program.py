@@ -113,7 +113,7 @@ class Program:
 
     def read(self, elf: ELFFile) -> None:
         if elf.get_machine_arch() != 'RISC-V' or elf.elfclass != 64:
-            raise LensFault(f'{self.path}: it is no program for 64-bit RISC-V')
+            raise LensFault(f'{self.path}: it is no program for 64-bit RISC-V (examples/common/rvcc builds one)')
         self.entry = elf.header.e_entry
         self.code = [
             Code(segment['p_vaddr'], segment.data())
@@ -176,9 +176,9 @@ class Program:
         return f'{symbol.name}+{offset:#x}' if offset else symbol.name
 
     def spot(self, address: int) -> str:
-        """An address as function+offset, and the number of its source line where the file says it."""
-        place = self.place(address)
-        return self.where(address) + (f', {place.name}' if place else '')
+        """An address as function+offset, and its source line as `line_name` says it."""
+        name = self.line_name(address)
+        return self.where(address) + (f', {name}' if name else '')
 
     @cached_property
     def layout(self) -> Layout:
@@ -201,11 +201,6 @@ class Program:
         if inner is None or outer is None:
             return ''
         return outer.name if outer == inner else f'{outer.name} ({inner.name})'
-
-    def outer_spot(self, address: int) -> str:
-        """An address as function+offset, and its source line as `line_name` says it."""
-        name = self.line_name(address)
-        return self.where(address) + (f', {name}' if name else '')
 
     def outer_source(self, address: int) -> list[str]:
         """The text of its source line, and before it that of the line in which a helper was put in."""
@@ -287,14 +282,15 @@ class Program:
         return self.lines.at(address) if self.has(address) else None
 
     def find_source(self, address: int) -> str:
-        """The source line of an address as `file.c:21 TEXT`, the text where the file is found; empty
-        where the file says no line."""
+        """The source line of an address as `line_name` says it, and the text of the innermost line, where its
+        file is found; empty where the file says no line."""
         place = self.place(address)
-        return f'{place.name}  {self.lines.text(place)}'.rstrip() if place else ''
+        return f'{self.line_name(address)}  {self.lines.text(place)}'.rstrip() if place else ''
 
     def addresses(self, words: str) -> list[int]:
         """The addresses that `function+0x10`, a label, `file.c:21` or `0x10140` name: for a line of the
-        source all of its instructions, else one."""
+        source all of its instructions (where it has none of its own, those of the helpers that were put in
+        there), else one."""
         if ADDRESS.fullmatch(words):
             return self.checked(words, [int(words, 16)])
         if found := SOURCE_LINE.fullmatch(words):
@@ -313,17 +309,17 @@ class Program:
     def line_addresses(self, words: str, file: str, line: int) -> list[int]:
         if not self.lines.rows:
             raise LensFault(f'{self.path} has no source lines, and {words!r} needs them: build it with -g')
-        every = (
+        every = [
             address
             for code in self.code
             for address in range(code.start, code.start + len(code.content) - SIZE + 1, SIZE)
-        )
-        places = ((address, self.lines.at(address)) for address in every)
-        found = [
-            address
-            for address, place in places
-            if place and place.line == line and is_named(place.file, file)
         ]
+
+        def has_line(place: Place | None) -> bool:
+            return place is not None and place.line == line and is_named(place.file, file)
+
+        found = [address for address in every if has_line(self.lines.at(address))]
+        found = found or [address for address in every if has_line(self.outer_place(address))]
         if not found:
             raise LensFault(f'{self.path} has no instruction of the line {words}')
         return found

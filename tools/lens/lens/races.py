@@ -90,8 +90,8 @@ def overlap(one: Access, other: Access) -> bool:
 
 def line_of(values: Values, access: Access) -> str:
     """The source line of an access, or its instruction where the file has none."""
-    place = values.history.program.place(access.pc)
-    return place.name if place else values.history.program.where(access.pc)
+    program = values.history.program
+    return program.line_name(access.pc) or program.where(access.pc)
 
 
 def list_races(values: Values, is_plain: bool = False) -> Iterator[str]:
@@ -109,7 +109,8 @@ def list_races(values: Values, is_plain: bool = False) -> Iterator[str]:
         yield ''
     pairs = '1 pair of lines' if len(found) == 1 else f'{len(found)} pairs of lines'
     hidden = len(found) - shown
-    left_out = f'; {hidden} of them are on purpose on both sides, and left out' if hidden else ''
+    are = 'is' if hidden == 1 else 'are'
+    left_out = f'; {hidden} of them {are} on purpose on both sides, and left out' if hidden else ''
     yield f'{pairs} that nothing orders in this run{left_out}; end {history.output.end}'
     yield 'Of other runs this says nothing, and not each such pair is a bug.'
 

@@ -56,7 +56,7 @@ def last_writer(values: Values, word: int) -> str:
             if fact.at < word + WORD and word < fact.at + fact.size:
                 step = record.step
                 store = values.history.drained[step.number] if step.kind == DRAIN else step
-                spot = values.history.program.outer_spot(store.pc)
+                spot = values.history.program.spot(store.pc)
                 return f'the last to write it was the {values.writer(step.number)}, at {spot}'
     return 'nobody has written it'
 
@@ -76,5 +76,5 @@ def is_wake(called: Called | None, word: int) -> bool:
 
 
 def by(values: Values, step: Step) -> str:
-    spot = values.history.program.outer_spot(step.pc)
+    spot = values.history.program.spot(step.pc)
     return f'thread {step.thread} in step {step.number}, at {spot}'

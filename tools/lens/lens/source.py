@@ -108,12 +108,11 @@ def words_of(error: Exception) -> str:
 
 
 def file_name(program: LineProgram, number: int) -> str:
-    """The path of a file of a line table. Before DWARF 5 files and directories count from 1, and
-    directory 0 is the compiler's own."""
+    """The path of a file of a line table, from where the compiler ran: that is its directory 0. Before DWARF 5
+    files and directories count from 1, and the table doesn't name directory 0."""
     header = program.header
     counts_from_zero = header.version >= DWARF_WITH_DIRECTORY_ZERO
     entry = header.file_entry[number if counts_from_zero else number - 1]
-    directories = [name.decode() for name in header.include_directory]
-    if not counts_from_zero:
-        directories.insert(0, '')
+    named = [name.decode() for name in header.include_directory]
+    directories = ['', *(named[1:] if counts_from_zero else named)]
     return str(PurePosixPath(directories[entry.dir_index]) / entry.name.decode())

@@ -27,12 +27,13 @@ import re
 from dataclasses import dataclass, field, replace
 from pathlib import Path
 
+from .course import Course, pc_of
 from .faults import LensFault
 from .history import History, make_history
 from .instructions import Instruction
 from .listing import deed
 from .machine import CALM, MOST_CALM, Machine
-from .output import DONE, DRAIN, EXEC, HARTS, KINDS, PC_DIGITS, PREEMPT, RUN, SIGNAL, TAKE, Step
+from .output import DONE, DRAIN, EXEC, HARTS, KINDS, PREEMPT, RUN, SIGNAL, TAKE, Step
 from .place import HartPlace
 from .program import Program
 
@@ -178,11 +179,6 @@ def order_of_hart(number: int, words: str, hart: int, rest: list[str]) -> Order 
     return None
 
 
-def pc_of(line: bytes) -> int:
-    """The pc of a log line."""
-    return int(line[-PC_DIGITS:], 16)
-
-
 def is_hart(word: str) -> bool:
     return len(word) == 1 and word.isdecimal() and int(word) < HARTS
 
@@ -264,23 +260,23 @@ class Steering:
     def go_until(self, order: Order, places: set[int]) -> None:
         """Goes on until the thread has stood so often at one of the places; that it stands there now
         counts."""
-        visits, size = 0, TRIES[0]
+        visits, size, course = 0, TRIES[0], Course(self.program)
         while True:
             here = self.here(order.hart)
             visits += here.pc in places
             if visits >= order.visit:
                 return
-            pcs = self.advance(order, here, size)
-            for count, pc in enumerate(pcs[1:], 1):
+            made = self.advance(order, here, course, size)
+            for number, pc in made[1:]:
                 visits += pc in places
                 if visits >= order.visit:
-                    del self.script.lines[len(self.script.lines) - len(pcs) + count :]
+                    del self.script.lines[number:]
                     return
-            size = min(4 * size, TRIES[-1])
+            size = min(4 * size, TRIES[-1]) if len(made) == size else TRIES[0]
 
     def go_all(self, order: Order) -> None:
         """Goes on for as long as the thread can; it makes one instruction at least."""
-        before = len(self.script.lines)
+        before, course = len(self.script.lines), Course(self.program)
         while True:
             place = self.machine.inspect(self.script.lines)
             here = place.harts.get(order.hart, HartPlace())
@@ -289,22 +285,35 @@ class Steering:
                 return
             if not is_able:
                 raise self.refusal(order, len(self.script.lines) + 1)
-            self.advance(order, here, TRIES[1])
+            self.advance(order, here, course, TRIES[1])
 
-    def advance(self, order: Order, here: HartPlace, size: int) -> list[int]:
+    def advance(self, order: Order, here: HartPlace, course: Course, size: int) -> list[tuple[int, int]]:
         """Makes the drains that the next instruction needs, and then as many instructions as are allowed,
-        `size` at most: the pcs at which these stand."""
+        `size` at most, with the drains that are foreseen: of each the number of the lines before it, and its
+        pc."""
         drains = here.drains_for(EXEC)
         if EXEC not in here.may and not drains:
             raise self.refusal(order, len(self.script.lines) + 1)
         self.script.lines += [f'{order.hart} {DRAIN}'] * drains
-        before = len(self.script.lines)
-        allowed = self.allowed_of(order, size)
-        if not allowed:
+        before, waiting = len(self.script.lines), here.waiting - drains
+        kinds = course.foreseen(here.pc, waiting, size)
+        log = self.allowed(order, kinds)
+        if not log:
             raise self.refusal(order, before + 1)
-        self.script.lines += [order.event] * allowed
-        answer = self.machine.play_outline(self.script.lines)
-        return [] if isinstance(answer, int) else [pc_of(line) for line in answer.lines[before:]]
+        kinds = kinds[: course.kept(kinds, log, waiting)]
+        self.script.lines += [f'{order.hart} {kind}' for kind in kinds]
+        made = [(at, pc_of(log[at - before])) for at, kind in enumerate(kinds, before) if kind == EXEC]
+        course.add([pc for _, pc in made])
+        return made
+
+    def allowed(self, order: Order, kinds: list[str]) -> list[bytes]:
+        """The log of those of some events of the hart of an order that the machine takes, one after the other."""
+        before = len(self.script.lines)
+        lines = self.script.lines + [f'{order.hart} {kind}' for kind in kinds]
+        answer = self.machine.play_outline(lines)
+        if isinstance(answer, int):
+            answer = self.machine.play_outline(lines[: answer - 1])
+        return [] if isinstance(answer, int) else answer.lines[before:]
 
     # What the machine says
 
@@ -393,9 +402,9 @@ class Steering:
         return f'{here}, {self.why_no_event(order, standing, instruction)}'
 
     def spot(self, pc: int) -> str:
-        instruction, place = self.program.instruction(pc), self.program.place(pc)
+        instruction, line = self.program.instruction(pc), self.program.line_name(pc)
         text = f' ({instruction.text})' if instruction else ''
-        return f'{self.program.where(pc)}{text}' + (f', {place.name},' if place else '')
+        return f'{self.program.where(pc)}{text}' + (f', {line},' if line else '')
 
     @staticmethod
     def why_no_event(order: Order, standing: Standing, instruction: Instruction | None) -> str:

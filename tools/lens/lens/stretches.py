@@ -4,6 +4,7 @@ from __future__ import annotations
 
 from collections.abc import Iterable, Iterator
 from dataclasses import dataclass
+from functools import cache
 from typing import NamedTuple
 
 from .output import DRAIN, EXEC, PREEMPT, RUN, Step
@@ -42,8 +43,13 @@ class Piece(NamedTuple):
 
     def lines(self) -> bytes:
         """The lines of a script that make them."""
-        thread = f' {self.thread}' if self.kind == RUN else ''
-        return f'{self.hart} {self.kind}{thread}\n'.encode('ascii') * self.count
+        return line_of(self.hart, self.kind, self.thread) * self.count
+
+
+@cache
+def line_of(hart: int, kind: str, thread: int) -> bytes:
+    """The line of a script that makes an event."""
+    return f'{hart} {kind}{f" {thread}" if kind == RUN else ""}\n'.encode('ascii')
 
 
 def stretches_of(steps: list[Step]) -> Stretches:

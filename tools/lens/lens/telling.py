@@ -166,9 +166,9 @@ class Telling:
         }[step.kind]
 
     def spot(self, pc: int) -> str:
-        """A place and the number of its line."""
-        place = self.program.place(pc)
-        return self.program.where(pc) + (f' ({place.name})' if place else '')
+        """A place, and its line in the source."""
+        line = self.program.line_name(pc)
+        return self.program.where(pc) + (f' ({line})' if line else '')
 
     def store(self, step: Step) -> str:
         """The source line of a store, or the instruction where there is none."""

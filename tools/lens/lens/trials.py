@@ -47,7 +47,7 @@ class Player:
     def run(self, stretches: Stretches) -> Run | None:
         """The run that begins with stretches. What isn't allowed is left out, and so is the rest of its
         stretch. None where it had to be mended too often."""
-        pieces = self.foresight.pieces(enumerate(stretches))
+        pieces, spins = self.foresight.pieces(enumerate(stretches)), set()
         for _ in range(MENDINGS):
             self.stop.check()
             answer = self.machine.finish_outline(script_of(pieces), self.calm)
@@ -58,17 +58,20 @@ class Player:
                 if early is None:
                     return Run(stretches, pieces, answer)
                 bad = early
-            pieces = self.mended(pieces, bad, stretches)
+            pieces = self.mended(pieces, bad, stretches, spins)
         return None
 
-    def mended(self, pieces: list[Piece], bad: int, stretches: Stretches) -> list[Piece]:
+    def mended(self, pieces: list[Piece], bad: int, stretches: Stretches, spins: set[int]) -> list[Piece]:
         """The same, but that the event that is refused gets the drains that it needs before it, or is left
-        out with the rest of its stretch; a drain that was foreseen wrong is left out."""
+        out with the rest of its stretch; a drain that was foreseen wrong is left out. `spins` are the threads
+        that were seen to spin."""
         before, refused = split_at(pieces, bad)
         place = self.machine.inspect_script(script_of(before))
         if place.is_over:
             return before
         standing = self.foresight.standing_at(place, before)
+        self.foresight.note_spin(refused, place, spins)
+        standing.spins = spins
         first = refused.stretch
         if refused.origin == KEPT:
             drains = place.harts.get(refused.hart, HartPlace()).drains_for(refused.kind)

@@ -33,7 +33,7 @@ def of_fault(values: Values) -> Iterator[str]:
     last, step = values.trace.records[-1].step, change.step
     what = 'No page is there since' if change.rights is None else f'The page has {change.rights} since'
     before = f'in step {step.number}, {counted(last.number - step.number)} before'
-    spot = values.history.program.outer_spot(step.pc)
+    spot = values.history.program.spot(step.pc)
     yield f'{what} {change.name} by thread {step.thread} {before}, at {spot}.'
 
 

@@ -2,6 +2,7 @@
 assembled here."""
 from __future__ import annotations
 
+import os
 import shutil
 import subprocess
 import unittest
@@ -27,6 +28,13 @@ FOUND = EXAMPLES / 'peterson' / 'found.output'
 
 START = 0x10078
 
+GCC, CLANG = 'riscv64-unknown-elf-gcc', 'clang'
+COMPILERS = [
+    name for name in (GCC, CLANG) if shutil.which(name) and (name != CLANG or shutil.which('ld.lld'))
+]
+"""Those of the documented ones that are there."""
+PICOLIBC = Path('/usr/lib/picolibc/riscv64-unknown-elf')
+
 PROGRAM = BUILT.resolve()
 """The built program, or what RSEQ_RUN says."""
 
@@ -51,6 +59,8 @@ def objdump_version() -> str:
 
 needs_objdump = unittest.skipUnless(objdump_version().startswith(OBJDUMP), f'objdump isn\'t {OBJDUMP}')
 needs_gcc = unittest.skipUnless(shutil.which('riscv64-unknown-elf-gcc'), 'there is no gcc for RISC-V')
+needs_compiler = unittest.skipUnless(COMPILERS, f'there is neither {GCC} nor {CLANG} with lld')
+needs_picolibc = unittest.skipUnless(PICOLIBC.is_dir(), f'there is no picolibc in {PICOLIBC}')
 needs_program = unittest.skipUnless(PROGRAM.is_file(), f'{PROGRAM} isn\'t built')
 
 
@@ -94,6 +104,23 @@ def compile_c(folder: Path, source: str, *options: str) -> Path:
     files = (f'-I{common}', '-Wl,-no-pie', '-o', elf, common / 'start.S', common / 'memory.c', text, '-lgcc')
     toolchain('gcc', *flags, *options, *files)
     return elf
+
+
+def build(compiler: str, folder: Path, name: str, source: str, *options: str) -> Path:
+    """A C program by the documented line: `rvcc OPTION .. -o NAME.elf NAME.c`."""
+    text, elf = folder / f'{name}.c', folder / f'{name}.elf'
+    text.write_text(source)
+    words = [EXAMPLES / 'common' / 'rvcc', *options, '-o', elf, text]
+    subprocess.run(words, env={**os.environ, 'RVCC': compiler}, check=True, capture_output=True, timeout=300)
+    return elf
+
+
+def counting_program(folder: Path) -> tuple[Path, Path]:
+    """A program that does what the built one does, and the file to which it adds a line for each call."""
+    program, calls = folder / 'counting', folder / 'calls'
+    program.write_text(f'#!/bin/sh\necho >> {calls}\nexec {PROGRAM} "$@"\n')
+    program.chmod(0o755)
+    return program, calls
 
 
 def output_text(lines: list[str], end: str = 'open', console: str = '') -> str:

@@ -112,7 +112,7 @@ class Dwarf5(unittest.TestCase):
         self.assertEqual([one.partition(' ')[0] for one in program.lines.lacking], ['start.S', 'peterson/peterson.c'])
         self.assertIn('DW_FORM_of_later', program.lines.lacking[0])
         (take,) = program.addresses('take')
-        self.assertEqual((program.spot(take), program.outer_spot(take)), ('take', 'take'))
+        self.assertEqual((program.spot(take), program.source(take)), ('take', ''))
         with self.assertRaisesRegex(LensFault, 'has no source lines'):
             program.addresses('peterson.c:19')
 

@@ -3,7 +3,7 @@ import tempfile
 import unittest
 from pathlib import Path
 
-from .common import EXAMPLES, PROGRAM, assemble, lens, needs_program
+from .common import COMPILERS, EXAMPLES, PROGRAM, assemble, build, lens, needs_compiler, needs_program
 
 KEPT = {
     'peterson/found': [
@@ -177,6 +177,16 @@ SMALL = {
 }
 
 
+CHECKED = """#include "check.h"
+static volatile int count = 1;
+static int __attribute__((noinline)) two(void) { return 2 * count; }
+int main(void) {
+    check(count, ==, two());
+    return 0;
+}
+"""
+
+
 @needs_program
 class Ends(unittest.TestCase):
     maxDiff = None
@@ -196,6 +206,35 @@ class Ends(unittest.TestCase):
                 with self.subTest(source=source):
                     answer = lens('why', '--seed', 1, elf, '--program', PROGRAM)
                     self.assertIn(said, answer.stdout.decode() + answer.stderr.decode())
+
+    @needs_compiler
+    def test_a_check_that_fails(self):
+        """`check` of examples/common/check.h, by each compiler: its place, its text and both values, and that it
+        trapped in the line of the check."""
+        with tempfile.TemporaryDirectory() as name:
+            for compiler in COMPILERS:
+                with self.subTest(compiler=compiler):
+                    answer = lens('why', '--seed', 1, build(compiler, Path(name), 'prog', CHECKED))
+                    first, text, *_, last = answer.stdout.decode().splitlines()
+                    self.assertRegex(first, r'^SIGTRAP \(5\) killed thread 1 on hart [01], at .*, prog\.c:5 ')
+                    self.assertEqual(text.strip(), 'prog.c:5  check(count, ==, two());')
+                    self.assertEqual(last, 'The check at prog.c:5 failed: count == two() (1, 2).')
+
+    def test_calls_that_are_not_there(self):
+        """Where the program fails they are named, each once; where it doesn't, nothing is said of them."""
+        again = 'li a0, 0x2000\nli a1, 131\nli a7, 98\necall\n'
+        source = f'li a7, 113\necall\n{again}{again}li a7, 999\necall\nli a0, {{}}\nli a7, 93\necall'
+        said = [
+            'This machine has no clock_gettime (113): thread 1 got ENOSYS at _start+0x4 (step 3).',
+            'This machine has no futex with operation 3: thread 1 got ENOSYS at _start+0x14 (step 7), the first of 2 times.',
+            'This machine has no call 999: thread 1 got ENOSYS at _start+0x2c (step 13).',
+        ]
+        with tempfile.TemporaryDirectory() as name:
+            for code, due in ((1, said), (0, [])):
+                elf = assemble(Path(name), source.format(code))
+                answer = lens('why', '--seed', 1, elf, '--program', PROGRAM).stdout.decode()
+                with self.subTest(code=code):
+                    self.assertEqual([line for line in answer.splitlines() if line.startswith('This machine')], due)
 
     def test_a_full_log(self):
         with tempfile.TemporaryDirectory() as name:

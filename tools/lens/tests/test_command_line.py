@@ -7,10 +7,12 @@ from pathlib import Path
 
 from lens.command_line import VERSION
 
-from .common import FOUND, LENS, PETERSON, ROOT, lens
+from .common import EXAMPLES, FOUND, LENS, PETERSON, PROGRAM, ROOT, lens
 
 SWEEP = ROOT / 'tools' / 'bin' / 'sweep'
 COMMANDS = 'list', 'trace', 'svg', 'calls', 'sequences', 'watch', 'races', 'why', 'cut', 'play', 'inspect', 'steer', 'shrink'
+WITHOUT_PROGRAM = 'list', 'trace', 'svg', 'cut', 'atomics', 'help'
+"""What needs no built program."""
 
 WRONG = {
     ('list', '--contxt', '3', 'RUN', 'ELF'): "there is no option '--contxt'; the nearest is --context",
@@ -70,6 +72,35 @@ class Words(unittest.TestCase):
                     line = f'{{ {LENS} {words}; }} | {reader}'.replace('--program cat', f'--program {self.program()}')
                     answer = subprocess.run(['sh', '-c', line], capture_output=True, timeout=300)
                     self.assertEqual((answer.returncode, answer.stderr), (0, b''))
+
+    def test_nobody_reads_what_a_command_prints(self):
+        """Each command ends in silence where standard output is a pipe that nobody reads."""
+        named = {command: (command, FOUND, PETERSON) for command in COMMANDS if command not in ('cut', 'steer')}
+        named['cut'] = ('cut', FOUND)
+        named['watch'] = ('watch', FOUND, PETERSON, 'count')
+        named['help'] = ('watch', '--help')
+        named['atomics'] = ('atomics', PETERSON)
+        steer = EXAMPLES / 'peterson' / 'both_inside.steer'
+        named['steer'] = ('steer', steer, PETERSON, '-o', self.room / 'it.script')
+        for name, words in named.items():
+            if PROGRAM.is_file() or name in WITHOUT_PROGRAM:
+                with self.subTest(command=name):
+                    answer = self.unread(LENS, *words)
+                    self.assertEqual((answer.returncode, answer.stderr), (0, b''))
+
+    def unread(self, *words: object) -> subprocess.CompletedProcess:
+        """What a command does whose standard output is a pipe that nobody reads."""
+        reader, writer = os.pipe()
+        os.close(reader)
+        try:
+            return subprocess.run(list(map(str, words)), stdout=writer, stderr=subprocess.PIPE, timeout=300)
+        finally:
+            os.close(writer)
+
+    def setUp(self) -> None:
+        made = tempfile.TemporaryDirectory()
+        self.addCleanup(made.cleanup)
+        self.room = Path(made.name)
 
     def program(self) -> Path:
         """A program that says that it is rseq_run, and prints much."""

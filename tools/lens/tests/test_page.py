@@ -11,7 +11,13 @@ from pathlib import Path
 
 from .common import PROGRAM, ROOT, needs_objdump, needs_program
 
-PAGES = {'README.md': 18, 'docs/FINDING_A_BUG.md': 25, 'docs/KERNEL.md': 3, 'tools/lens/README.md': 9}
+PAGES = {
+    'README.md': 18,
+    'docs/FINDING_A_BUG.md': 25,
+    'docs/KERNEL.md': 3,
+    'docs/REAL_PROGRAMS.md': 16,
+    'tools/lens/README.md': 9,
+}
 """How many commands of each are tried at least."""
 BLOCK = re.compile(r'(?:^ {4}.*\n|^\n(?= {4}))+', re.MULTILINE)
 COMMANDS = (
@@ -31,6 +37,8 @@ NONE = ('tools/bin/lens why RUN ELF',)
 PROGRAMS = ROOT / 'docs' / 'PROGRAMS.md'
 COMPILER, LIBRARY = 'riscv64-unknown-elf-gcc', Path('/usr/lib/picolibc/riscv64-unknown-elf')
 CLANG = 'RVCC=clang'
+MUSL = 'musl/bin/rvcc'
+"""The programs that are built by it are tried by tools/musl."""
 CALL = re.compile(r'^REPOSITORY/crates/rseq_run/out/rseq_run .*\n', re.MULTILINE)
 
 
@@ -85,8 +93,9 @@ class Page(unittest.TestCase):
 
     @needs_compiler
     def test_their_programs(self):
-        tried = list(programs(PROGRAMS.read_text()))
+        tried = [(command, below) for command, below in programs(PROGRAMS.read_text()) if MUSL not in command]
         self.assertEqual(len(tried), 5)
+        self.assertEqual(sum('    check(' in command for command, _ in tried), 1)
         for command, below in tried:
             if CLANG not in command or shutil.which('clang') and shutil.which('ld.lld'):
                 with self.subTest(command=command), tempfile.TemporaryDirectory() as name:

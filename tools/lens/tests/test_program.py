@@ -1,4 +1,5 @@
 """Instructions, symbols and source lines of an ELF file, and files that don't fit."""
+import subprocess
 import tempfile
 import unittest
 from pathlib import Path
@@ -7,7 +8,9 @@ from lens.faults import LensFault
 from lens.instructions import Instruction
 from lens.program import Program
 
-from .common import EXAMPLES, FENCED, FOUND, PETERSON, ROOT, history, lens, toolchain
+from .common import EXAMPLES, FENCED, FOUND, PETERSON, PROGRAM, ROOT, history, lens, needs_gcc, needs_program, toolchain
+
+GCC = 'riscv64-unknown-elf-gcc'
 
 
 class Symbols(unittest.TestCase):
@@ -27,6 +30,19 @@ class Symbols(unittest.TestCase):
         self.assertEqual(self.program.source(take), 'peterson.c:19  wants[me] = 1;')
         self.assertIn(take, self.program.addresses('peterson/peterson.c:19'))
         self.assertEqual(self.program.place(self.program.entry).name, 'start.S:8')
+
+    @needs_gcc
+    def test_source_of_a_mapped_folder(self):
+        """The compiler ran in a folder that it was told to name from another one, which is round the file."""
+        with tempfile.TemporaryDirectory() as name:
+            (below := Path(name) / 'below').mkdir()
+            (below / 'made.c').write_text('void _start(void) {\n    for (;;);\n}\n')
+            options = f'-march=rv64ima -mabi=lp64 -nostdlib -ffile-prefix-map={name}=. -o made.elf made.c'.split()
+            for version in ('-gdwarf-4', '-gdwarf-5'):
+                subprocess.run([GCC, version, *options], cwd=below, check=True, capture_output=True)
+                program = Program(str(below / 'made.elf'))
+                with self.subTest(version=version):
+                    self.assertEqual(program.source(program.entry), 'made.c:1  void _start(void) {')
 
     def test_instructions(self):
         (take,) = self.program.addresses('take')
@@ -95,6 +111,19 @@ class OtherFiles(unittest.TestCase):
 
     def test_nearly_the_same_program(self):
         self.expect(FENCED, 'isn\'t a run of')
+
+    @needs_gcc
+    @needs_program
+    def test_a_program_that_is_refused(self):
+        """One for another ABI: the program says why, and a sentence more says what builds another."""
+        with tempfile.TemporaryDirectory() as name:
+            made = Path(name) / 'made.c'
+            made.write_text('void _start(void) {\n    for (;;);\n}\n')
+            options = ('-march=rv64gc', '-mabi=lp64d', '-nostdlib', '-o', made.with_suffix('.elf'), made)
+            toolchain('gcc', *options)
+            answer = lens('why', '--seed', 1, made.with_suffix('.elf'), '--program', PROGRAM)
+        self.assertEqual(answer.returncode, 2)
+        self.assertRegex(answer.stderr.decode(), 'fault elf 8.*no floating-point ABI \\(examples/common/rvcc builds a file')
 
     def test_no_program(self):
         self.expect(EXAMPLES / 'check.py', 'it is no ELF file')

@@ -1,4 +1,5 @@
 """`lens races`: the kept text of one run, and what orders two accesses, row by row."""
+import re
 import tempfile
 import unittest
 from pathlib import Path
@@ -238,6 +239,68 @@ int main(void) {
     return 0;
 }
 """
+
+
+RACING = """#include "threads.h"
+static struct thread other;
+static int plain, mixed;
+static volatile int often;
+static void run(void *own) {
+    (void)own;
+    plain = 1;
+    *(volatile int *)&mixed = 1;
+    often = 1;
+}
+int main(void) {
+    start_thread(&other, run, 0);
+    plain = 2;
+    mixed = 2;
+    often = 2;
+    join_thread(&other);
+    return plain + mixed + often > 99;
+}
+"""
+SEED = 4
+"""One in whose run nothing orders the stores of the two threads."""
+MARKED_STORES = {
+    ('plain', 'made.c:7', ''),
+    ('plain', 'made.c:13', ''),
+    ('mixed', 'made.c:8', 'volatile'),
+    ('mixed', 'made.c:14', ''),
+    ('often', 'made.c:9', 'volatile'),
+    ('often', 'made.c:15', 'volatile'),
+}
+"""Of each store its variable, its line, and how it is marked."""
+ROW = re.compile(r' +step .*  hart [01]  thread [12]    store   (?P<mark>.{8})  \S+ +(?P<line>made\.c:[0-9]+)  ')
+
+
+class OfARun(unittest.TestCase):
+    """The run of a compiled program, in which the sides of pairs are marked, or one of them, or none."""
+
+    @needs_gcc
+    @needs_program
+    def test_marks(self) -> None:
+        with tempfile.TemporaryDirectory() as name:
+            elf = compile_c(Path(name), RACING)
+            every, plain = (self.shown(elf, *words) for words in ((), ('--plain',)))
+        found = '3 pairs of lines that nothing orders in this run'
+        self.assertEqual(every, (MARKED_STORES, f'{found}; end exit 0'))
+        left = {store for store in MARKED_STORES if store[0] != 'often'}
+        said = f'{found}; 1 of them is on purpose on both sides, and left out; end exit 0'
+        self.assertEqual(plain, (left, said))
+
+    def shown(self, elf: Path, *words: str) -> tuple[set[tuple[str, ...]], str]:
+        """The stores that `races` shows of a run, as above, and how many pairs it says there are."""
+        answer = lens('races', '--seed', SEED, elf, *words)
+        self.assertEqual((answer.returncode, answer.stderr), (0, b''))
+        stores, variable, lines = set(), '', answer.stdout.decode().splitlines()
+        for line in lines[:-2]:
+            row = ROW.match(line)
+            if row:
+                stores.add((variable, row['line'], row['mark'].strip()))
+            elif line:
+                variable, _, _ = line.partition(',')
+        return stores, lines[-2]
 
 
 class Marks(unittest.TestCase):

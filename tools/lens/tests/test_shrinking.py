@@ -1,13 +1,16 @@
 """`lens shrink`: how stretches are left out and put together, over runs that are made up; which drains are
 foreseen; the kept steers of two runs, which lead to the same end; and searches that are stopped."""
+import os
 import signal
 import subprocess
 import tempfile
 import unittest
+from collections import Counter
 from pathlib import Path
 
 from lens.foresight import Foresight
 from lens.output import DRAIN, EXEC, PREEMPT, RUN, Outline
+from lens.program import Program
 from lens.progress import Progress
 from lens.reducing import Reducing
 from lens.stopping import Stop, Stopped
@@ -24,11 +27,18 @@ from lens.stretches import (
 )
 from lens.trials import Run, Trials
 
-from .common import EXAMPLES, GOLDEN, LENS, PETERSON, PROGRAM, found, lens, needs_program, toolchain
+from .common import (
+    EXAMPLES, GOLDEN, LENS, PETERSON, PROGRAM, assemble, counting_program, found, lens, needs_program, toolchain,
+)
 
 HAZARD = EXAMPLES / 'hazard_plain'
 COMMON = EXAMPLES / 'common'
 TRAP = Path(__file__).with_name('trap.c')
+SUMS = Path(__file__).with_name('sums.c')
+SPIN = Path(__file__).with_name('spin.c')
+MOST_CALLS = 250
+"""So often the program is called at most to shrink a run of 25,000 steps in which two threads spin. It was some
+120 times on 1 December 2026, and 904 before spinning was foreseen."""
 OPTIONS = '-g -march=rv64ima -mabi=lp64 -O2 -ffreestanding -msmall-data-limit=0 -nostdlib -static -Wl,-no-pie'
 
 
@@ -38,9 +48,10 @@ def script(stretches):
 
 
 class Nothing(Foresight):
-    """Knows no way."""
+    """Knows no way, and of no thread who made it."""
 
     ways = {}
+    born = {}
 
 
 class Stretches(unittest.TestCase):
@@ -75,8 +86,51 @@ class Stretches(unittest.TestCase):
         kept = tuple(one for one in stretches_of(steps) if one.kind != DRAIN)
         pieces = Foresight(found()).pieces(enumerate(kept))
         self.assertEqual(cost_of(pieces).drains, sum(step.kind == DRAIN for step in steps))
-        others = [piece for piece in pieces if piece.kind != DRAIN]
-        self.assertEqual(script_of(others), script_of(Nothing.pieces(Nothing.__new__(Nothing), enumerate(kept))))
+        others = script_of(piece for piece in pieces if piece.kind != DRAIN).decode().splitlines()
+        self.assertEqual(others, [step.short_line() for step in steps if step.kind != DRAIN])
+
+    def test_a_thread_begins_where_it_may(self):
+        """Not where it runs already, nor on a hart that has another, nor before it was made; but where the one
+        before has ended."""
+        foresight, steps = Foresight(found()), found().output.steps
+        threads = [step.thread for step in steps if step.kind == RUN]
+        for left_out, begins in (
+            ({(PREEMPT, 1)}, 'the first alone'),
+            ({(EXEC, 1)}, 'none of thread 2'),
+            (set(), 'all'),
+        ):
+            with self.subTest(left_out=left_out):
+                kept = [one for one in stretches_of(steps) if (one.kind, one.thread) not in left_out]
+                runs = [piece.thread for piece in foresight.pieces(enumerate(kept)) if piece.kind == RUN]
+                due = {
+                    'all': threads,
+                    'the first alone': [1, *(thread for thread in threads if thread == 2)],
+                    'none of thread 2': [thread for thread in threads if thread == 1],
+                }
+                self.assertEqual(runs, due[begins])
+
+    def test_no_more_stores_enter_than_wait(self):
+        foresight, steps = Foresight(found()), found().output.steps
+        drains = [one._replace(count=8) if one.kind == DRAIN else one for one in stretches_of(steps)]
+        pieces = foresight.pieces(enumerate(drains))
+        self.assertLessEqual(cost_of(pieces).drains, sum(step.kind == DRAIN for step in steps))
+        waiting = Counter()
+        for piece in pieces:
+            waiting[piece.hart] -= piece.count if piece.kind == DRAIN else 0
+            if piece.kind == EXEC:
+                pcs = foresight.ways[piece.thread].pcs[piece.at : piece.at + piece.count]
+                waiting[piece.hart] += sum(foresight.instruction(pc).is_plain_store for pc in pcs)
+            self.assertGreaterEqual(waiting[piece.hart], 0)
+
+    def test_a_thread_that_spins_needs_no_drains(self):
+        """In the loop that looks at the lock a thread spins; at the store before it, and in a loop with a store, it
+        doesn't."""
+        with tempfile.TemporaryDirectory() as name:
+            program = Program(str(assemble(Path(name), SPINNING)))
+        foresight = Nothing.__new__(Nothing)
+        foresight.program = program
+        spins = {at: foresight.spins_at(program.addresses(f'_start+{4 * at:#x}')[0]) for at in range(8)}
+        self.assertEqual(spins, {0: False, 1: False, 2: True, 3: True, 4: True, 5: False, 6: False, 7: False})
 
     def test_early_drains_are_found(self):
         """Step 12 comes after a store whose thread is preempted next, and step 74 before a load."""
@@ -97,6 +151,18 @@ class Stretches(unittest.TestCase):
         self.assertEqual(way.nearest(pc, visits[0]), visits[0])
         self.assertEqual(way.nearest(pc, visits[-1] + 3), visits[-1])
         self.assertEqual(way.nearest(b'0' * 16, 0), -1)
+
+
+SPINNING = """
+    nop
+    sw a0, 0(a1)
+1:  lw a2, 0(a1)
+    addi a2, a2, 1
+    bnez a2, 1b
+2:  sw a2, 0(a1)
+    bnez a2, 2b
+    ecall
+"""
 
 
 def steps_of(text):
@@ -168,6 +234,10 @@ def stretches_in(text):
     return joined(steps_of(text))
 
 
+def on_one_processor():
+    os.sched_setaffinity(0, {min(os.sched_getaffinity(0))})
+
+
 def failing(elf, seeds):
     """The seeds of runs that end by a trap."""
     ends = {
@@ -212,11 +282,32 @@ class Shrunk(unittest.TestCase):
                     played = lens('play', Path(name, 'made.script'), elf).stdout
                     self.assertEqual(played.splitlines()[-1], b'end killed 5')
 
-    def test_a_search_of_one_second(self):
-        answer = lens('shrink', HAZARD / 'freed.output', HAZARD / 'hazard_plain.elf', '--seconds', 1, '--progress')
+    def test_a_long_run_of_threads_that_spin(self):
+        """It takes few calls of the program: one that counts them is called, on one processor, so that no trial is
+        begun that isn't needed."""
+        with tempfile.TemporaryDirectory() as name:
+            elf, (counting, calls) = Path(name, 'spin.elf'), counting_program(Path(name))
+            toolchain('gcc', *OPTIONS.split(), '-o', elf, f'-I{COMMON}', COMMON / 'start.S', SPIN)
+            words = [LENS, 'shrink', '--seed', '1', elf, '-o', Path(name, 'made.steer'), '--program', counting]
+            answer = subprocess.run(words, capture_output=True, text=True, preexec_fn=on_one_processor, timeout=600)
+            self.assertEqual(answer.returncode, 0, answer.stderr)
+            steps = int(answer.stderr.split()[1])
+            self.assertGreater(steps, 20_000)
+            self.assertNotIn('may be shortened', answer.stderr)
+            self.assertLess(calls.read_text().count('\n'), MOST_CALLS)
+
+    def test_a_search_of_some_seconds(self):
+        """It stops, says so, and gives the best so far; meanwhile it says how far it is."""
+        with tempfile.TemporaryDirectory() as name:
+            elf, run = Path(name, 'sums.elf'), Path(name, 'sums.output')
+            toolchain('gcc', *OPTIONS.split(), '-o', elf, f'-I{COMMON}', COMMON / 'start.S', SUMS)
+            run.write_bytes(subprocess.run([PROGRAM, 'draw', elf, '--seed=60'], capture_output=True).stdout)
+            answer = lens('shrink', run, elf, '--seconds', 4, '--progress')
         self.assertEqual(answer.returncode, 0, answer.stderr)
-        if b'may be shortened' in answer.stderr:
-            self.assertIn(b'# It may be shortened further: --seconds 1 came after', answer.stdout)
+        told = '--seconds 4 came after [0-9]+ trials'
+        self.assertRegex(answer.stderr.decode(), f'It may be shortened further: {told}\n$')
+        self.assertRegex(answer.stdout.decode(), f'\n# It may be shortened further: {told}')
+        self.assertRegex(answer.stderr.decode(), '[0-9] s, [0-9]+ trials; the best so far: [0-9]+ steps, ')
         self.assertTrue(answer.stdout.splitlines()[-1].startswith(b'finish'))
 
     def test_a_signal_loses_nothing(self):

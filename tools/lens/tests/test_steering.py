@@ -7,10 +7,28 @@ from pathlib import Path
 from lens.faults import LensFault
 from lens.steering import Order, Remark, read_line
 
-from .common import EXAMPLES, FENCED, PETERSON, PROGRAM, START, assemble, lens, needs_program
+from .common import EXAMPLES, FENCED, PETERSON, PROGRAM, START, assemble, counting_program, lens, needs_program
 
 BOTH_INSIDE = EXAMPLES / 'peterson' / 'both_inside.steer'
 IN_TURN = EXAMPLES / 'peterson_fenced' / 'in_turn.steer'
+
+
+LOOP = """
+    li t0, 200
+1:  andi t1, t0, 3
+    bnez t1, 2f
+    fence rw, rw
+2:  sd t0, -8(sp)
+    andi t1, t0, 1
+    beqz t1, 3f
+    sd t0, -16(sp)
+3:  addi t0, t0, -1
+    bnez t0, 1b
+    li a0, 0
+    li a7, 93
+    ecall
+"""
+"""Goes one way or the other in each round; some rounds have a fence, and some a store more."""
 
 
 class Lines(unittest.TestCase):
@@ -131,7 +149,7 @@ class Scripts(unittest.TestCase):
             f'{start}1 run 2\n': 'thread 2 isn\'t there yet',
             f'{start}0 drain\n': 'no store waits on hart 0',
             f'{start}0 exec x9\n0 preempt\n': 'and 1 store still waits: a thread leaves only where none waits',
-            f'{clone}0 exec\n': 'stands at main+0x44 (ecall), threads.h:56, with thread 1, and 3 stores still wait: '
+            f'{clone}0 exec\n': 'stands at main+0x44 (ecall), peterson.c:42 (threads.h:56), with thread 1, and 3 stores still wait: '
             'this instruction comes only where none waits ("0 drain all") '
             '(the program: fault script 24)',
             f'{clone}0 drain all\n0 exec until nowhere\n': 'has no function or label \'nowhere\'',
@@ -175,6 +193,31 @@ class Scripts(unittest.TestCase):
         self.assertEqual(self.played(script), 'end exit 1')
         script, _ = self.steer_text('finish\n')
         self.assertEqual(self.played(script), 'end exit 0')
+
+    def test_a_loop_goes_as_the_rule_has_it(self):
+        """`go` makes the drains that `finish` makes, and needs few calls of the program for a loop of many stores."""
+        elf, (counting, calls) = assemble(self.folder, LOOP), counting_program(self.folder)
+        script, answer = self.steer_text('0 run 1\n0 go\n', elf, '--program', counting)
+        self.assertEqual(answer.returncode, 0, answer.stderr)
+        made, asked = script.read_text().splitlines(), calls.read_text().count('\n')
+        script, _ = self.steer_text('finish\n', elf)
+        self.assertEqual(made, script.read_text().splitlines())
+        self.assertGreater(made.count('0 drain'), 250)
+        self.assertLess(asked, 120)
+
+    def test_visits_in_a_loop(self):
+        """The K-th visit of a place is that of the log."""
+        elf = assemble(self.folder, LOOP)
+        store = START + 4 * 4
+        script, _ = self.steer_text('finish\n', elf)
+        played = lens('play', script, elf).stdout.decode().splitlines()
+        visits = [at for at, line in enumerate(played[3:]) if line.endswith(f'{store:016x}') and ' exec ' in line]
+        for visit in (1, 2, 60, len(visits)):
+            with self.subTest(visit=visit):
+                made, _ = self.steer_text(f'0 run 1\n0 go until {store:#x} #{visit}\n', elf)
+                count = len(made.read_text().splitlines())
+                self.assertIn(count, range(visits[visit - 1] - 8, visits[visit - 1] + 1))
+                self.assertEqual({'0 drain'} | {made.read_text().splitlines()[-1]}, {'0 drain', '0 exec'})
 
     def test_a_ninth_store(self):
         elf = assemble(self.folder, '\n'.join(['sd a0, -8(sp)'] * 9))

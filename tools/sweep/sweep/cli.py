@@ -2,6 +2,7 @@
 from __future__ import annotations
 
 import argparse
+import contextlib
 import hashlib
 import shlex
 import sys
@@ -96,6 +97,7 @@ def sweep(arguments: argparse.Namespace) -> int:
     parallel = Parallel(jobs_that_fit(arguments.jobs, mebibytes), mebibytes, arguments.sshlogin, command)
     jobs = make_jobs(arguments.first_seed, arguments.runs, arguments.seeds_a_job)
     swept = sweep_jobs(parallel, folder, jobs)
+    tell_fault(swept.faults)
     if not swept.is_whole:
         print(
             f'sweep: {swept.runs} of {arguments.runs} runs are kept in {folder.path}; the same command goes on',
@@ -104,11 +106,23 @@ def sweep(arguments: argparse.Namespace) -> int:
         return INTERRUPTED_STATUS if swept.was_interrupted else FAULT_STATUS
     table = table_of(swept, folder, arguments)
     keep_table(folder, table)
-    print(table, end='')
-    print(
-        f'\nThe jobs took {seconds_of_jobs(folder):.1f} seconds, added up, with {parallel.jobs_at_once} at once.'
-    )
+    print_table(table, seconds_of_jobs(folder), parallel.jobs_at_once)
     return UNEXPECTED_STATUS if has_unexpected(swept, arguments.expect) else 0
+
+
+def tell_fault(faults: list[str]) -> None:
+    """Says the first of some faults of jobs, and how many others failed."""
+    if faults:
+        others = len(faults) - 1
+        more = f'; {others} further {"job" if others == 1 else "jobs"} failed' if others else ''
+        print(f'sweep: {faults[0]}{more}', file=sys.stderr)
+
+
+def print_table(table: str, seconds: float, jobs_at_once: int) -> None:
+    """Where nobody reads on (`.. | head`), the table is kept all the same, and the status is that of the sweep."""
+    with contextlib.suppress(BrokenPipeError):
+        print(table, end='')
+        print(f'\nThe jobs took {seconds:.1f} seconds, added up, with {jobs_at_once} at once.')
 
 
 def keep_table(folder: Folder, table: str) -> None:

@@ -6,14 +6,15 @@ import shutil
 import signal
 import subprocess
 import sys
+import tempfile
 from collections.abc import Iterator
 from contextlib import closing, contextmanager
-from dataclasses import dataclass
+from dataclasses import dataclass, field
 from pathlib import Path
 
 from lens.faults import LensFault
 
-from .records import Folder, Record, Tally, note, read_record, replace
+from .records import Folder, Record, Tally, note, read_fault, read_record, replace
 
 WORKER = Path(__file__).with_name('worker.py')
 PYTHON = '/usr/bin/python3'
@@ -86,6 +87,8 @@ class Swept:
     tally: Tally
     is_whole: bool = False
     was_interrupted: bool = False
+    faults: list[str] = field(default_factory=list)
+    """Why jobs gave no record, in the order in which they said so."""
 
     @property
     def runs(self) -> int:
@@ -140,7 +143,7 @@ def sweep_jobs(parallel: Parallel, folder: Folder, jobs: list[Job]) -> Swept:
         replace(folder.jobs, ''.join(f'{job.first} {job.count}\n' for job in jobs).encode())
         prune_job_log(folder, {str(job.number) for job in jobs if job.first in kept})
         with noted_interrupts() as interruption:
-            keep_records(parallel, folder, swept.tally, kept, interruption)
+            keep_records(parallel, folder, swept, kept, interruption)
     except OSError as error:
         runs = sum(counts[first] for first in kept)
         raise LensFault(
@@ -152,15 +155,17 @@ def sweep_jobs(parallel: Parallel, folder: Folder, jobs: list[Job]) -> Swept:
 
 
 def keep_records(
-    parallel: Parallel, folder: Folder, tally: Tally, kept: dict[int, Record], interruption: Interruption
+    parallel: Parallel, folder: Folder, swept: Swept, kept: dict[int, Record], interruption: Interruption
 ) -> None:
     """Runs the jobs, and keeps the records of those that have none yet. Where one can't be kept, the jobs are
     ended."""
-    with closing(records_of(parallel.words(folder), interruption)) as records:
-        for record in records:
-            if record.first not in kept:
-                folder.keep(record, tally)
-                kept[record.first] = record
+    with closing(answers_of(parallel.words(folder), interruption)) as answers:
+        for answer in answers:
+            if isinstance(answer, str):
+                swept.faults.append(answer)
+            elif answer.first not in kept:
+                folder.keep(answer, swept.tally)
+                kept[answer.first] = answer
 
 
 def prune_job_log(folder: Folder, numbers: set[str]) -> None:
@@ -176,19 +181,31 @@ def prune_job_log(folder: Folder, numbers: set[str]) -> None:
     replace(folder.job_log, ''.join([heading, *left]).encode())
 
 
-def records_of(words: list[str], interruption: Interruption) -> Iterator[Record]:
-    """The records that GNU parallel prints, as they come; after an interruption, those that it still
-    prints. Where no more of them are wanted, it is interrupted."""
-    with subprocess.Popen(words, stdin=subprocess.DEVNULL, stdout=subprocess.PIPE, text=True) as running:
+def answers_of(words: list[str], interruption: Interruption) -> Iterator[Record | str]:
+    """The records that GNU parallel prints, as they come, and why jobs gave none; after an interruption, those that
+    it still prints. Where no more of them are wanted, it is interrupted. What it says itself is passed on at its end
+    where no job said what is wrong; on a terminal at once."""
+    with tempfile.TemporaryFile('w+') as said, subprocess.Popen(
+        words,
+        stdin=subprocess.DEVNULL,
+        stdout=subprocess.PIPE,
+        stderr=None if sys.stderr.isatty() else said,
+        text=True,
+    ) as running:
         interruption.watch(running)
+        is_told = False
         try:
             for line in running.stdout:
-                record = read_record(line)
-                if record:
-                    yield record
+                answer = read_record(line) or read_fault(line)
+                if answer:
+                    is_told = is_told or isinstance(answer, str)
+                    yield answer
         except GeneratorExit:
             running.send_signal(signal.SIGINT)
             raise
+        running.wait()
+        said.seek(0)
+        sys.stderr.write('' if is_told else said.read())
 
 
 def seconds_of_jobs(folder: Folder) -> float:

@@ -120,6 +120,24 @@ def read_run(seed: int, text: bytes) -> tuple[Outcome, Met]:
     return Outcome(parts.end, parts.console), Met(1, Rank(len(parts.lines), seed), text)
 
 
+FAULT = 'fault'
+
+
+def fault_line(words: str) -> str:
+    """That a job gave no record, as one line."""
+    return f'{json.dumps({FAULT: words})}\n'
+
+
+def read_fault(line: str) -> str | None:
+    """Why a job gave no record; None where a line doesn't say that."""
+    try:
+        told = json.loads(line)
+    except ValueError:
+        return None
+    words = told.get(FAULT) if isinstance(told, dict) else None
+    return words if isinstance(words, str) else None
+
+
 class Folder:
     """Where a sweep keeps what it was asked, its jobs, the job log of GNU parallel, the records, and a
     run of each outcome."""

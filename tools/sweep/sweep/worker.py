@@ -1,4 +1,4 @@
-"""One job of a sweep: makes the runs of some seeds, and prints their outcomes as one line.
+"""One job of a sweep: makes the runs of some seeds, and prints their outcomes as one line, or why there are none.
 
     worker.py FIRST COUNT SECONDS PROGRAM COMMAND ELF [OPTION ..]
 
@@ -17,7 +17,7 @@ sys.path += [str(Path(__file__).resolve().parents[2] / name) for name in ('lens'
 from lens.faults import LensFault  # noqa: E402 (found by the line above)
 from lens.machine import said  # noqa: E402
 from sweep.explored import read_explored  # noqa: E402
-from sweep.records import Record, Tally, note, read_run  # noqa: E402
+from sweep.records import Record, Tally, fault_line, note, read_run  # noqa: E402
 
 FAULT_STATUS = 2
 
@@ -81,7 +81,7 @@ def main() -> int:
         else:
             record = run_seeds(caller, command, int(first), int(count))
     except LensFault as fault:
-        print(f'sweep: {fault}', file=sys.stderr)
+        sys.stdout.write(fault_line(str(fault)))
         return FAULT_STATUS
     sys.stdout.write(record.line(has_texts=True))
     return 0

@@ -217,8 +217,26 @@ class Sweeps(unittest.TestCase):
         folder = self.room / 'swept'
         answer = self.sweep('-o', folder, '--jobs', 1)
         self.assertEqual(answer.returncode, FAULT_STATUS)
-        self.assertIn('sweep: the runs of the seeds 16 to 20 gave status 7, "fault memory"', answer.stderr)
+        said = 'sweep: the runs of the seeds 16 to 20 gave status 7, "fault memory"'
+        kept = f'sweep: 15 of {RUNS} runs are kept in {folder}; the same command goes on'
+        self.assertEqual(answer.stderr, f'{said}\n{kept}\n')
         self.assertFalse((folder / 'table.txt').exists())
+
+    def test_jobs_that_each_fail(self):
+        """What is wrong is said once, with how many other jobs failed, and nothing of GNU parallel."""
+        self.file('0.2 7 13 18 23 28')
+        answer = self.sweep('-o', self.room / 'swept', '--jobs', 4)
+        self.assertEqual(answer.returncode, FAULT_STATUS)
+        fault, kept = answer.stderr.splitlines()
+        due = r'sweep: the runs of the seeds \d+ to \d+ gave status 7, "fault memory"(; \d further jobs? failed)?'
+        self.assertRegex(fault, f'^{due}$')
+        self.assertRegex(kept, f'^sweep: [0-9]+ of {RUNS} runs are kept in ')
+
+    def test_what_parallel_says_is_passed_on(self):
+        """Where no job said what is wrong."""
+        answer = self.sweep('-o', self.room / 'swept', '--sshlogin', 'no-such-login', '--seconds', 5, runs=1)
+        self.assertEqual(answer.returncode, FAULT_STATUS)
+        self.assertIn('no-such-login', answer.stderr)
 
     def test_another_sweep_in_the_folder(self):
         folder = self.room / 'swept'
@@ -299,7 +317,7 @@ class Sweeps(unittest.TestCase):
         self.assertIn('/bin/true is another program than rseq_run', answer.stderr)
         self.assertFalse((self.room / 'swept').exists())
 
-    def test_a_reader_that_stops(self):
+    def test_a_pipe_to_a_command_that_ends(self):
         line = f'{shlex.join(self.words("-o", self.room / "swept"))} | true'
         answer = subprocess.run(['sh', '-c', line], capture_output=True, timeout=300)
         self.assertEqual((answer.returncode, answer.stderr), (0, b''))
@@ -327,6 +345,25 @@ class Sweeps(unittest.TestCase):
             answer = subprocess.run(self.words('-o', self.room / 'swept'), stdout=full, stderr=subprocess.PIPE, timeout=300)
         said = b'sweep: standard output: No space left on device\n'
         self.assertEqual((answer.returncode, answer.stderr), (FAULT_STATUS, said))
+
+    def test_a_reader_that_stops(self):
+        """`sweep .. | head` ends in silence, also where each line is written at once; the status and the table stay."""
+        for at, unbuffered in enumerate(('', '1')):
+            with self.subTest(unbuffered=unbuffered):
+                folder = self.room / f'swept {at}'
+                answer = self.left_alone(unbuffered, '-o', folder, '--expect', 'exit 0')
+                self.assertEqual((answer.returncode, answer.stderr), (UNEXPECTED_STATUS, b''))
+                self.assertIn('exit 1', self.table(folder))
+
+    def left_alone(self, unbuffered: str, *more: object) -> subprocess.CompletedProcess:
+        """A sweep whose standard output is a pipe that nobody reads."""
+        reader, writer = os.pipe()
+        os.close(reader)
+        try:
+            env = {**os.environ, 'PYTHONUNBUFFERED': unbuffered}
+            return subprocess.run(self.words(*more), env=env, stdout=writer, stderr=subprocess.PIPE, timeout=300)
+        finally:
+            os.close(writer)
 
     def test_a_record_that_cannot_be_kept(self):
         """As on a full disk: what was kept before stays, and the jobs end."""

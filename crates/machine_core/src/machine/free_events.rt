@@ -12,7 +12,7 @@ use mach_types::{Choice, Entry, Hart};
 
 impl Machine {
     /// [`Machine::step`] of an `exec` on a hart of the machine, where the run goes on and the hart goes
-    /// freely ([`Machine::goes_freely`]): its entry. None exactly where it doesn't go freely; then nothing
+    /// freely (`goes_freely`): its entry. None exactly where it doesn't go freely; then nothing
     /// changes.
     #[inline(always)]
     pub fn step_freely(&mut self, hart: Hart) -> Option<Entry>

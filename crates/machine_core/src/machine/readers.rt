@@ -160,7 +160,7 @@ impl Machine {
 
     /// Whether the thread on a hart may execute its next instruction, and that touches registers and the pc alone and makes no fault:
     /// `exec_enabled` and `local` of what a scheduler sees, for whom sees nothing else.
-    pub fn goes_freely(&self, hart: Hart) -> bool
+    pub(crate) fn goes_freely(&self, hart: Hart) -> bool
         requires { hart.0 < self.now.setting.limits.harts }
         ensures { result
             ≡ goes_freely (here_in_history self.now.setting (history self.now.setting self.now.log) hart.0) }

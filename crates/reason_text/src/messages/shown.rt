@@ -1,5 +1,6 @@
-//! Names and words of the command line, as a person is shown them.
+//! Names and words of the command line, and ends of runs, as a person is shown them.
 
+use mach_types::End;
 use std::fmt;
 use std::fmt::Write;
 
@@ -21,5 +22,21 @@ impl fmt::Display for Shown<'_> {
             }
         }
         Ok(())
+    }
+}
+
+/// How a run ended, in the words of the text of an exploration.
+#[derive(Drop)]
+pub(crate) struct ShownEnd(pub(crate) End);
+
+impl fmt::Display for ShownEnd {
+    fn fmt<W: fmt::Write>(&self, f: &mut fmt::Formatter<W>) -> fmt::Result {
+        match self.0 {
+            End::Exit(status) => write!(f, "exit {status}"),
+            End::Killed(signal) => write!(f, "killed {signal}"),
+            End::Stuck => f.write_str("stuck"),
+            End::Limit => f.write_str("limit"),
+            End::Unended => f.write_str("open"),
+        }
     }
 }

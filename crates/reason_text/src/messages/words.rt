@@ -18,6 +18,9 @@ const SPANS: &str =
     "AT:LENGTH, or several of these one comma apart: an address of 1 to 16 hexadecimal digits in lower case, \
     and a number of bytes from 1 to 65536, none of them past the last address";
 
+/// The ends of runs that an option takes.
+const ENDS: &str = "\"exit N\" or \"killed N\" with a number from 0 to 255, stuck or limit";
+
 /// Appends what is wrong with the words, in one line. Where no command is named, the usage stands below it; where the words ask for
 /// help, what each command does too.
 pub(crate) fn push_words_fault(
@@ -68,7 +71,9 @@ fn push_word(text: &mut String, fault: WordsFault, words: &[String]) -> Result<(
         WordsFault::OutOfRange { word, .. }
         | WordsFault::UnknownPolicy(word)
         | WordsFault::NeitherTextNorEnd(word)
-        | WordsFault::NoSpans(word) => {
+        | WordsFault::NoSpans(word)
+        | WordsFault::NoEnd(word)
+        | WordsFault::NeitherYesNorNo(word) => {
             push_option(text, words, word)?;
             word
         }
@@ -87,22 +92,10 @@ fn push_complaint(
     match fault {
         WordsFault::NotTaken(_) => writeln!(text, "{command} has no such option"),
         WordsFault::OneNameTooMany(_) => writeln!(text, "a name too many for {command}"),
-        WordsFault::OutOfRange { least, most, .. } => writeln!(
-            text,
-            "the value isn't a number from {least} to {most}, of 20 digits at most"
-        ),
+        WordsFault::OutOfRange { least, most, .. } => push_range(text, least, most),
         WordsFault::NoCommand => text.push_str("there is no command\n"),
-        WordsFault::UnknownCommand => {
-            text.push_str("there is no such command")?;
-            push_meant(text, nearest_command(word_at(words, 1)))
-        }
-        WordsFault::UnknownOption(number) => {
-            text.push_str("there is no such option")?;
-            push_meant(
-                text,
-                nearest_option(word_at(words, number), word_at(words, 1)),
-            )
-        }
+        WordsFault::UnknownCommand => push_unknown_command(text, words),
+        WordsFault::UnknownOption(number) => push_unknown_option(text, words, number),
         WordsFault::Twice(_) => text.push_str("the option is given twice\n"),
         WordsFault::NoValue(_) => {
             text.push_str("its value is missing; a value doesn't begin with -\n")
@@ -120,12 +113,41 @@ fn push_complaint(
             text.push_str("outcomes are told apart by text or by end\n")
         }
         WordsFault::NoSpans(_) => writeln!(text, "the value isn't {SPANS}"),
+        WordsFault::NoEnd(_) => writeln!(text, "the value is no end of a run, which is {ENDS}"),
+        WordsFault::NeitherYesNorNo(_) => text.push_str("the value is neither yes nor no\n"),
         WordsFault::NoNumber(_) => {
             text.push_str("the size isn't a number, of 20 digits at most and below 2^64\n")
         }
         WordsFault::NoGuest => text.push_str("the name of the guest is missing\n"),
         WordsFault::NoSize => text.push_str("the size of the guest is missing\n"),
     }
+}
+
+/// Appends which numbers an option takes.
+fn push_range(text: &mut String, least: u64, most: u64) -> Result<(), AllocError> {
+    writeln!(
+        text,
+        "the value isn't a number from {least} to {most}, of 20 digits at most"
+    )
+}
+
+/// Appends that there is no such command, and which one may have been meant.
+fn push_unknown_command(text: &mut String, words: &[String]) -> Result<(), AllocError> {
+    text.push_str("there is no such command")?;
+    push_meant(text, nearest_command(word_at(words, 1)))
+}
+
+/// Appends that there is no such option, and which one may have been meant.
+fn push_unknown_option(
+    text: &mut String,
+    words: &[String],
+    number: usize,
+) -> Result<(), AllocError> {
+    text.push_str("there is no such option")?;
+    push_meant(
+        text,
+        nearest_option(word_at(words, number), word_at(words, 1)),
+    )
 }
 
 /// Appends which word may have been meant, or how to see all of them, and ends the line.

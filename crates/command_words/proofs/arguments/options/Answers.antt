@@ -20,6 +20,10 @@ returns c =
     let eleven = c.in_ok-arg-11.ensures.shape c.option-11.ensures.own ∙ ap₂ with_rule ten c.option-11.ensures.rule in
     let twelve = c.in_ok-arg-12.ensures.shape c.option-12.ensures.own ∙ ap₂ with_rule eleven c.option-12.ensures.rule in
     let thirteen = c.in_ok-arg-13.ensures.shape c.option-13.ensures.own ∙ ap₂ with_rule twelve c.option-13.ensures.rule in
-    IfOk-weaker c.arg-14.result _ _ (λ parser added. added.shape c.option-14.ensures.own
-    ∙ ap₂ with_rule thirteen c.option-14.ensures.rule)
-    c.arg-14.ensures
+    let fourteen = c.in_ok-arg-14.ensures.shape c.option-14.ensures.own ∙ ap₂ with_rule thirteen c.option-14.ensures.rule in
+    let fifteen = c.in_ok-arg-15.ensures.shape c.option-15.ensures.own ∙ ap₂ with_rule fourteen c.option-15.ensures.rule in
+    let sixteen = c.in_ok-arg-16.ensures.shape c.option-16.ensures.own ∙ ap₂ with_rule fifteen c.option-16.ensures.rule in
+    let seventeen = c.in_ok-arg-17.ensures.shape c.option-17.ensures.own ∙ ap₂ with_rule sixteen c.option-17.ensures.rule in
+    IfOk-weaker c.arg-18.result _ _ (λ parser added. added.shape c.option-18.ensures.own
+    ∙ ap₂ with_rule seventeen c.option-18.ensures.rule)
+    c.arg-18.ensures

@@ -1,0 +1,26 @@
+-- What the outcomes that were found say: each is that of a run, and no two are alike (own).
+use Rattle.std.specs.Prelude.{ℕ, ◌≡◌, List, Contains}
+use Rattle.std.specs.List.{AllPairs}
+use Rattle.mach_types.specs.declared.limits.End.{End}
+use Rattle.block_model.specs.Setting.{Setting}
+use Rattle.same_places.specs.Closed.{IsRunEnding}
+use Rattle.found_outcomes.specs.declared.findings.OutcomeFound.{OutcomeFound}
+
+-- one of the outcomes has this end and this console
+pub record HasBeenFound (os : List OutcomeFound) (end : End) (console : List ℕ) : Type 0 where
+  pub outcome : OutcomeFound
+  pub among : Contains os outcome
+  pub end_is : outcome.end ≡ end
+  pub console_is : outcome.console ≡ console
+
+-- the log of the outcome is a block run that is over, with the outcome's end and console
+abbrev pub IsShown : Setting → OutcomeFound → Type 0
+IsShown s o = IsRunEnding s o.end o.console o.log.items
+
+-- not both the end and the console of two outcomes are the same
+abbrev pub IsOther : OutcomeFound → OutcomeFound → Type 0
+IsOther o p = o.end ≡ p.end → o.console ≡ p.console → ⊥
+
+-- no two of the outcomes are alike
+abbrev pub AreDifferent : List OutcomeFound → Type 0
+AreDifferent os = AllPairs IsOther os

@@ -1,0 +1,4 @@
+pub mod Explorations
+pub mod LocalSteps
+pub mod Resting
+pub mod Runs

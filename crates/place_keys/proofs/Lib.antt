@@ -1,0 +1,14 @@
+mod ActionNumbers
+mod AddingUp
+mod Alike
+mod Codes
+mod DifferenceCodes
+mod Examples
+mod FirstPages
+mod HartCodes
+mod MappedCounts
+mod MemoryWords
+mod PackedCodes
+mod PageCodes
+mod PartCodes
+mod TableCodes

@@ -1,0 +1,41 @@
+use Rattle.std.proofs.Common.{◌≤◌, ◌<◌, sym, arith}
+use Rattle.page_map.specs.declared.listing.TheConstants.{ALL_PAGES}
+use Rattle.place_keys.specs.PageWords.{permission_word}
+use Rattle.place_keys.proofs.Codes.{then_ok}
+use Rattle.place_keys.proofs.PageCodes.{permission_step, permissions_end}
+use Rattle.place_keys.proofs.pages.write_permissions.Goals as goal
+
+pub write_change-requires-clause-order : goal.write_change-requires-clause-order
+write_change-requires-clause-order c =
+    let low : c.loop-number.from ≤ c.in-Some.number = c.in-Some.ensures.from in
+    let order : c.loop-number.past ≤ c.loop-number.from = c.loop-number.invariant.order in
+    omega arith
+
+pub write_change-requires-clause-room : goal.write_change-requires-clause-room
+write_change-requires-clause-room c = let within : c.in-Some.number < ALL_PAGES = c.in-Some.ensures.within in omega arith
+
+pub overflow_add-from : goal.overflow_add-from
+overflow_add-from c = let within : c.in-Some.number < ALL_PAGES = c.in-Some.ensures.within in omega arith
+
+pub loop-number-smaller : goal.loop-number-smaller
+loop-number-smaller c =
+    let low : c.loop-number.from ≤ c.in-Some.number = c.in-Some.ensures.from in
+    let within : c.in-Some.number < ALL_PAGES = c.in-Some.ensures.within in
+    omega arith
+
+pub loop-number-preserved : goal.loop-number-preserved
+loop-number-preserved c =
+    let within : c.in-Some.number < ALL_PAGES = c.in-Some.ensures.within in
+    record {
+      within = omega arith;
+      order = c.in_ok-past.ensures.order;
+      written = λ bare other.
+          permission_step c.args.start.now c.args.pages.now c.loop-number.from c.in-Some.number c.args.words.now.items c.loop-number.words.items c.write_change.new.words.items
+          c.loop-number.past c.in_ok-past.past c.loop-number.invariant.within (c.in-Some.ensures.first bare other) (c.loop-number.invariant.written bare other)
+          (c.in_ok-past.ensures.written (permission_word c.args.start.now) (permission_word c.args.pages.now) (sym c.permission_word-old.ensures) (sym c.permission_word-now.ensures));
+    }
+
+pub returns : goal.returns
+returns c =
+    then_ok c.write_word.result _ _ (λ is bare other. permissions_end c.args.start.now c.args.pages.now c.loop-number.from c.args.words.now.items c.loop-number.words.items c.write_word.new.words.items
+    c.loop-number.past c.loop-number.invariant.within (c.in_default.ensures.first bare other) (c.loop-number.invariant.written bare other) is) c.write_word.ensures

@@ -1,0 +1,8 @@
+use Rattle.std.proofs.Common.{◌≡◌, ◌++◌, take}
+use Rattle.place_keys.specs.TableWords.{saved_words}
+use Rattle.kernel_threads.specs.Rows.{all_saved_in}
+use Rattle.place_keys.specs.Words.{of_each}
+use Rattle.place_keys.proofs.tables.write_saved.Given as goal
+
+abbrev pub invariant-loop-row : goal.invariant-loop-row
+invariant-loop-row l = l.words.items ≡ l.initial.words.items ++ of_each saved_words (all_saved_in (take l.row-index l.rows))

@@ -1,0 +1,10 @@
+mod Edges
+mod Findings
+mod Lists
+mod Logs
+mod MoreSteps
+mod Nexts
+mod Outcomes
+mod Starts
+mod Steps
+mod Visits

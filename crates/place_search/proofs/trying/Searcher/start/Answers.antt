@@ -1,0 +1,39 @@
+use Rattle.std.proofs.Common.{◌≡◌, ◌≤◌, ◌<◌, ℕ, List, [], length, bytes_eq, ap, ◌∙◌, arith}
+use Rattle.place_search.specs.declared.row.Row.{Row}
+use Rattle.std.specs.List.{list_any}
+use Rattle.block_model.proofs.Laws.{loaded_is_laid_out, start_run}
+use Rattle.place_search.specs.Searching.{setting_for}
+use Rattle.place_search.proofs.Starts.{ends_first, keyed_first, no_keys, start_adds_up, started_same}
+use Rattle.place_search.proofs.trying.Searcher.start.Goals as goal
+
+few_rows : (rows : List Row) (most : ℕ) → rows ≡ [] → 1 ≤ most → length rows < most
+few_rows rows most none some = let size : length rows ≡ 0 = ap (λ (r : List Row). length r) none in omega arith
+
+pub stand_after-requires-clause-run : goal.stand_after-requires-clause-run
+stand_after-requires-clause-run c = start_run (setting_for c.args.task.now)
+
+pub add-requires : goal.add-requires
+add-requires c =
+    let s = setting_for c.args.task.now in
+    ap (list_any (bytes_eq c.deref.result.now))
+    (no_keys s c.stand_after.new.self.start c.first-visited.result c.note.new.self c.first-visited.ensures (start_run s) c.stand_after.new.self.parts c.in_ok-stand_after.ensures.stands c.in_ok-note.ensures.ok)
+
+pub returns-clause-searching : goal.returns-clause-searching
+returns-clause-searching c =
+    let s = setting_for c.args.task.now in
+    let made = c.stand_after.new.self in
+    let started = started_same s c.in_ok-made.made.total made.total c.in_ok-made.made.start made.start c.in_ok-stand_after.ensures.total c.in_ok-stand_after.ensures.start c.in_ok-made.ensures.started in
+    let laid = loaded_is_laid_out c.args.task.now.limits.frames c.args.task.now.image.now c.requires.bootable in
+    let adds = start_adds_up s made.total made.start made.parts laid (start_run s) started c.in_ok-stand_after.ensures.stands c.pages_add_up.ensures in
+    record {
+      visited = keyed_first s made.start c.first-visited.result c.note.new.self c.first-visited.ensures (start_run s) made.parts c.in_ok-stand_after.ensures.stands
+          c.in_ok-note.ensures.ok c.deref.result.now c.add.new.self (c.deref.ensures.value ∙ c.in_ok-key.ensures adds started.adds_up) c.in_ok-add.ensures.ok;
+      started = started;
+      code = c.in_ok-stand_after.ensures.code ∙ c.in_ok-made.ensures.code;
+      few = few_rows c.note.new.self.rows.items c.args.task.now.most (c.in_ok-note.ensures.ok.rows ∙ c.first-visited.ensures.rows) c.requires.some;
+    }
+
+pub returns-clause-ends : goal.returns-clause-ends
+returns-clause-ends c =
+    let s = setting_for c.args.task.now in
+    ends_first s c.stand_after.new.self.start c.first-visited.result c.note.new.self c.first-visited.ensures (start_run s) c.stand_after.new.self.parts c.in_ok-stand_after.ensures.stands c.in_ok-note.ensures.ok

@@ -1,0 +1,43 @@
+use Rattle.std.proofs.Common.{ℕ, All, ap, subst, arith, below_more}
+use Rattle.mach_types.specs.Kernel.Scheduling.{Scheduling}
+use Rattle.block_model.specs.Plain.{plain_after}
+use Rattle.place_search.specs.Logs.{logs_of}
+use Rattle.place_search.specs.Searching.{IsTriedAt, setting_for}
+use Rattle.place_search.proofs.Steps.{all_stay, expanded_by, open_run}
+use Rattle.place_search.proofs.Visits.{more_more, same_more}
+use Rattle.place_search.proofs.trying.Searcher.try_all.Goals as goal
+
+pub returns-in_err-choices-clause-more : goal.returns-in_err-choices-clause-more
+returns-in_err-choices-clause-more c = same_more c.args.self.now.visited
+
+pub loop-hart-init : goal.loop-hart-init
+loop-hart-init c = record { going = c.requires.open; more = same_more c.args.self.now.visited; tried = λ h lt. absurd (omega (arith, lt)); ends = λ found. found }
+
+pub loop-hart-preserved : goal.loop-hart-preserved
+loop-hart-preserved c =
+    let s = setting_for c.args.task.now in
+    let before = c.loop-hart.self.visited in
+    let after = c.try_hart.new.self.visited in
+    let log = c.args.from.now.log.items in
+    let choices = c.in_ok-choices.choices.items in
+    let inv = c.loop-hart.invariant in
+    let P : ℕ → Type 0 = λ h. All (IsTriedAt s c.args.task.now.settle (logs_of after.rows.items) log h) choices in
+    record {
+      going = c.in_ok-try_hart.ensures.open;
+      more = more_more c.args.self.now.visited before after inv.more c.in_ok-try_hart.ensures.more;
+      tried = below_more P c.loop-hart.hart (λ h lt. all_stay s c.args.task.now.settle before after log h choices c.in_ok-try_hart.ensures.more (inv.tried h lt))
+          (subst (All (IsTriedAt s c.args.task.now.settle (logs_of after.rows.items) log c.loop-hart.hart)) c.deref.ensures.value c.in_ok-try_hart.ensures.tried);
+      ends = λ found. c.in_ok-try_hart.ensures.ends (inv.ends found);
+    }
+
+pub returns-clause-expanded : goal.returns-clause-expanded
+returns-clause-expanded c =
+    let s = setting_for c.args.task.now in
+    let log = c.args.from.now.log.items in
+    let at = plain_after s log in
+    let inv = c.loop-hart.invariant in
+    let stands = c.requires.open.stands c.requires.there in
+    expanded_by s c.args.task.now.settle (logs_of c.loop-hart.self.visited.rows.items) log c.in_ok-choices.choices.items c.args.self.now.made.parts.kernel.ready.order
+    (open_run c.args.task.now c.loop-hart.self c.args.from.now inv.going) c.requires.open.room (ap (λ (sc : Scheduling). sc.order) stands.tables.scheduling) c.in_ok-choices.ensures
+    (λ choice tables tried. c.all_choices_are_listed.ensures s.limits.harts at.kernel.threads at.kernel.scheduling choice tables tried)
+    (λ h lt. inv.tried h (omega (arith, lt)))

@@ -1,0 +1,42 @@
+use Rattle.std.proofs.Common.{◌≡◌, All, take, subst}
+use Rattle.std.proofs.lemmas.List.{take_all}
+use Rattle.std.proofs.lemmas.List.Elements.{All-more, All-nil}
+use Rattle.mach_types.specs.declared.events.Choice.TheVariants as asked
+use Rattle.place_search.specs.Logs.{logs_of}
+use Rattle.place_search.specs.Searching.{IsTriedAt, setting_for}
+use Rattle.place_search.proofs.Steps.{all_stay}
+use Rattle.place_search.proofs.Visits.{more_more, same_more}
+use Rattle.place_search.proofs.trying.Searcher.try_hart.Goals as goal
+
+pub loop-choice-init : goal.loop-choice-init
+loop-choice-init c = record {
+  going = c.requires.open;
+  more = same_more c.args.self.now.visited;
+  tried = All-nil (IsTriedAt (setting_for c.args.task.now) c.args.task.now.settle (logs_of c.args.self.now.visited.rows.items) c.args.from.now.log.items c.args.hart.0);
+  ends = λ found. found;
+}
+
+pub loop-choice-preserved : goal.loop-choice-preserved
+loop-choice-preserved c =
+    let s = setting_for c.args.task.now in
+    let before = c.loop-choice.self.visited in
+    let after = c.try_one.new.self.visited in
+    let log = c.args.from.now.log.items in
+    let i = c.loop-choice.choice-index in
+    let inv = c.loop-choice.invariant in
+    record {
+      going = c.in_ok-try_one.ensures.open;
+      more = more_more c.args.self.now.visited before after inv.more c.in_ok-try_one.ensures.more;
+      tried = All-more (IsTriedAt s c.args.task.now.settle (logs_of after.rows.items) log c.args.hart.0) c.args.choices.now i asked.Exec c.loop-choice-test.true
+          (all_stay s c.args.task.now.settle before after log c.args.hart.0 (take i c.args.choices.now) c.in_ok-try_one.ensures.more inv.tried) c.in_ok-try_one.ensures.tried;
+      ends = λ found. c.in_ok-try_one.ensures.ends (inv.ends found);
+    }
+
+pub returns-in_err-try_one-clause-more : goal.returns-in_err-try_one-clause-more
+returns-in_err-try_one-clause-more c =
+    more_more c.args.self.now.visited c.loop-choice.self.visited c.try_one.new.self.visited c.loop-choice.invariant.more c.in_err-try_one.ensures.more
+
+pub returns-clause-tried : goal.returns-clause-tried
+returns-clause-tried c =
+    let all : take c.loop-choice.choice-index c.args.choices.now ≡ c.args.choices.now = take_all c.loop-choice.choice-index c.args.choices.now c.loop-choice-test.false in
+    subst (All (IsTriedAt (setting_for c.args.task.now) c.args.task.now.settle (logs_of c.loop-choice.self.visited.rows.items) c.args.from.now.log.items c.args.hart.0)) all c.loop-choice.invariant.tried

@@ -1,0 +1,113 @@
+use Rattle.std.proofs.Common.{◌≡◌, ◌∙◌, ◌++◌, ◌∷◌, [], List, true, sym, subst}
+use Rattle.mach_types.specs.declared.events.Entry.{Entry}
+use Rattle.block_model.specs.Run.{IsBlockRun}
+use Rattle.std.proofs.lemmas.Result.{on_ok_weaker}
+use Rattle.place_search.specs.Logs.{logs_of}
+use Rattle.place_search.specs.Searching.{setting_for}
+use Rattle.place_search.specs.SettlingSteps.{HasMore, IsStandingAt}
+use Rattle.place_search.specs.Sights.{is_left}
+use Rattle.place_search.specs.Visiting.{AreEndsFound}
+use Rattle.place_search.specs.declared.trying.Searcher.{Searcher}
+use Rattle.place_search.specs.declared.visited.Visited.{Visited}
+use Rattle.place_search.proofs.Edges.{calm_by}
+use Rattle.place_search.proofs.trying.Searcher.try_one.Goals.{else-task-via-then-task+else-not-is_left, else-task-via-else-task}
+use Rattle.place_search.proofs.Steps.{few_entries, going, may_visit, open_run, still_open, tried_ok, tried_refused}
+use Rattle.place_search.proofs.Visits.{equal_more}
+use Rattle.place_search.proofs.trying.Searcher.try_one.Goals as goal
+
+pub returns-in_err-return_to-clause-more : goal.returns-in_err-return_to-clause-more
+returns-in_err-return_to-clause-more c = equal_more c.args.self.now.visited c.return_to.new.self.visited c.in_err-return_to.ensures.visited
+
+pub try_choice-requires : goal.try_choice-requires
+try_choice-requires c =
+    record {
+      setting = setting_for c.args.task.now;
+      log = c.args.from.now.log.items;
+      going = going c.args.task.now c.return_to.new.self c.args.from.now c.args.hart.0 c.requires.task c.in_ok-return_to.ensures.open c.in_ok-return_to.ensures.stands c.requires.hart;
+    }
+
+pub returns-then-not-is_left-clause-more : goal.returns-then-not-is_left-clause-more
+returns-then-not-is_left-clause-more c = equal_more c.args.self.now.visited c.return_to.new.self.visited c.in_ok-return_to.ensures.visited
+
+pub settle-requires-clause-there : goal.settle-requires-clause-there
+settle-requires-clause-there c =
+    let s = setting_for c.args.task.now in
+    let log = c.args.from.now.log.items in
+    let longer = c.in-Ok.ensures.ok s log (going c.args.task.now c.return_to.new.self c.args.from.now c.args.hart.0 c.requires.task c.in_ok-return_to.ensures.open c.in_ok-return_to.ensures.stands c.requires.hart) in
+    subst (λ (l : List Entry). IsStandingAt s l (c.in-Ok.entry ∷ []) c.try_choice.new.parts) (sym c.deref.ensures.value) (record { run = longer.run; stands = longer.stands })
+
+pub returns-in_err-entries-in-Ok-clause-more : goal.returns-in_err-entries-in-Ok-clause-more
+returns-in_err-entries-in-Ok-clause-more c = equal_more c.args.self.now.visited c.return_to.new.self.visited c.in_ok-return_to.ensures.visited
+
+pub visit-requires-clause-log : goal.visit-requires-clause-log
+visit-requires-clause-log c =
+    let s = setting_for c.args.task.now in
+    few_entries s c.args.from.now.log.items c.in_ok-entries-in-Ok.entries.items c.requires.task.in_range
+    (subst (λ (l : List Entry). IsBlockRun s (l ++ c.in_ok-entries-in-Ok.entries.items)) c.deref.ensures.value c.in_ok-entries-in-Ok.ensures.there.run)
+
+pub returns-in_ok-entries-in-Ok-clause-open : goal.returns-in_ok-entries-in-Ok-clause-open
+returns-in_ok-entries-in-Ok-clause-open c =
+    let s = setting_for c.args.task.now in
+    let x = c.return_to.new.self in
+    let opened = c.in_ok-return_to.ensures.open in
+    let made = c.settle.new.self in
+    let entries = c.in_ok-entries-in-Ok.entries.items in
+    let there = subst (λ (l : List Entry). IsStandingAt s l entries made.parts) c.deref.ensures.value c.in_ok-entries-in-Ok.ensures.there in
+    let may = may_visit c.args.task.now x c.args.from.now entries made c.requires.task opened there c.in_ok-entries-in-Ok.ensures.start c.in_ok-entries-in-Ok.ensures.total in
+    let now : Searcher = record { visited = c.visit.new.self; made = made; moved = true } in
+    still_open c.args.task.now x now c.args.from.now opened
+    (record { visited = c.visit.ensures.kept s may; started = may.started; code = c.in_ok-entries-in-Ok.ensures.code ∙ opened.searching.code; few = c.visit.ensures.few }) c.visit.ensures.more (λ bad. absurd cc)
+
+pub returns-in_ok-entries-in-Ok-clause-tried : goal.returns-in_ok-entries-in-Ok-clause-tried
+returns-in_ok-entries-in-Ok-clause-tried c =
+    let s = setting_for c.args.task.now in
+    let settle = c.args.task.now.settle in
+    let x = c.return_to.new.self in
+    let opened = c.in_ok-return_to.ensures.open in
+    let from = c.args.from.now in
+    let log = from.log.items in
+    let made = c.settle.new.self in
+    let entries = c.in_ok-entries-in-Ok.entries.items in
+    let there = subst (λ (l : List Entry). IsStandingAt s l entries made.parts) c.deref.ensures.value c.in_ok-entries-in-Ok.ensures.there in
+    let more = subst (λ (l : List Entry). HasMore s settle l (c.in-Ok.entry ∷ []) entries) c.deref.ensures.value c.in_ok-entries-in-Ok.ensures.more in
+    let may = may_visit c.args.task.now x from entries made c.requires.task opened there c.in_ok-entries-in-Ok.ensures.start c.in_ok-entries-in-Ok.ensures.total in
+    let stands = c.in_ok-return_to.ensures.stands in
+    let at = going c.args.task.now x from c.args.hart.0 c.requires.task opened stands c.requires.hart in
+    let longer = c.in-Ok.ensures.ok s log at in
+    let left : settle ≡ true → is_left from.sights c.try_choice.new.parts c.own_of-own.result ≡ true = λ on.
+    elim c.else-task.branch [
+      | else-task-via-then-task+else-not-is_left w ↦ sym w.if-not-is_left.ensures
+      | else-task-via-else-task w ↦ absurd cc
+    ] in
+    let calm = calm_by s settle from c.args.hart.0 c.args.choice c.in-Ok.entry c.try_choice.new.parts c.own_of-own.result (open_run c.args.task.now x from opened) opened.sees longer
+    (c.own_of-own.ensures s _ stands c.requires.hart) left c.kept_areas_are_left.ensures in
+    on_ok_weaker c.visit.result
+    (λ back.
+    tried_ok s settle made.start (logs_of c.visit.new.self.rows.items) log c.args.hart.0 c.args.choice c.in-Ok.entry c.try_choice.new.parts entries made.parts (c.in-Ok.ensures.carried s log at) calm longer more there
+    (back s may) c.equal_bytes_are_equal_words.ensures c.equal_words_are_the_same_place.ensures)
+    c.visit.ensures.back
+
+pub returns-in_ok-entries-in-Ok-clause-ends : goal.returns-in_ok-entries-in-Ok-clause-ends
+returns-in_ok-entries-in-Ok-clause-ends c =
+    let s = setting_for c.args.task.now in
+    let x = c.return_to.new.self in
+    let made = c.settle.new.self in
+    let entries = c.in_ok-entries-in-Ok.entries.items in
+    let there = subst (λ (l : List Entry). IsStandingAt s l entries made.parts) c.deref.ensures.value c.in_ok-entries-in-Ok.ensures.there in
+    let may = may_visit c.args.task.now x c.args.from.now entries made c.requires.task c.in_ok-return_to.ensures.open there c.in_ok-entries-in-Ok.ensures.start c.in_ok-entries-in-Ok.ensures.total in
+    on_ok_weaker c.visit.result (λ found ends. found s may (subst (λ (v : Visited). AreEndsFound s v) (sym c.in_ok-return_to.ensures.visited) ends)) c.visit.ensures.ends
+
+pub returns-in-Err-clause-more : goal.returns-in-Err-clause-more
+returns-in-Err-clause-more c = equal_more c.args.self.now.visited c.return_to.new.self.visited c.in_ok-return_to.ensures.visited
+
+pub returns-in-Err-clause-tried : goal.returns-in-Err-clause-tried
+returns-in-Err-clause-tried c =
+    let s = setting_for c.args.task.now in
+    let x = c.return_to.new.self in
+    let log = c.args.from.now.log.items in
+    let at = going c.args.task.now x c.args.from.now c.args.hart.0 c.requires.task c.in_ok-return_to.ensures.open c.in_ok-return_to.ensures.stands c.requires.hart in
+    tried_refused s c.args.task.now.settle (logs_of x.visited.rows.items) log c.args.hart.0 c.args.choice _ (c.in-Err.ensures.carried s log at) (c.in-Err.ensures.refused s log at)
+
+pub returns-in-Err-clause-ends : goal.returns-in-Err-clause-ends
+returns-in-Err-clause-ends c = λ ends.
+    subst (λ (v : Visited). AreEndsFound (setting_for c.args.task.now) v) (sym c.in_ok-return_to.ensures.visited) ends

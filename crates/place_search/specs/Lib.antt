@@ -1,0 +1,9 @@
+pub mod Ends
+pub mod Logs
+pub mod Searching
+pub mod SettlingSteps
+pub mod Sights
+pub mod Starting
+pub mod Stops
+pub mod Visiting
+pub mod Visits

@@ -1,0 +1,24 @@
+-- The logs of the places that were visited, each as the entries that led to it (own).
+use Rattle.std.specs.Prelude.{ℕ, ◌≤◌, ◌<◌, List, [], ◌∷◌, ◌++◌, length, reverse, slice_index_or}
+use Rattle.mach_types.specs.declared.events.Entry.{Entry}
+use Rattle.place_search.specs.declared.row.Row.{Row}
+
+-- the log of the place after an event and the settling steps that follow it
+abbrev pub log_next : List (List Entry) → Row → List Entry
+log_next logs row = slice_index_or logs row.parent [] ++ reverse row.entries.items
+
+-- these logs, and those of the places that follow
+abbrev pub grown : List (List Entry) → List Row → List (List Entry)
+grown logs [] = logs
+grown logs (row ∷ rows) = grown (logs ++ log_next logs row ∷ []) rows
+
+-- the log of each place by number, that of the first one empty
+abbrev pub logs_of : List Row → List (List Entry)
+logs_of rows = grown ([] ∷ []) rows
+
+abbrev pub log_at : List Row → ℕ → List Entry
+log_at rows place = slice_index_or (logs_of rows) place []
+
+-- each place was come to from one with a lower number
+abbrev pub AreAfterParents : List Row → Type 0
+AreAfterParents rows = (i : ℕ) (d : Row) → i < length rows → (slice_index_or rows i d).parent ≤ i

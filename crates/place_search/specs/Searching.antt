@@ -1,0 +1,79 @@
+-- A search on its way (own).
+use Rattle.std.specs.Prelude.{ℕ, ◌≡◌, ◌≤◌, ◌<◌, Bool, false, List, length, None}
+use Rattle.mach_types.specs.Limits.{InRange}
+use Rattle.mach_types.specs.declared.events.Choice.{Choice}
+use Rattle.mach_types.specs.declared.events.Entry.{Entry}
+use Rattle.elf_load.specs.Images.{IsBootable}
+use Rattle.block_model.specs.Events.{refusal_of}
+use Rattle.block_model.specs.Plain.{here_in_plain, plain_after, plain_over}
+use Rattle.block_model.specs.Setting.{Setting, setting_of}
+use Rattle.same_places.specs.Places.{IsCarried}
+use Rattle.same_places.specs.Replayed.{StandAfter}
+use Rattle.same_places.specs.Searched.{IsOpen}
+use Rattle.place_search.specs.Logs.{log_at}
+use Rattle.local_loads.specs.Resting.{LeavesAreas}
+use Rattle.process.specs.declared.parts.Parts.{Parts}
+use Rattle.settled_places.specs.SettledSearch.{LeadsToStored}
+use Rattle.settled_places.specs.Settling.{settles_of}
+use Rattle.place_search.specs.SettlingSteps.{all_or_none, none_private}
+use Rattle.place_search.specs.Sights.{AreSightsOf}
+use Rattle.place_search.specs.Starting.{IsStarted}
+use Rattle.place_search.specs.Visiting.{HasVisited}
+use Rattle.place_search.specs.declared.task.Task.{Task}
+use Rattle.place_search.specs.declared.trying.Searcher.{Searcher}
+use Rattle.place_search.specs.declared.visiting.Reached.{Reached}
+
+abbrev pub setting_for : Task → Setting
+setting_for task = setting_of task.image.now task.limits
+
+-- what can be searched: an image that can be booted, within limits that are in range, and one place at least
+pub record IsTask (task : Task) : Type 0 where
+  pub bootable : IsBootable task.limits.frames task.image.now
+  pub in_range : InRange task.limits
+  pub some : 1 ≤ task.most
+  pub most : task.most < 4294967296
+
+-- a search of the task, which may visit no more places than are allowed
+pub record IsSearching (task : Task) (x : Searcher) : Type 0 where
+  pub visited : HasVisited (setting_for task) x.made.start x.visited
+  pub started : IsStarted (setting_for task) x.made.total x.made.start
+  pub code : x.made.code ≡ task.image.now.pages.items
+  pub few : length x.visited.rows.items < task.most
+
+-- the parts stand at a place that was visited
+pub record IsReached (task : Task) (x : Searcher) (from : Reached) : Type 0 where
+  pub place : from.place ≤ length x.visited.rows.items
+  pub log_is : from.log.items ≡ log_at x.visited.rows.items from.place
+  pub stands : StandAfter (setting_for task) from.log.items x.made.parts
+  pub there : x.moved ≡ false
+  pub sees : AreSightsOf x.made.parts from.sights
+
+-- parts that stood at the place had these sights
+pub record HasSights (s : Setting) (from : Reached) : Type 0 where
+  pub parts : Parts
+  pub stands : StandAfter s from.log.items parts
+  pub sights : AreSightsOf parts from.sights
+
+-- the choices of a place that was visited are tried, at which the run goes on within the step limit; the parts stand there unless they
+-- moved
+pub record IsOpenAt (task : Task) (x : Searcher) (from : Reached) : Type 0 where
+  pub searching : IsSearching task x
+  pub place : from.place ≤ length x.visited.rows.items
+  pub log_is : from.log.items ≡ log_at x.visited.rows.items from.place
+  pub goes : plain_over (plain_after (setting_for task) from.log.items) ≡ None
+  pub room : length from.log.items < task.limits.steps
+  pub stands : x.moved ≡ false → StandAfter (setting_for task) from.log.items x.made.parts
+  pub sees : HasSights (setting_for task) from
+
+-- the same comes of a choice at each place that is the same. Where it is allowed, it reaches no thread that has settled, and settling
+-- steps after it lead back to a place that was visited
+pub record IsTriedAt (s : Setting) (settle : Bool) (logs : List (List Entry)) (log : List Entry) (h : ℕ) (c : Choice) : Type 0 where
+  pub carried : IsCarried s (plain_after s log) h c
+  pub calm : refusal_of c (here_in_plain s (plain_after s log) h) ≡ None
+      → LeavesAreas s (settles_of (all_or_none settle)) none_private (plain_after s log) (h, c)
+  pub next : refusal_of c (here_in_plain s (plain_after s log) h) ≡ None → LeadsToStored s (all_or_none settle) none_private logs log h c
+
+-- the run of the log goes on within the step limit, and each choice that has to be tried was; or it is over
+pub record IsExpanded (s : Setting) (settle : Bool) (logs : List (List Entry)) (log : List Entry) : Type 0 where
+  pub room : plain_over (plain_after s log) ≡ None → length log < s.limits.steps
+  pub tried : (h : ℕ) (c : Choice) → IsOpen s logs log h c → IsTriedAt s settle logs log h c

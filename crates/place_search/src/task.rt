@@ -1,0 +1,20 @@
+//! What is searched.
+
+use elf_load::Image;
+use mach_types::Limits;
+use std::alloc::Global;
+
+/// What is searched, and how far.
+#[derive(Clone, Copy, Drop)]
+pub(crate) struct Task<'a> {
+    /// Where memory is taken.
+    pub(crate) alloc: Global,
+    /// The program.
+    pub(crate) image: &'a Image,
+    /// The limits of each run.
+    pub(crate) limits: Limits,
+    /// How many places are visited at most.
+    pub(crate) most: u32,
+    /// Whether threads settle: their local steps are made at once, and no place before these is visited.
+    pub(crate) settle: bool,
+}

@@ -1,0 +1,83 @@
+//! A visit to a place to which an event has led, and settling steps after it.
+
+ghost use Rattle.std.specs.Prelude.{◌≡◌, ◌≢◌, Err, ◌<◌, ◌-◌, ◌+◌, ◌++◌, ◌∷◌, [], ◌^◌, length, IfOk, IsErrOf, OnOk};
+ghost use Rattle.block_model.specs.Setting.{Setting};
+ghost use Rattle.place_keys.specs.{Packed.packed, PartWords.parts_words};
+ghost use Rattle.place_search.specs.Logs.{logs_of};
+ghost use Rattle.place_search.specs.Visiting.{AreEndsFound, HasVisited, IsKeyOf, IsMore, MayVisit};
+
+use crate::keys::key_of;
+use crate::remade::Remade;
+use crate::row::Row;
+use crate::sights::Sights;
+use crate::stop::Stop;
+use crate::visited::Visited;
+use mach_types::Entry;
+use place_keys::pages_add_up;
+use std::alloc::{AllocError, Global};
+
+/// A place that was visited, with its log.
+#[derive(Drop)]
+pub(crate) struct Reached {
+    /// The number of the place.
+    pub(crate) place: u32,
+    /// Its log.
+    pub(crate) log: Vec<Entry>,
+    /// What the areas of threads look at there. It is read where threads settle, and there alone.
+    pub(crate) sights: Sights,
+}
+
+/// A log with more entries.
+fn longer(alloc: Global, log: &[Entry], more: &[Entry]) -> Result<Vec<Entry>, AllocError>
+    requires { length log.now + length more.now < 2 ^ 32 }
+    ensures { IfOk result (λ all. all.items ≡ log.now ++ more.now) }
+{
+    let mut all = Vec::with_capacity(alloc, log.len() + more.len())?;
+    all.extend_from_slice(log)?;
+    all.extend_from_slice(more)?;
+    Ok(all)
+}
+
+impl Visited {
+    /// Visits the place at which the parts stand after some entries more, unless it was visited: then nothing changes. Of entries of a
+    /// run that has come from a place that was visited, the key of the place is then that of one that was visited.
+    pub(crate) fn visit(
+        &mut self,
+        alloc: Global,
+        most: u32,
+        from: &Reached,
+        mut entries: Vec<Entry>,
+        made: &Remade,
+    ) -> Result<(), Stop>
+        requires few { length self.old.rows.items < most }
+        requires log { length from.now.log.items + length entries.items < 2 ^ 32 }
+        ensures kept { (s : Setting) → MayVisit s self.old from.now entries.items made.now
+            → HasVisited s made.now.start self.new }
+        ensures more { IsMore self.old self.new }
+        ensures few { length self.new.rows.items < most }
+        ensures back { OnOk result ((s : Setting) → MayVisit s self.old from.now entries.items made.now
+            → IsKeyOf s made.now.start (logs_of self.new.rows.items) (packed (parts_words made.now.start made.now.parts))) }
+        ensures ends { OnOk result ((s : Setting) → MayVisit s self.old from.now entries.items made.now
+            → AreEndsFound s self.old → AreEndsFound s self.new) }
+        ensures full { IsErrOf result Stop.Places → length self.new.rows.items + 1 ≡ most }
+        ensures settled { result ≢ Err Stop.Unsettled }
+    {
+        pages_add_up();
+        let key = key_of(alloc, &made.parts, &made.start, made.total)?;
+        if self.keys.has(&key) {
+            return Ok(());
+        }
+        if self.places() >= most {
+            return Err(Stop::Places);
+        }
+        let log = longer(alloc, &from.log, &entries)?;
+        entries.reverse();
+        let row = Row {
+            parent: from.place,
+            entries,
+        };
+        self.add(alloc, row, &key, log.len() as u32)?;
+        self.note(alloc, &made.parts, &log)?;
+        Ok(())
+    }
+}

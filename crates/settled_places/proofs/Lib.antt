@@ -1,0 +1,5 @@
+mod Closed
+mod Events
+mod Runs
+mod SameSteps
+mod Settled

@@ -1,0 +1,2 @@
+pub mod SettledSearch
+pub mod Settling

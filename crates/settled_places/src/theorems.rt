@@ -1,0 +1,31 @@
+//! The law of such searches, as the contract of a function that does nothing.
+
+ghost use Rattle.std.specs.Prelude.{◌≡◌, ℕ, Bool, List, Some};
+ghost use Rattle.mach_types.specs.declared.{events.Entry.Entry, limits.End.End};
+ghost use Rattle.block_model.specs.Deciding.{history, over_at};
+ghost use Rattle.block_model.specs.History.{console};
+ghost use Rattle.block_model.specs.Plain.{plain_after, plain_over};
+ghost use Rattle.block_model.specs.Run.{IsBlockRun};
+ghost use Rattle.block_model.specs.Setting.{Setting};
+ghost use Rattle.same_places.specs.Closed.{HasOutcome, after_logs};
+ghost use Rattle.same_places.specs.FreeRuns.{IsFreeRun};
+ghost use Rattle.same_places.specs.Places.{with_steps};
+ghost use Rattle.settled_places.specs.SettledSearch.{IsSettledSearch};
+
+/// The places that a finished search stored have the outcome of every run that is over, though it stored none
+/// between local steps: of each run that no step limit ends, and of each block run under each step limit.
+///
+/// Nothing is said of runs that never end: they have no outcome. Which threads settle and which bytes are
+/// private to them is the search's guess. A wrong guess makes no wrong answer: then it can't establish what
+/// is asked.
+pub fn settled_searches_are_complete()
+    ensures free_runs { (s : Setting) (threads : ℕ → Bool) (private : ℕ → ℕ → Bool) (logs : List (List Entry))
+        (log : List Entry) (e : End) → IsSettledSearch s threads private logs → IsFreeRun s log
+        → plain_over (plain_after s log) ≡ Some e
+        → HasOutcome (after_logs s logs) e (plain_after s log).kernel.console }
+    ensures block_runs { (s : Setting) (threads : ℕ → Bool) (private : ℕ → ℕ → Bool) (n : ℕ)
+        (logs : List (List Entry)) (log : List Entry) (e : End) → IsSettledSearch s threads private logs
+        → IsBlockRun (with_steps n s) log
+        → over_at (with_steps n s) (history (with_steps n s) log) ≡ Some e
+        → HasOutcome (after_logs s logs) e (console (with_steps n s) (history (with_steps n s) log)) }
+{}

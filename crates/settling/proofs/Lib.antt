@@ -1,0 +1,4 @@
+mod Descriptors
+mod Kept
+mod Reading
+mod Settling

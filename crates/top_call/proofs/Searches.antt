@@ -1,0 +1,24 @@
+-- From what a search found to its text.
+use Rattle.std.proofs.Common.{◌≡◌, ◌≤◌, ℕ, List, All}
+use Rattle.elf_load.specs.declared.image.Image.{Image}
+use Rattle.block_model.specs.Setting.{Setting, setting_of}
+use Rattle.command_words.specs.declared.commands.SearchSettings.{SearchSettings}
+use Rattle.found_outcomes.specs.Found.{IsShown}
+use Rattle.found_outcomes.specs.Search.{IsSearchOf}
+use Rattle.found_outcomes.specs.declared.findings.Findings.{Findings}
+use Rattle.found_outcomes.specs.declared.findings.OutcomeFound.{OutcomeFound}
+use Rattle.search_text.specs.Text.{HasDigits, findings_text}
+use Rattle.run_texts.proofs.Digits.{digits}
+use Rattle.outcomes.specs.Programs.{Files, IsProgram}
+use Rattle.outcomes.specs.Searches.{IsSearchOutput}
+
+-- each hart in the logs that were found is one digit
+pub found_digits : (s : Setting) (os : List OutcomeFound) → s.limits.harts ≤ 8 → All (IsShown s) os → All HasDigits os
+found_digits s os eight shown = λ k d lt. digits s _ eight (shown k d lt).run
+
+pub output_of_search : {files : Files} {program : List ℕ} {image : Image} {text : List ℕ} (settings : SearchSettings)
+    (found : Findings) → IsProgram files program settings.limits image
+    → IsSearchOf (setting_of image settings.limits) settings.places found → text ≡ findings_text settings.scripts found
+    → IsSearchOutput files program settings text
+output_of_search {image = image} settings found taken searched text =
+    record { image = image; taken = taken; found = found; searched = searched; text = text }

@@ -1,0 +1,146 @@
+"""What `rseq_run outcomes` prints, read; and compared with all outcomes that there are."""
+from __future__ import annotations
+
+import subprocess
+import tempfile
+from collections import Counter
+from collections.abc import Callable, Sequence
+from dataclasses import dataclass
+from math import inf
+from pathlib import Path
+from time import monotonic
+
+from lens.output import Reader
+
+from .comparing import answered, difference, each_built
+from .instructions import described
+from .showing import Shown
+
+COMPLETE = 'complete'
+CLOSINGS = (COMPLETE, 'unfinished places', 'unfinished deep', 'unfinished memory')
+EQUAL, UNEQUAL, UNFINISHED, LEFT_OUT = 'equal', 'unequal', 'unfinished', 'seeds left out'
+
+
+@dataclass(frozen=True)
+class Ended:
+    """An outcome: what it shows, and the script of a run that comes to it, where one is printed."""
+
+    shown: Shown
+    script: bytes | None
+
+
+@dataclass(frozen=True)
+class Search:
+    """The outcomes that were found; how many places were visited; how many lines the longest way to one of
+    them has; and the last line, which says whether there may be other outcomes."""
+
+    ended: list[Ended]
+    places: int
+    deepest: int
+    closing: str
+
+    @property
+    def is_complete(self) -> bool:
+        return self.closing == COMPLETE
+
+    @property
+    def shown(self) -> set[Shown]:
+        return {ended.shown for ended in self.ended}
+
+
+def read_ended(reader: Reader, number: int) -> Ended:
+    """The next outcome, which has this number."""
+    if reader.number('outcome') != number:
+        raise reader.fault(f'outcome {number} is due')
+    line = reader.line('an end')
+    if not line.startswith('end '):
+        raise reader.fault(f'a line "end REASON" is due, and {line[:40]!r} came')
+    console = reader.console()
+    script = None
+    if reader.rest.startswith(b'script '):
+        lines = (reader.line('a line of a script') for _ in range(reader.number('script')))
+        script = b''.join(line.encode() + b'\n' for line in lines)
+    return Ended(Shown(console, line.removeprefix('end ')), script)
+
+
+def read_search(name: str, text: bytes) -> Search:
+    """The text of a search; a fault that names it where it is none, or finds the same outcome twice."""
+    reader = Reader(name, text)
+    ended = [read_ended(reader, number) for number in range(1, reader.number('outcomes') + 1)]
+    places, deepest = reader.number('places'), reader.number('deepest')
+    signals, closing = reader.line('a line "signals any"'), reader.line('the last line')
+    if signals != 'signals any' or closing not in CLOSINGS or reader.rest:
+        words = f'{signals[:40]!r}, {closing[:40]!r} and {len(reader.rest)} bytes'
+        raise reader.fault(f'{words} are no end of a search')
+    search = Search(ended, places, deepest, closing)
+    if len(search.shown) != len(ended):
+        raise reader.fault('two outcomes are the same')
+    return search
+
+
+class Searcher:
+    """Finds all outcomes of programs, as long as they have few places."""
+
+    def __init__(self, program: str, places: int):
+        self.program = program
+        self.places = places
+
+    def search(self, elf: Path, harts: int, has_scripts: bool = False) -> Search:
+        scripts = 'yes' if has_scripts else 'no'
+        limits = [f'--harts={harts}', f'--places={self.places}', f'--scripts={scripts}']
+        return read_search(elf.name, answered([self.program, 'outcomes', str(elf), *limits]))
+
+    def played(self, elf: Path, harts: int, ended: Ended) -> str | None:
+        """What is wrong with a script: nothing where it plays to what it is said to."""
+        if ended.script is None:
+            return 'it isn\'t there'
+        with tempfile.NamedTemporaryFile(suffix='.script') as file:
+            file.write(ended.script)
+            file.flush()
+            words = [self.program, 'play', str(elf), file.name, f'--harts={harts}', '--steps=1000000']
+            ran = subprocess.run(words, stdin=subprocess.DEVNULL, capture_output=True)
+        if ran.returncode:
+            return f'status {ran.returncode}: {ran.stderr.decode(errors="replace").strip()}'
+        return wrong_in(ran.stdout, ended)
+
+
+def wrong_in(text: bytes, ended: Ended) -> str | None:
+    """In what the text of a run differs from the outcome that it is to have."""
+    reader = Reader('play', text)
+    console, log, end = reader.console(), reader.log(), reader.end()
+    if len(log) != (ended.script or b'').count(b'\n'):
+        return f'{len(log)} events were made of its lines'
+    if Shown(console, end) == ended.shown:
+        return None
+    return f'it ended with {end}, and {console!r} on the console'
+
+
+class Comparison:
+    """Compares the tests of some seeds, and counts."""
+
+    def __init__(self, searcher: Searcher, say: Callable[[str], None], seconds: float = inf):
+        self.searcher = searcher
+        self.say = say
+        self.last = monotonic() + seconds
+        self.counts: Counter[str] = Counter()
+
+    def compare(self, seeds: range, harts: Sequence[int]) -> int:
+        """The tests of some seeds on each of these numbers of harts that they have threads for: how many
+        searches were unequal."""
+        for seed, litmus, elf in each_built(seeds):
+            if monotonic() >= self.last:
+                self.counts[LEFT_OUT] = seeds.stop - seed
+                break
+            for number in (it for it in harts if it <= len(litmus.threads)):
+                search = self.searcher.search(elf, number)
+                compared = difference(litmus, number, search.shown)
+                lines = [*compared.words()] if search.is_complete or compared.extra else []
+                self.count(f'seed {seed}, harts {number}: {described(litmus)}', search, lines)
+        self.say(', '.join(f'{name} {self.counts[name]}' for name in (EQUAL, UNEQUAL, UNFINISHED, LEFT_OUT)))
+        return self.counts[UNEQUAL]
+
+    def count(self, name: str, search: Search, lines: list[str]) -> None:
+        """Counts a search, and says in what it differs."""
+        self.counts[UNEQUAL if lines else EQUAL if search.is_complete else UNFINISHED] += 1
+        for line in [name, *(f'    {line}' for line in lines)] if lines else []:
+            self.say(line)
