@@ -24,7 +24,7 @@ from sweep.explored import read_explored  # noqa: E402
 BROKEN = ('litmus peterson dekker_plain rcu_plain percpu_counter_plain percpu_list_next_outside percpu_list_commit_not_last hazard_plain '
           'deque_plain ring_wake_lost handler_add_plain').split()
 RIGHT = 'peterson_fenced dekker rcu percpu_counter percpu_list hazard deque ring_wake handler_add'.split()
-POLICIES = ('one', 'long', 'short', 'pos', 'spread')
+POLICIES = ('one', 'stretch', 'short', 'stall', 'spread')
 BOTH_ZERO = b'main read 0\nother read 0\n'
 
 

@@ -51,14 +51,14 @@ fail (a file `fails`) only crates/worked_runs can make. And crates/worked_runs/d
 Of each line of real/ends.expected so many drawn runs of the program have just these ends.
 
 For each of EXPLORED the line `overtaken N of M` of `explore` is counted again from the logs of its runs (overtaken.py). A long `explore`
-that SIGINT or SIGTERM breaks off has said what it found, and a seed of each; on a terminal a line says how far one is
-(interrupted.py). And one of whose runs a quarter go round for ever says at its end how many ended at the limit, and which limit would be
+that SIGINT or SIGTERM breaks off has said what it found, and a seed of each; on a terminal a line says how far one is. A long `outcomes`
+that is broken off has said what it found too (interrupted.py). And one of whose runs a quarter go round for ever says at its end how many ended at the limit, and which limit would be
 enough. With `--expect` its text is the same; the status is 1 where a run of Peterson's lock ended otherwise, and 0 of its twin with fences.
 
 Where the reader of a pipe closes it, the program ends with status 6 and says nothing; where a disk is full, it says so, and first what it
 was about to say.
 
-In each call standard error is empty exactly where the status is 0, but for what an `explore` that takes long says there.
+In each call standard error is empty exactly where the status is 0, but for what an `explore` or an `outcomes` that takes long says there.
 """
 import os
 import pathlib
@@ -78,6 +78,8 @@ ROWS = HERE.parent / 'crates' / 'worked_runs' / 'data'
 STEPS = '1000000'
 SEEDS = range(1, 11)
 DRAWN_SEEDS = range(5)
+INTERRUPTED = [str(HERE / name / f'{name}.elf') for name in ('peterson', 'ring_wake_lost')]
+"""The files of which an `explore` and an `outcomes` are broken off."""
 HARTS = ('1', '2', '4', '8')
 GUESTS = {'counter': (100, 400), 'list': (50, 100), 'pool': (50, 512), 'dekker': (20, 0), 'signals': (20, 20), 'migrate': (8, 800),
           'ring': (100, 4000), 'urcu': (20, 0)}
@@ -98,21 +100,23 @@ void block(void) {
 '''
 # the examples whose overtaken stores are counted again, and in how many runs
 EXPLORED = {'peterson': 40, 'peterson_fenced': 40, 'dekker': 20, 'hazard': 20, 'litmus': 40, 'percpu_counter': 5}
-# what `explore` says on standard error where it takes long
-SAID = re.compile(rb'^(outcome \d+: end [^\n]*|rseq_run: \d+ of \d+ runs ended at the limit [^\n]*)\n', re.MULTILINE)
+# what `explore` and `outcomes` say on standard error where they take long
+SAID = re.compile(rb'^(outcome \d+: end [^\n]*|rseq_run: (\d+ of \d+ (runs ended at the limit|places were still open)|places \d+, open|'
+                  rb'the search begins again)[^\n]*)\n', re.MULTILINE)
 # the program of a worked run that exits with the number of its hart, and the same where it goes round for ever on each hart but 0
 EXITS_BY_HART = ROWS / 'explores' / 'two_outcomes' / 'F'
 NUMBER_READ = bytes.fromhex('93050000 9308800a 73000000 37040200 03250400')
 GOES_ROUND = bytes.fromhex('37040200 9308800a 73000000 03250400 63100500')
-LIMITED = (b'rseq_run: 68 of 300 runs ended at the limit of 1000000 steps; the longest that ended otherwise has 13: '
+LIMITED = (b'rseq_run: 97 of 300 runs ended at the limit of 1000000 steps; the longest that ended otherwise has 13: '
            b'--steps 130 would cut them shorter\n')
 # the programs with real libraries, how many runs of each are explored, and their ends
 REAL = HERE / 'real'
 ENDS = re.compile(r'(\S+): (\d+) runs: (.+)')
-SECONDS = 120
+# so many seconds no call takes, on a slow machine that has other work too
+SECONDS = 1800
 DONE, ENDED_OTHERWISE, SCRIPT_REFUSED, UNREAD, UNWRITTEN = 0, 1, 4, 5, 6
 # what is said of an end that isn't the one that is expected, and of a disk that is full
-OTHERWISE = b'rseq_run: a run ended otherwise: exit 1, seed 4\n'
+OTHERWISE = b'rseq_run: a run ended otherwise: exit 1, seed 3\n'
 FULL = b"rseq_run: standard output can't be written: no storage space\n"
 TAKE_SCRIPT = r"sed -n '/^log /{h;d;};$!H;${g;s/^log [0-9]*\n//p;}'"
 TAKE_PAIR_SCRIPT = r"sed -n '/^log /{h;d;};/^process /d;$!H;${g;s/^log [0-9]*\n//p;}'"
@@ -188,7 +192,7 @@ def run_whole(program, *words, folder=None):
         ran = subprocess.run([program, *words], cwd=folder, stdin=subprocess.DEVNULL, capture_output=True, timeout=SECONDS)
     except subprocess.TimeoutExpired:
         raise Difference(f'{" ".join(map(str, words))}: it had not ended after {SECONDS} seconds') from None
-    said = SAID.sub(b'', ran.stderr) if words[:1] == ('explore',) else ran.stderr
+    said = SAID.sub(b'', ran.stderr) if words[:1] in (('explore',), ('outcomes',)) else ran.stderr
     if (ran.returncode == DONE) != (not said):
         raise Difference(f'{" ".join(map(str, words))}: its status is {ran.returncode}, and standard error is {ran.stderr[:60]!r}')
     return ran.returncode, ran.stdout, ran.stderr
@@ -656,8 +660,8 @@ def check_overtaken(program, example, runs):
 
 
 def check_interrupted(program):
-    """An exploration that is broken off has said what it found."""
-    want('what an interrupted explore left', '; '.join(interrupted.faults_of(str(program), str(HERE / 'peterson' / 'peterson.elf'))), '')
+    """An exploration and a search that are broken off have said what they found."""
+    want('what an interrupted explore or outcomes left', '; '.join(interrupted.faults_of(str(program), *INTERRUPTED)), '')
 
 
 def check_limited(program):
@@ -669,7 +673,7 @@ def check_limited(program):
         elf.flush()
         status, text, said = run_whole(program, 'explore', elf.name, '--runs', '300', '--steps', '1000000', '--jobs', '1')
     want('the status of explore', status, DONE)
-    want('its ends', [line for line in text.splitlines() if line.startswith(b'end ')], [b'end exit 0', b'end limit'])
+    want('its ends', [line for line in text.splitlines() if line.startswith(b'end ')], [b'end limit', b'end exit 0'])
     want('what it says at its end', said.splitlines(keepends=True)[-1:], [LIMITED])
 
 

@@ -1,21 +1,25 @@
-"""Breaks off a long `explore`, and looks at what standard error said until then; and looks at the line that says on a terminal how
-far one is.
+"""Breaks off a long `explore` and a long `outcomes`, and looks at what standard error said until then; and looks at the line that says
+on a terminal how far an `explore` is.
 
-    examples/interrupted.py PROGRAM ELF
+    examples/interrupted.py PROGRAM ELF SEARCHED
+
+SEARCHED is the file of which `outcomes` is broken off: on so many HARTS it has an outcome that FEW places are enough for, and takes so
+long that no machine ends it meanwhile.
 """
 from __future__ import annotations
 
 import os
 import re
+import select
 import signal
 import subprocess
 import sys
 import time
 from dataclasses import dataclass
 
-SECONDS = 3.0
-"""When it is broken off. Outcomes are said from one second on."""
-LATEST = 60.0
+A_WHILE = 0.5
+"""So long after something was said a call is broken off. Outcomes are said from one second on, on a slow machine later."""
+LATEST = 1800.0
 RUNS = '1000000000'
 RUNS_TO_THE_END = (20_000, 200_000, 2_000_000, 20_000_000)
 """How many runs an exploration on a terminal makes: the first of these that takes long enough for a line, which a fast machine shows of
@@ -23,6 +27,12 @@ more runs than a slow one."""
 PROGRESS = re.compile(rb'rseq_run: (\d+) of (\d+) runs, (\d+) outcomes?')
 """The line on a terminal."""
 SIGNALS = (signal.SIGINT, signal.SIGTERM)
+HARTS, FEW = '4', '20000'
+SEARCHED_OUTCOME = re.compile(rb'outcome (\d+): (end [a-z]+(?: \d+)?), (\d+) events?\n')
+"""What a search says of an outcome."""
+PRINTED_OUTCOME = re.compile(rb'outcome (\d+)\n(end [a-z]+(?: \d+)?)\nconsole \d+\n.*?\nscript (\d+)\n', re.DOTALL)
+"""What it prints of one, down to the number of the lines of its script."""
+HOW_FAR = re.compile(rb'rseq_run: places \d+, open \d+, depth \d+, outcomes \d+\n')
 OUTCOME = re.compile(rb'outcome (\d+): (end [a-z]+(?: \d+)?), seed (\d+), policy [a-z]+\n')
 
 
@@ -42,12 +52,12 @@ def heed_signals() -> None:
         signal.signal(number, signal.SIG_DFL)
 
 
-def break_off(program: str, elf: str, number: int) -> Broken:
-    """An exploration of so many runs that none waits for its end, which a signal breaks off."""
-    words = [program, 'explore', elf, '--runs', RUNS]
+def break_off(words: list[str], number: int) -> Broken:
+    """A call that takes so long that none waits for its end, which a signal breaks off."""
     pipes = {'stdin': subprocess.DEVNULL, 'stdout': subprocess.PIPE, 'stderr': subprocess.PIPE}
     with subprocess.Popen(words, **pipes, preexec_fn=heed_signals) as running:
-        time.sleep(SECONDS)
+        select.select([running.stderr], [], [], LATEST)
+        time.sleep(A_WHILE)
         running.send_signal(number)
         try:
             printed, said = running.communicate(timeout=LATEST)
@@ -57,20 +67,41 @@ def break_off(program: str, elf: str, number: int) -> Broken:
     return Broken(number, running.returncode, printed, said)
 
 
-def faults_of(program: str, elf: str) -> list[str]:
+def faults_of(program: str, elf: str, searched: str) -> list[str]:
     """What isn't as it should be, by each signal, and of the line on a terminal."""
-    broken = [fault for number in SIGNALS for fault in faults_of_broken(program, elf, break_off(program, elf, number))]
-    return broken + faults_of_terminal(program, elf)
+    words = [program, 'explore', elf, '--runs', RUNS]
+    broken = [fault for number in SIGNALS for fault in faults_of_exploration(program, elf, break_off(words, number))]
+    return broken + faults_of_search(program, searched) + faults_of_terminal(program, elf)
 
 
-def faults_of_broken(program: str, elf: str, broken: Broken) -> list[str]:
-    """What isn't as it should be: the system ends the call by the signal, nothing is printed, and each outcome that was found
-    is said with a seed that has it."""
+def faults_of_broken(broken: Broken) -> list[str]:
+    """What isn't as it should be: the system ends the call by the signal, and nothing is printed."""
     faults = []
     if broken.status != -broken.number:
         faults.append(f'its status is {broken.status}')
     if broken.printed:
         faults.append(f'it printed {broken.printed[:60]!r}')
+    return faults
+
+
+def faults_of_search(program: str, elf: str) -> list[str]:
+    """What isn't as it should be of a search that is broken off: each outcome is said as a search with few places prints it."""
+    words = [program, 'outcomes', elf, '--harts', HARTS, '--places']
+    broken = break_off([*words, '16000000'], signal.SIGINT)
+    few = subprocess.run([*words, FEW], capture_output=True, check=True).stdout
+    lines = [line for line in broken.said.splitlines(keepends=True) if not HOW_FAR.fullmatch(line)]
+    said = [outcome.groups() for outcome in map(SEARCHED_OUTCOME.fullmatch, lines) if outcome]
+    printed = [outcome.groups() for outcome in PRINTED_OUTCOME.finditer(few)]
+    numbers = [int(number) for number, _, _ in said]
+    faults = faults_of_broken(broken)
+    if not printed or not said or said[:len(printed)] != printed[:len(said)] or numbers != list(range(1, len(lines) + 1)):
+        faults.append(f'standard error of a search has {broken.said[:200]!r}, and its text begins {printed[:3]!r}')
+    return faults
+
+
+def faults_of_exploration(program: str, elf: str, broken: Broken) -> list[str]:
+    """What isn't as it should be of an exploration that is broken off: each outcome that was found is said with a seed that has it."""
+    faults = faults_of_broken(broken)
     lines = broken.said.splitlines(keepends=True)
     outcomes = [OUTCOME.fullmatch(line) for line in lines]
     if not outcomes or not all(outcomes):
@@ -124,6 +155,6 @@ def faults_of_progress(shown: bytes, runs: int) -> list[str]:
 
 
 if __name__ == '__main__':
-    found = faults_of(sys.argv[1], sys.argv[2])
+    found = faults_of(*sys.argv[1:4])
     print('\n'.join(found))
     sys.exit(1 if found else 0)

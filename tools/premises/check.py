@@ -130,7 +130,7 @@ CASES = [
     Case('no registration', 'IsUse.registered', {0x10170: [addi(10, 0, 0)]}, (OUTLAWS,)),
     Case('a way into the middle of lock', 'IsUse.locking', {LOCK_AT - SIZE: [jal(0, 8)]}),
     Case('a way into the middle of sync', 'IsUse.syncing', {SYNC_AT - SIZE: [jal(0, 24)]}),
-    Case('handlers return by an old frame', 'IsUse.alone IsUse.syncing', STALE_FRAMES, seeds=range(27, 35)),
+    Case('handlers return by an old frame', 'IsUse.alone IsUse.syncing', STALE_FRAMES, seeds=range(432, 440)),
     Case('a reader without the counter', 'IsUse.lock_gp', {LOCK_AT - SIZE: [addi(26, 28, 0)]}),
     Case('sync without the counter', 'IsUse.sync_gp', {SYNC_AT - SIZE: [addi(26, 28, 512)]}),
     Case('sync from slot 1 on', 'IsUse.sync_slots', {0x1015C: [addi(27, 9, 128)]}),

@@ -89,7 +89,7 @@ pub all_threads : (s : Setting) (log : List Entry) → s.limits.steps < 2 ^ 31 -
 all_threads s log short run = entries_of s (λ e. e.tid.0 < 2 ^ 32) log (threads_in s (history s log) short run)
 
 -- a thread's file among those that an event set stands below 2^64
-among_stands : (ps : List (ℕ × Saved)) (t : ℕ) (f : Saved) → FilesStand ps → StandsIn f → StandsIn (file_among ps t f)
+pub among_stands : (ps : List (ℕ × Saved)) (t : ℕ) (f : Saved) → FilesStand ps → StandsIn f → StandsIn (file_among ps t f)
 among_stands [] t f all small = small
 among_stands (p ∷ ps) t f all small = elim (eqb p.0 t) as (λ b. StandsIn (cond b p.1 (file_among ps t f))) [ true ↦ all.0 | false ↦ among_stands ps t f all.1 small ]
 

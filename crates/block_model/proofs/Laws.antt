@@ -31,7 +31,7 @@ pub use Rattle.block_model.proofs.Images.{HaveBytes, image_bytes, loaded_is_laid
 pub use Rattle.block_model.proofs.CallEffects.EachCall.{called_begins_none}
 pub use Rattle.block_model.proofs.Choosing.{drain_free, none_waits, return_free, take_free}
 pub use Rattle.block_model.proofs.Choosing.{no_call_held, none_of_both, some_hart_goes_on, luck_of_other, luck_of_own, all_chosen_next, is_choice_same, chosen_start, chosen_shorter, next_is_none}
-pub use Rattle.block_model.proofs.Entries.{thread_given}
+pub use Rattle.block_model.proofs.Entries.{among_stands, thread_given}
 pub use Rattle.block_model.proofs.EventEffects.{IsNext as IsNextInstruction}
 pub use Rattle.block_model.proofs.FileSteps.{Aborts, Answered, AtBirth, AtHandler, AtRun, AtTake, ByCall, ByInstruction}
 pub use Rattle.block_model.proofs.FileSteps.{FileStays, FileStep, IsInterrupted, file_step}

@@ -14,6 +14,10 @@ pub record Setting : Type 0 where
 abbrev pub setting_of : Image → Limits → Setting
 setting_of image limits = record { program = program_of image; limits = limits }
 
+-- a setting with another step limit
+abbrev pub with_steps : ℕ → Setting → Setting
+with_steps n s = record s { limits = record s.limits { steps = n } }
+
 -- a machine as it is seen: its setting, the seed of its choices, and its log with the oldest entry first
 pub record Seen : Type 0 where
   pub setting : Setting

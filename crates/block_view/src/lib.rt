@@ -20,9 +20,7 @@ pub use block_model::SeqEnd;
 pub use counter::Counter;
 pub use forms::{Act, Acts, Form, form_word};
 pub use ledger::Ledger;
-pub use passing::{
-    Ahead, Passed, ahead_of, inside, make_again, make_named, seen_after, seen_ahead, step_seen,
-};
+pub use passing::{Ahead, Passed, ahead_of, inside, make_named, seen_after, seen_ahead, step_seen};
 pub use tally::Counts;
 pub use theorems::{acts_cover_the_log, counts_add_up};
 pub use turns::Turn;

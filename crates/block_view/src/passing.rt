@@ -45,7 +45,7 @@ impl Passed {
     }
 
     /// Whether it is an interruption that ended the process.
-    pub fn is_fatal(&self) -> bool
+    pub(crate) fn is_fatal(&self) -> bool
         ensures { result ≡ is_fatal self.now }
     {
         self.interrupts && self.killed
@@ -73,7 +73,7 @@ impl Passed {
     }
 
     /// The turn by which a sequence begins with it.
-    pub fn beginning(&self) -> Option<Turn>
+    pub(crate) fn beginning(&self) -> Option<Turn>
         ensures { result ≡ option_map Begins self.now.inside }
     {
         match self.inside {
@@ -90,14 +90,14 @@ impl Passed {
     }
 
     /// Whether it preempted its thread inside a sequence.
-    pub fn leaves_inside(&self) -> bool
+    pub(crate) fn leaves_inside(&self) -> bool
         ensures { result ≡ leaves_inside self.now }
     {
         self.inside.is_some() && self.entry.kind.is_preempt()
     }
 
     /// The act that it is by itself.
-    pub fn form_alone(&self) -> Form
+    pub(crate) fn form_alone(&self) -> Form
         ensures { result ≡ form_alone self.now.entry.kind }
     {
         match self.entry.kind.nature().maker {
@@ -118,7 +118,7 @@ impl Passed {
 
     /// How a sequence that hangs ends, whose thread begins to run by it. An abort handler lies outside its sequence, so the thread
     /// was sent there where its pc isn't the one that it waited with.
-    pub fn verdict(&self) -> SeqEnd
+    pub(crate) fn verdict(&self) -> SeqEnd
         ensures { result ≡ verdict_by self.now }
     {
         if self.killed {
@@ -209,7 +209,7 @@ fn make(machine: &mut Machine, entry: Entry) -> bool
 }
 
 /// Makes an entry of one of so many harts again; None where it isn't the one that is decided.
-pub fn make_again(machine: &mut Machine, harts: u8, entry: Entry) -> Option<Passed>
+pub(crate) fn make_again(machine: &mut Machine, harts: u8, entry: Entry) -> Option<Passed>
     requires limits { InRange machine.old.setting.limits }
     requires harts { harts ≡ machine.old.setting.limits.harts }
     ensures made { IfSome result (IsMadeAgain machine.old machine.new entry) }

@@ -258,8 +258,8 @@ draw_options : command_of
 unfolding command_of arguments_of
 draw_options = refl
 
-draw_policy : command_of (codes "draw" ∷ codes "--policy=pos" ∷ codes "F" ∷ codes "--calm" ∷ codes "0" ∷ [])
-    ≡ Some (draw (codes "F") (limits 2 4096 200000) 1 (Only policy.Pos) (Some 0))
+draw_policy : command_of (codes "draw" ∷ codes "--policy=stall" ∷ codes "F" ∷ codes "--calm" ∷ codes "0" ∷ [])
+    ≡ Some (draw (codes "F") (limits 2 4096 200000) 1 (Only policy.Stall) (Some 0))
 unfolding command_of arguments_of
 draw_policy = refl
 

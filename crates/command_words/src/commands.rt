@@ -30,7 +30,7 @@ use std::alloc::{AllocError, Global};
 pub struct Draws {
     /// Which policies draw.
     pub policies: Policies,
-    /// From how many events on a run goes on fairly; None: from a quarter of the steps that it may make.
+    /// From how many events on a run goes on fairly; None: from half of the steps that it may make.
     pub calm: Option<u32>,
 }
 

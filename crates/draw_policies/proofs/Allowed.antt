@@ -83,7 +83,7 @@ new_is_due weights seen w = go (takes_by w weights seen) (delivers_by w weights 
     go : (takes delivers leaves : Bool) → takes_by w weights seen ≡ takes → delivers_by w weights seen ≡ delivers
         → IsDue seen (cond takes (Some means.Take) (cond delivers (Some means.Signal) (cond leaves (Some means.Preempt) None)))
     go true delivers leaves some signal =
-        (and_parts seen.requested (ltb (interrupt_of w) weights.take || (weights.by_priority && not (has_stores seen))) some).0
+        (and_parts seen.requested (ltb (interrupt_of w) weights.take) some).0
     go false true leaves some signal = (and_parts seen.deliverable (ltb (interrupt_of w) weights.signal) signal).0
     go false false true some signal = refl
     go false false false some signal = tt

@@ -1,17 +1,15 @@
--- Worked examples: what is done in a turn by each rule and which digits of a word decide it, and which accesses race.
+-- Worked examples: what is done in a turn by each rule, which digits of a word decide it, and which stay a new stretch has.
 use Rattle.std.proofs.Common.{◌≡◌, ℕ, [], ◌∷◌, Option, Some, None, true, false, refl}
 use Rattle.mach_types.specs.declared.events.Choice.{Choice}
 use Rattle.mach_types.specs.declared.events.Choice.TheVariants as asked
 use Rattle.mach_types.specs.declared.events.Sight.{Sight}
 use Rattle.mach_types.specs.declared.events.Tid.{Tid}
 use Rattle.chooser.proofs.Sights.{idle}
-use Rattle.draw_policies.specs.Accesses.{race}
 use Rattle.draw_policies.specs.Acting.{can_act}
 use Rattle.draw_policies.specs.Beginning.{thread_to_run}
 use Rattle.draw_policies.specs.Policies.{weights_of}
 use Rattle.draw_policies.specs.Turns.{turn}
-use Rattle.draw_policies.specs.Words.{hart_place, thread_place}
-use Rattle.draw_policies.specs.declared.accesses.Access.{Access}
+use Rattle.draw_policies.specs.Words.{hart_place, stretch_of, thread_place}
 use Rattle.draw_policies.specs.declared.aims.Aim.{Aim}
 use Rattle.draw_policies.specs.declared.aims.Aim.TheVariants as means
 use Rattle.draw_policies.specs.declared.policies.Policy.{Policy}
@@ -61,47 +59,60 @@ last_one_is_left_out = refl
 pub last_one_alone_runs_again : thread_to_run (4 ∷ []) (Some (thread 4)) two_times ≡ Some (thread 4)
 last_one_alone_runs_again = refl
 
-pub idle_hart_takes_first : turn (weights_of policy.Long) (record idle { requested = true }) false (4 ∷ []) None None 0
+pub idle_hart_takes_first : turn (weights_of policy.Stretch) (record idle { requested = true }) false (4 ∷ []) None None 0
     ≡ returned asked.Take 256
 idle_hart_takes_first = refl
 
--- the digits of 7 and those of 8 decide for a thread and for a store: below 30 in 1,000 the one, below 60 the other
-pub thread_means_to_leave : turn_of policy.Long storing None 59029999 ≡ done asked.Drain (Some means.Preempt) 0
+-- how often 60,480 times 10^12 is in a word says which of the four stays a new stretch has
+pub stay_is_the_first : stretch_of two_times ≡ 0
+stay_is_the_first = refl
+
+pub stay_is_the_second : stretch_of 60480000000000000 ≡ 1
+stay_is_the_second = refl
+
+pub stay_is_the_last : stretch_of 241919999999999999 ≡ 3
+stay_is_the_last = refl
+
+pub stay_begins_again : stretch_of 241920000000000000 ≡ 0
+stay_begins_again = refl
+
+-- the digits of 7 and those of 8 decide for a thread and for a store: below 30 in 1,000 the one, below 20 the other
+pub thread_means_to_leave : turn_of policy.Stretch storing None 19029999 ≡ done asked.Drain (Some means.Preempt) 0
 thread_means_to_leave = refl
 
-pub then_it_leaves : turn_of policy.Long running (Some means.Preempt) 999999999999 ≡ returned asked.Preempt 0
+pub then_it_leaves : turn_of policy.Stretch running (Some means.Preempt) 999999999999 ≡ returned asked.Preempt 0
 then_it_leaves = refl
 
-pub store_enters : turn_of policy.Long storing None 59030000 ≡ done asked.Drain None 0
+pub store_enters : turn_of policy.Stretch storing None 19030000 ≡ done asked.Drain None 0
 store_enters = refl
 
-pub store_goes_on_waiting : turn_of policy.Long storing None 60030000 ≡ returned asked.Exec 256
+pub store_goes_on_waiting : turn_of policy.Stretch storing None 20030000 ≡ returned asked.Exec 256
 store_goes_on_waiting = refl
 
 pub one_gives_no_credit : turn_of policy.One storing None 250015000 ≡ returned asked.Exec 0
 one_gives_no_credit = refl
 
 -- a hart that must wait for its stores means no thread to leave, and lets the oldest one enter
-pub held_up_hart_drains : turn_of policy.Long (record storing { exec_enabled = false }) None 999000000
+pub held_up_hart_drains : turn_of policy.Stretch (record storing { exec_enabled = false }) None 999000000
     ≡ done asked.Drain None 0
 held_up_hart_drains = refl
 
--- a request comes before a signal; by priorities at once where no store waits
-pub request_comes_first : turn_of policy.Long (record storing { requested = true; deliverable = true }) None 49999999999
+-- a request comes before a signal, and at once but for the stores that still wait, also where the word lets nothing else happen
+pub request_comes_first : turn_of policy.Stretch (record storing { requested = true; deliverable = true }) None 49999999999
     ≡ done asked.Drain (Some means.Take) 0
 request_comes_first = refl
 
-pub signal_alone : turn_of policy.Long (record running { deliverable = true }) None 49999999999
+pub signal_alone : turn_of policy.Stretch (record running { deliverable = true }) None 49999999999
     ≡ returned asked.Signal 0
 signal_alone = refl
 
-pub request_waits_by_the_word : turn_of policy.Pos (record storing { requested = true }) None 50999999999
-    ≡ returned asked.Exec 256
-request_waits_by_the_word = refl
-
-pub request_is_taken_at_once : turn_of policy.Pos (record running { requested = true }) None 50999999999
+pub request_is_taken_at_once : turn_of policy.Stall (record running { requested = true }) None 999999999999
     ≡ returned asked.Take 0
 request_is_taken_at_once = refl
+
+pub request_waits_by_the_word : turn_of policy.Short (record running { requested = true }) None 50999999999
+    ≡ returned asked.Exec 256
+request_waits_by_the_word = refl
 
 -- by the rule a store waits until the next event needs that none does, and a request is taken and a signal delivered at once
 pub rule_lets_stores_wait : turn_of policy.Rule storing None 0 ≡ returned asked.Exec 0
@@ -119,24 +130,24 @@ pub rule_delivers_signals : turn_of policy.Rule (record storing { deliverable = 
 rule_delivers_signals = refl
 
 -- an aim that can't be done any more is none, also while a store waits
-pub aim_is_given_up : turn_of policy.Long storing (Some means.Signal) 999999999999 ≡ returned asked.Exec 256
+pub aim_is_given_up : turn_of policy.Stretch storing (Some means.Signal) 999999999999 ≡ returned asked.Exec 256
 aim_is_given_up = refl
 
 -- a signal that can be delivered already waits for a word behind an instruction, but not behind a call or a fault
-pub signal_waits_by_the_word : turn_of policy.Long (record running { deliverable = true }) None 999999999999
+pub signal_waits_by_the_word : turn_of policy.Stretch (record running { deliverable = true }) None 999999999999
     ≡ done asked.Exec None 256
 signal_waits_by_the_word = refl
 
-pub signal_comes_behind_a_trap : trapping policy.Long (record running { deliverable = true }) None 999999999999
+pub signal_comes_behind_a_trap : trapping policy.Stretch (record running { deliverable = true }) None 999999999999
     ≡ returned asked.Exec 256
 signal_comes_behind_a_trap = refl
 
 -- then it is delivered whatever the word is, once no store waits
-pub trapped_hart_drains : turn_of policy.Long (record storing { deliverable = true }) (Some means.Signal) 999999999999
+pub trapped_hart_drains : turn_of policy.Stretch (record storing { deliverable = true }) (Some means.Signal) 999999999999
     ≡ done asked.Drain (Some means.Signal) 0
 trapped_hart_drains = refl
 
-pub trapped_hart_delivers : turn_of policy.Long (record running { deliverable = true }) (Some means.Signal) 999999999999
+pub trapped_hart_delivers : turn_of policy.Stretch (record running { deliverable = true }) (Some means.Signal) 999999999999
     ≡ returned asked.Signal 0
 trapped_hart_delivers = refl
 
@@ -146,19 +157,3 @@ held_up_by_others = refl
 
 pub barrier_waits_for_others : can_act (record running { in_barrier = true; exec_enabled = false }) true ≡ false
 barrier_waits_for_others = refl
-
--- 8 bytes that are read at 100, and 1 that is written at 107 or 108
-abbrev read_at_100 : Option Access
-read_at_100 = Some (record { at = 100; size = 8; is_write = false })
-
-abbrev written : ℕ → Option Access
-written at = Some (record { at = at; size = 1; is_write = true })
-
-pub last_byte_races : race read_at_100 (written 107) ≡ true
-last_byte_races = refl
-
-pub next_byte_does_not : race read_at_100 (written 108) ≡ false
-next_byte_does_not = refl
-
-pub reads_do_not : race read_at_100 read_at_100 ≡ false
-reads_do_not = refl

@@ -1,4 +1,3 @@
-pub mod Accesses
 pub mod Acting
 pub mod Aims
 pub mod Beginning

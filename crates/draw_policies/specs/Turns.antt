@@ -1,5 +1,5 @@
 -- What a hart does in its turn (own), by what is seen of it, by its aim, and by one word: the first rule that applies.
-use Rattle.std.specs.Prelude.{ℕ, ◌&&◌, ◌||◌, Bool, not, List, Option, Some, None, if◌then◌else◌, nat_lt}
+use Rattle.std.specs.Prelude.{ℕ, ◌&&◌, Bool, not, List, Option, Some, None, if◌then◌else◌, nat_lt}
 use Rattle.std.specs.Option.{option_map, option_or}
 use Rattle.mach_types.specs.declared.events.Choice.{Choice}
 use Rattle.mach_types.specs.declared.events.Choice.TheVariants as asked
@@ -41,10 +41,9 @@ idle_turn weights seen next =
 abbrev pub barrier_turn : Weights → Sight → Turn
 barrier_turn weights seen = if seen.requested then freely weights asked.Take else freely weights asked.Done
 
--- whether the hart means to take its requests by this word: where it goes by priorities, at once where no store waits
+-- whether the hart means to take its requests by this word
 abbrev pub takes_by : ℕ → Weights → Sight → Bool
-takes_by w weights seen =
-    seen.requested && (nat_lt (interrupt_of w) weights.take || (weights.by_priority && not (has_stores seen)))
+takes_by w weights seen = seen.requested && nat_lt (interrupt_of w) weights.take
 
 -- whether it means to let a signal be delivered
 abbrev pub delivers_by : ℕ → Weights → Sight → Bool

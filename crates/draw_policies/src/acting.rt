@@ -6,7 +6,7 @@ ghost use Rattle.chooser.specs.Cases as cases;
 use mach_types::Sight;
 
 /// Whether a store of the hart waits.
-pub fn has_stores(sight: &Sight) -> bool
+pub(crate) fn has_stores(sight: &Sight) -> bool
     ensures { result ≡ cases.has_stores sight.now }
 {
     sight.stores > 0

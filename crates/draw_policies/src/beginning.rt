@@ -53,7 +53,7 @@ fn place_of_other(out: Option<usize>, place: usize) -> usize
 /// The thread that a word lets run on an idle hart, of these that may; None exactly where there is none.
 ///
 /// Each is as likely as the next, but the one that ran there last doesn't come where there are others.
-pub fn thread_to_run(threads: &[u32], last: Option<Tid>, word: Word) -> Option<Tid>
+pub(crate) fn thread_to_run(threads: &[u32], last: Option<Tid>, word: Word) -> Option<Tid>
     ensures { result ≡ beginning.thread_to_run threads.now last word.0 }
 {
     let out = left_out(threads, last);

@@ -1,10 +1,8 @@
 //! Which event comes next in a run that is drawn from a seed: the rules of the policies, each for one hart.
 //!
-//! The policies and their weights are own; priorities follow partial order sampling (Yuan, Yang and Gu,
-//! "Partial Order Aware Concurrency Sampling", 2018). Nothing here takes memory.
+//! The policies and their weights are own. Nothing here takes memory.
 #![tactic(auto)]
 
-mod accesses;
 mod acting;
 mod aims;
 mod beginning;
@@ -14,10 +12,7 @@ mod theorems;
 mod turns;
 mod words;
 
-pub use accesses::{Access, access_of_effect, access_of_store, race};
-pub use acting::has_stores;
 pub use aims::{Aim, still_due};
-pub use beginning::thread_to_run;
 pub use outcome_keys::OutcomeKey;
 pub use policies::{Policies, Policy, Weights};
 pub use theorems::{own_signals_come_first, turn_is_allowed, turns_come};

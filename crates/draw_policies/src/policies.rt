@@ -8,12 +8,12 @@ ghost use Rattle.draw_policies.specs.Policies.{policies_of_word, policy_for, pol
 pub enum Policy {
     /// All threads on one hart, unless their affinities forbid it.
     One,
-    /// A hart goes on for long.
-    Long,
+    /// A hart goes on for a stretch, and each stretch is as likely short as long; others wait meanwhile.
+    Stretch,
     /// A hart goes on for a short while.
     Short,
-    /// By priorities of the harts and of their oldest stores.
-    Pos,
+    /// The same with longer stretches, so that a hart may stand still for very long.
+    Stall,
     /// Each event on any hart.
     Spread,
     /// Nothing is drawn: a hart goes on for as long as it can, then the first that can.
@@ -39,9 +39,9 @@ impl Policies {
         match word {
             "all" => Some(Policies::All),
             "one" => Some(Policies::Only(Policy::One)),
-            "long" => Some(Policies::Only(Policy::Long)),
+            "stretch" => Some(Policies::Only(Policy::Stretch)),
             "short" => Some(Policies::Only(Policy::Short)),
-            "pos" => Some(Policies::Only(Policy::Pos)),
+            "stall" => Some(Policies::Only(Policy::Stall)),
             "spread" => Some(Policies::Only(Policy::Spread)),
             "rule" => Some(Policies::Only(Policy::Rule)),
             _ => None,
@@ -62,8 +62,10 @@ impl Policies {
 /// How often something is done that could be, in thousandths of the words that are drawn, 0 to 1000.
 #[derive(Clone, Copy, Drop)]
 pub struct Weights {
-    /// The hart of the last event goes on.
-    pub stay: u16,
+    /// The stretch goes on: one of these four for each stretch.
+    pub stays: [u16; 4],
+    /// Whether a stretch belongs to its hart until it ends, also while that hart can't act.
+    pub lasting: bool,
     /// The thread leaves its hart.
     pub preempt: u16,
     /// The oldest waiting store enters memory.
@@ -76,22 +78,20 @@ pub struct Weights {
     pub credit: u16,
     /// Whether hart 0 alone is open.
     pub alone: bool,
-    /// Whether priorities say which hart or store comes next.
-    pub by_priority: bool,
     /// Whether words are drawn; else the word 0 stands for each.
     pub draws: bool,
 }
 
-/// The weights of most policies, but for the first three.
+/// The weights of most policies, but for the stays, `preempt` and `drain`.
 const MOST: Weights = Weights {
-    stay: 0,
+    stays: [0; 4],
+    lasting: false,
     preempt: 0,
     drain: 0,
     take: 50,
     signal: 50,
     credit: 256,
     alone: false,
-    by_priority: false,
     draws: true,
 };
 
@@ -106,27 +106,34 @@ const ONE: Weights = Weights {
     ..MOST
 };
 
-/// The weights of [`Policy::Long`].
-const LONG: Weights = Weights {
-    stay: 970,
-    preempt: 30,
-    drain: 60,
+/// The weights of the policies whose stretches differ in length, but for the stays and `preempt`.
+const STRETCHED: Weights = Weights {
+    lasting: true,
+    drain: 20,
+    take: 1000,
     ..MOST
+};
+
+/// The weights of [`Policy::Stretch`].
+const STRETCH: Weights = Weights {
+    stays: [0, 800, 970, 997],
+    preempt: 30,
+    ..STRETCHED
 };
 
 /// The weights of [`Policy::Short`].
 const SHORT: Weights = Weights {
-    stay: 800,
+    stays: [800; 4],
     preempt: 10,
     drain: 30,
     ..MOST
 };
 
-/// The weights of [`Policy::Pos`].
-const POS: Weights = Weights {
-    preempt: 30,
-    by_priority: true,
-    ..MOST
+/// The weights of [`Policy::Stall`].
+const STALL: Weights = Weights {
+    stays: [0, 900, 990, 999],
+    preempt: 20,
+    ..STRETCHED
 };
 
 /// The weights of [`Policy::Spread`].
@@ -138,7 +145,7 @@ const SPREAD: Weights = Weights {
 
 /// The weights of [`Policy::Rule`].
 const RULE: Weights = Weights {
-    stay: 1000,
+    stays: [1000; 4],
     take: 1000,
     signal: 1000,
     credit: 0,
@@ -148,7 +155,7 @@ const RULE: Weights = Weights {
 
 /// The weights of [`Policy::Fair`].
 const FAIR: Weights = Weights {
-    stay: 969,
+    stays: [969; 4],
     preempt: 8,
     drain: 1000,
     take: 1000,
@@ -166,11 +173,11 @@ impl Policy {
         if place == 0 {
             Policy::One
         } else if place == 1 {
-            Policy::Long
+            Policy::Stretch
         } else if place == 2 {
             Policy::Short
         } else if place == 3 {
-            Policy::Pos
+            Policy::Stall
         } else {
             Policy::Spread
         }
@@ -182,9 +189,9 @@ impl Policy {
     {
         match self {
             Policy::One => "one",
-            Policy::Long => "long",
+            Policy::Stretch => "stretch",
             Policy::Short => "short",
-            Policy::Pos => "pos",
+            Policy::Stall => "stall",
             Policy::Spread => "spread",
             Policy::Rule => "rule",
             Policy::Fair => "fair",
@@ -197,9 +204,9 @@ impl Policy {
     {
         match self {
             Policy::One => &ONE,
-            Policy::Long => &LONG,
+            Policy::Stretch => &STRETCH,
             Policy::Short => &SHORT,
-            Policy::Pos => &POS,
+            Policy::Stall => &STALL,
             Policy::Spread => &SPREAD,
             Policy::Rule => &RULE,
             Policy::Fair => &FAIR,

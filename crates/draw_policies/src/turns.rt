@@ -87,8 +87,7 @@ fn barrier_turn(weights: &Weights, sight: &Sight) -> Turn
 fn takes_by(word: Word, weights: &Weights, sight: &Sight) -> bool
     ensures { result ≡ turns.takes_by word.0 weights.now sight.now }
 {
-    sight.requested
-        && (word.interrupt() < weights.take || (weights.by_priority && !has_stores(sight)))
+    sight.requested && word.interrupt() < weights.take
 }
 
 /// Whether it means to let a signal be delivered.

@@ -8,7 +8,7 @@ ghost use Rattle.draw_policies.specs.Words as words;
 pub struct Word(pub u64);
 
 impl Word {
-    /// Its lowest three digits, for whether the hart of the last event goes on.
+    /// Its lowest three digits, for whether the stretch goes on.
     pub fn stay(self) -> u16
         ensures { result ≡ words.stay_of self.0 }
     {
@@ -16,21 +16,21 @@ impl Word {
     }
 
     /// The next three, for whether a thread leaves its hart.
-    pub fn preempt(self) -> u16
+    pub(crate) fn preempt(self) -> u16
         ensures { result ≡ words.preempt_of self.0 }
     {
         (self.0 / 1_000 % 1_000) as u16
     }
 
     /// The next three, for whether a waiting store enters memory.
-    pub fn drain(self) -> u16
+    pub(crate) fn drain(self) -> u16
         ensures { result ≡ words.drain_of self.0 }
     {
         (self.0 / 1_000_000 % 1_000) as u16
     }
 
     /// The next three, for whether a thread is interrupted.
-    pub fn interrupt(self) -> u16
+    pub(crate) fn interrupt(self) -> u16
         ensures { result ≡ words.interrupt_of self.0 }
     {
         (self.0 / 1_000_000_000 % 1_000) as u16
@@ -47,7 +47,7 @@ impl Word {
     }
 
     /// A place among so many threads, by the same digits divided by 840, which 1 to 8 divide; 0 among none.
-    pub fn thread_place(self, count: usize) -> usize
+    pub(crate) fn thread_place(self, count: usize) -> usize
         ensures place { result ≡ words.thread_place self.0 count }
         ensures small { result < 32768 }
     {
@@ -55,5 +55,13 @@ impl Word {
             return 0;
         }
         (self.0 / 840_000_000_000_000 % count as u64) as usize
+    }
+
+    /// Which of the four stays a new stretch has, by the same digits divided by 60,480: 0 to 3.
+    pub fn stretch(self) -> u8
+        ensures stretch { result ≡ words.stretch_of self.0 }
+        ensures small { result < 4 }
+    {
+        (self.0 / 60_480_000_000_000_000 % 4) as u8
     }
 }

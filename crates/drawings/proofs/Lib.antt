@@ -1,8 +1,8 @@
-mod Actors
 mod Draws
 mod Examples
 pub mod Laws
 mod OwnSignals
 mod Passing
 mod Shapes
+mod Stretches
 mod TurnSights

@@ -1,23 +1,22 @@
 -- A hart that means to let a signal be delivered, where one can be, does so next, once no store of it waits; and it means so behind each
 -- event by which it goes to its kernel.
-use Rattle.std.proofs.Common.{◌≡◌, ◌≢◌, inl, inr, ℕ, ◌<◌, Bool, true, false, not, ◌&&◌, cond, eqb, ltb, get_or, set, List, length, Option, Some, None, refl, sym, ap, ◌∙◌, subst}
+use Rattle.std.proofs.Common.{◌≡◌, inl, inr, ℕ, ◌<◌, Bool, true, false, not, ◌&&◌, cond, eqb, ltb, get_or, set, List, length, Option, Some, None, refl, sym, ap, ◌∙◌, subst}
 use Rattle.std.specs.Prelude.{is_none}
 use Rattle.std.proofs.lemmas.Bool.{and_parts, cases_eq, false≢true}
 use Rattle.std.proofs.lemmas.List.{get_or-set_other, get_or-set_same, length-set}
 use Rattle.mach_types.specs.declared.events.Choice.TheVariants as asked
-use Rattle.chooser.specs.Cases.{emptied_before, has_stores}
+use Rattle.chooser.specs.Cases.{emptied_before}
 use Rattle.draw_policies.specs.Aims.{still_due}
 use Rattle.draw_policies.specs.OwnSignals.{IsDeliverable, comes_back}
 use Rattle.draw_policies.specs.Turns.{turn}
 use Rattle.draw_policies.specs.declared.aims.Aim.{Aim}
 use Rattle.draw_policies.specs.declared.aims.Aim.TheVariants as means
-use Rattle.draw_policies.specs.declared.turns.Turn.{Turn}
 use Rattle.draw_policies.proofs.Laws.{signal-drains, signal-meant, signal-next}
-use Rattle.drawings.specs.Drawings.{Drawn, IsFor, aim_behind, aim_of, current, draw, goes_on, kept_after, settled_for, turn_at}
+use Rattle.drawings.specs.Drawings.{Drawn, IsFor, aim_behind, aim_of, current, draw, goes_on, kept_after, settled_for}
 use Rattle.drawings.specs.Scenes.{Scene, startable}
 use Rattle.drawings.specs.declared.drawing.Drawing.{Drawing}
 use Rattle.drawings.proofs.Draws.{draw-ready}
-use Rattle.drawings.proofs.Shapes.{ByStore, ByTurn, IsDrawnBy, OnCredit, draw-shape}
+use Rattle.drawings.proofs.Shapes.{ByTurn, IsDrawnBy, OnCredit, draw-shape}
 
 -- a hart that means it goes on by no credit
 due_again : (due : Bool) → due ≡ true → cond due (Some means.Signal) None ≡ Some means.Signal
@@ -37,20 +36,15 @@ no_credit scene d is can goes =
     false≢true (sym (ap is_none (still_meant scene d.last.0 (aim_of d d.last.0) is can)) ∙ nothing)
 
 -- so it does it, once no store of it waits
-emptied : (stores : Bool) → stores ≡ true → asked.Drain ≡ cond stores asked.Drain asked.Signal
-emptied true is = refl
-emptied false is = absurd (false≢true is)
-
 next_by : (scene : Scene) (d : Drawing) (x : Drawn) → aim_of d x.hart ≡ Some means.Signal → IsDeliverable (scene.sight x.hart)
     → IsDrawnBy scene d x → x.choice ≡ emptied_before (scene.sight x.hart) asked.Signal
 next_by scene d x is can (OnCredit goes) = absurd (no_credit scene d is can.some goes)
-next_by scene d x is can (ByTurn h w lots t e) =
+next_by scene d x is can (ByTurn h w t e) =
     signal-next (current d) (scene.sight h) (scene.traps h) (startable d.opened h scene.scheduling) (get_or d.ran h None) w t can
     (ap
     (λ (a : Option Aim). turn (current d) (scene.sight h) (scene.traps h) (startable d.opened h scene.scheduling) (get_or d.ran h None)
     a w)
     (sym is) ∙ e)
-next_by scene d x is can (ByStore h lots some) = emptied (has_stores (scene.sight h)) some
 
 pub draw-signal : (scene : Scene) (d : Drawing) (x : Drawn) → aim_of d x.hart ≡ Some means.Signal
     → IsDeliverable (scene.sight x.hart) → draw scene d ≡ Some x → x.choice ≡ emptied_before (scene.sight x.hart) asked.Signal
@@ -68,11 +62,10 @@ behind_by : (scene : Scene) (d : Drawing) (x : Drawn) → x.hart < length d.aims
     → (scene.traps d.last.0 ≡ true → goes_on scene d ≡ false)
     → comes_back (scene.traps x.hart) x.choice ≡ true → IsDrawnBy scene d x → aim_of x.after x.hart ≡ Some means.Signal
 behind_by scene d x within apart back (OnCredit goes) = absurd (false≢true (sym (apart back) ∙ goes))
-behind_by scene d x within apart back (ByTurn h w lots t e) =
+behind_by scene d x within apart back (ByTurn h w t e) =
     get_or-set_same (settled_for h scene d).aims h t.aim None (subst (λ (n : ℕ). h < n) (sym (settled_length scene d h)) within)
     ∙ signal-meant (current d) (scene.sight h) (scene.traps h) (startable d.opened h scene.scheduling) (get_or d.ran h None)
     (aim_of d h) w t e back
-behind_by scene d x within apart back (ByStore h lots some) = absurd (false≢true back)
 
 pub draw-behind : (scene : Scene) (d : Drawing) (x : Drawn) → x.hart < length d.aims
     → (scene.traps d.last.0 ≡ true → goes_on scene d ≡ false)
@@ -115,7 +108,7 @@ kept_by scene d x h within also is can drains (OnCredit goes) =
     set_means d.aims h d.last.0 None also is
     (λ same. absurd (no_credit scene d (subst (λ (k : ℕ). aim_of d k ≡ Some means.Signal) (sym same) is)
     (subst (λ (k : ℕ). (scene.sight k).deliverable ≡ true) (sym same) can) goes))
-kept_by scene d x h within also is can drains (ByTurn k w lots t e) =
+kept_by scene d x h within also is can drains (ByTurn k w t e) =
     set_means (settled_for k scene d).aims h k t.aim (subst (λ (n : ℕ). k < n) (sym (settled_length scene d k)) also)
     (settled_for_means scene d h k within is can)
     (λ same.
@@ -127,10 +120,6 @@ kept_by scene d x h within also is can drains (ByTurn k w lots t e) =
     a w)
     (sym own) ∙ e)
     (drains same))
-kept_by scene d x h within also is can drains (ByStore k lots some) =
-    set_means (settled_for k scene d).aims h k (aim_of d k) (subst (λ (n : ℕ). k < n) (sym (settled_length scene d k)) also)
-    (settled_for_means scene d h k within is can)
-    (λ same. subst (λ (i : ℕ). aim_of d i ≡ Some means.Signal) (sym same) is)
 
 pub draw-keeps : (scene : Scene) (d : Drawing) (x : Drawn) (h : ℕ) → h < length d.aims → x.hart < length d.aims
     → aim_of d h ≡ Some means.Signal → (scene.sight h).deliverable ≡ true → (x.hart ≡ h → x.choice ≡ asked.Drain)
@@ -140,10 +129,8 @@ draw-keeps scene d x h within also is can drains e = kept_by scene d x h within 
 -- there are as many aims as before
 length_by : (scene : Scene) (d : Drawing) (x : Drawn) → IsDrawnBy scene d x → length x.after.aims ≡ length d.aims
 length_by scene d x (OnCredit goes) = length-set d.aims d.last.0 None
-length_by scene d x (ByTurn h w lots t e) =
+length_by scene d x (ByTurn h w t e) =
     length-set (settled_for h scene d).aims h t.aim ∙ settled_length scene d h
-length_by scene d x (ByStore h lots some) =
-    length-set (settled_for h scene d).aims h (aim_of d h) ∙ settled_length scene d h
 
 pub draw-aims : (scene : Scene) (d : Drawing) (x : Drawn) → draw scene d ≡ Some x → length x.after.aims ≡ length d.aims
 draw-aims scene d x e = length_by scene d x (draw-shape scene d x e)
@@ -151,8 +138,7 @@ draw-aims scene d x e = length_by scene d x (draw-shape scene d x e)
 -- the hart of an event is the last one then
 shape_last : (scene : Scene) (d : Drawing) (x : Drawn) → IsDrawnBy scene d x → x.after.last.0 ≡ x.hart
 shape_last scene d x (OnCredit goes) = refl
-shape_last scene d x (ByTurn h w lots t e) = refl
-shape_last scene d x (ByStore h lots some) = refl
+shape_last scene d x (ByTurn h w t e) = refl
 
 pub draw-within : (scene : Scene) (d : Drawing) (x : Drawn) → IsFor scene.harts d → draw scene d ≡ Some x → x.hart < scene.harts
 draw-within scene d x ready e =

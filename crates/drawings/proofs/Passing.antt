@@ -1,10 +1,9 @@
--- The numbers below n that pass a test, and the leader among them: each passes and is below n, and there is one where one passes.
-use Rattle.std.proofs.Common.{◌≡◌, ℕ, zero, suc, ◌<◌, Bool, true, false, cond, ltb, List, [], ◌∷◌, ◌++◌, get_or, length, length-append, Option, Some, None, refl, sym, subst, ◌∙◌, arith}
-use Rattle.std.specs.Prelude.{All, IfSome, IsSome, slice_get, slice_index}
-use Rattle.std.proofs.lemmas.Bool.{false≢true, ltb-false, ltb-true}
+-- The numbers below n that pass a test: each passes and is below n, and there is one where one passes.
+use Rattle.std.proofs.Common.{◌≡◌, ℕ, zero, suc, ◌<◌, Bool, true, false, cond, ltb, List, [], ◌∷◌, ◌++◌, get_or, length, length-append, Option, Some, None, refl, sym, subst, arith}
+use Rattle.std.specs.Prelude.{All, IfSome, slice_get}
+use Rattle.std.proofs.lemmas.Bool.{ltb-false, ltb-true}
 use Rattle.std.proofs.lemmas.List.Elements.{All-append, All-push}
 use Rattle.std.proofs.lemmas.Option.{get_or_from_slice_get, slice_get_within}
-use Rattle.drawings.specs.Priorities.{higher, leader}
 use Rattle.drawings.specs.Scenes.{passing}
 
 abbrev pub Passes : (ℕ → Bool) → ℕ → ℕ → Type 0
@@ -55,36 +54,3 @@ pub passing_some : (test : ℕ → Bool) (n h : ℕ) → h < n → test h ≡ tr
 passing_some test zero h below is = absurd (omega arith)
 passing_some test (suc n) h below is =
     some_more test n h (ltb h n) refl below is (λ under. passing_some test n h under is)
-
--- the leader
-leader_more : (test : ℕ → Bool) (lots : List ℕ) (n : ℕ) (o : Option ℕ) (b : Bool) → test n ≡ b → PassesIfSome test n o
-    → PassesIfSome test (suc n) (cond b (Some (higher lots o n)) o)
-leader_more test lots n None true is before = (omega arith, is)
-leader_more test lots n (Some a) true is before = go (ltb (slice_index lots a) (slice_index lots n))
-  where
-    go : (c : Bool) → PassesIfSome test (suc n) (Some (cond c n a))
-    go true = (omega arith, is)
-    go false = let below : a < n = before.0 in (omega arith, before.1)
-leader_more test lots n None false is before = tt
-leader_more test lots n (Some a) false is before = let below : a < n = before.0 in (omega arith, before.1)
-
-pub leader_passes : (test : ℕ → Bool) (lots : List ℕ) (n : ℕ) → PassesIfSome test n (leader test lots n)
-leader_passes test lots zero = tt
-leader_passes test lots (suc n) = leader_more test lots n (leader test lots n) (test n) refl (leader_passes test lots n)
-
-other_below : (test : ℕ → Bool) (n h : ℕ) (b : Bool) → ltb h n ≡ b → test n ≡ false → h < suc n → test h ≡ true → h < n
-other_below test n h true e fails below is = ltb-true h n e
-other_below test n h false e fails below is =
-    let above = ltb-false h n e in
-    let same : h ≡ n = omega (arith, above) in
-    absurd (false≢true (sym fails ∙ subst (λ (m : ℕ). test m ≡ true) same is))
-
-leads_more : (test : ℕ → Bool) (lots : List ℕ) (n h : ℕ) (b : Bool) → test n ≡ b → h < suc n → test h ≡ true
-    → (h < n → IsSome (leader test lots n)) → IsSome (cond b (Some (higher lots (leader test lots n) n)) (leader test lots n))
-leads_more test lots n h true fails below is before = refl
-leads_more test lots n h false fails below is before = before (other_below test n h (ltb h n) refl fails below is)
-
-pub leader_some : (test : ℕ → Bool) (lots : List ℕ) (n h : ℕ) → h < n → test h ≡ true → IsSome (leader test lots n)
-leader_some test lots zero h below is = absurd (omega arith)
-leader_some test lots (suc n) h below is =
-    leads_more test lots n h (test n) refl below is (λ under. leader_some test lots n h under is)

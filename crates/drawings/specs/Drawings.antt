@@ -1,6 +1,7 @@
--- The drawing of events (own): what is kept between them, and the next one. The hart of the next event is the last one's by its
--- credit; or else the last one's by the word, where it can act; or else any that can, each as likely as the next. What it does is its
--- turn by the same word.
+-- The drawing of events (own): what is kept between them, and the next one. Decisions come in stretches: a stretch has an owner, the
+-- hart that goes on while it lasts, and one of the four stays of the policy, by which each word says whether it goes on. The hart of the
+-- next event is the last one's by its credit; or else, where the stretch goes on, its owner where that can act; or else any that can,
+-- each as likely as the next. What the hart does is its turn by the same word.
 use Rattle.std.specs.Prelude.{ℕ, ◌-◌, ◌<◌, ◌≤◌, ◌==◌, ◌&&◌, Bool, not, List, length, Option, Some, None, if◌then◌else◌, is_none, nat_lt, slice_get, slice_index_or, slice_set}
 use Rattle.std.specs.Option.{option_and_then, option_map, option_map_or}
 use Rattle.mach_types.specs.Events.{begun_by}
@@ -10,17 +11,15 @@ use Rattle.mach_types.specs.declared.events.Tid.{Tid}
 use Rattle.chooser.specs.Generators.{Generator, next_generator, word}
 use Rattle.draw_policies.specs.Aims.{still_due}
 use Rattle.draw_policies.specs.Policies.{weights_of}
-use Rattle.draw_policies.specs.Turns.{draining, turn}
-use Rattle.draw_policies.specs.Words.{hart_place, stay_of}
+use Rattle.draw_policies.specs.Turns.{turn}
+use Rattle.draw_policies.specs.Words.{hart_place, stay_of, stretch_of}
 use Rattle.draw_policies.specs.declared.aims.Aim.{Aim}
 use Rattle.draw_policies.specs.declared.policies.Policy.TheVariants as policy
 use Rattle.draw_policies.specs.declared.policies.Weights.{Weights}
 use Rattle.draw_policies.specs.declared.turns.Turn.{Turn}
-use Rattle.drawings.specs.Priorities.{access_by, actors, all_drawn, hart_of, is_drawn_anew, is_enabled, is_hart, leader}
 use Rattle.drawings.specs.Scenes.{Scene, able, is_able, startable}
 use Rattle.drawings.specs.declared.drawing.Drawing.{Drawing}
 use Rattle.drawings.specs.declared.drawing.DrawnEvent.{DrawnEvent}
-use Rattle.drawings.specs.declared.priorities.Lots.{Lots}
 
 -- a drawn event, and what is kept after it
 pub record Drawn : Type 0 where
@@ -73,75 +72,64 @@ turn_at scene d h w =
 abbrev pub ran_after : ℕ → Choice → List (Option Tid) → List (Option Tid)
 ran_after h c ran = option_map_or (λ (t : Tid). slice_set ran h (Some t)) (begun_by c) ran
 
--- a turn of hart h, and what is kept after it with these priorities and this generator
-abbrev pub after_turn : ℕ → Turn → Lots → Drawing → Drawing
-after_turn h t lots d = record d {
+-- a turn of hart h, and what is kept after it
+abbrev pub after_turn : ℕ → Turn → Drawing → Drawing
+after_turn h t d = record d {
   left = d.left - 1;
   last = record { 0 = h };
   credit = t.credit;
   aims = slice_set d.aims h t.aim;
   ran = ran_after h t.choice d.ran;
-  lots = lots;
 }
 
-abbrev pub drawn_of : ℕ → Lots → Drawing → Turn → Drawn
-drawn_of h lots d t = record { hart = h; choice = t.choice; after = after_turn h t lots d }
+abbrev pub drawn_of : ℕ → Drawing → Turn → Drawn
+drawn_of h d t = record { hart = h; choice = t.choice; after = after_turn h t d }
 
--- the word that decides: the next of the generator, or 0 where the policy draws none
+-- the word that decides: the next of the generator, or 0 where the policy draws none; and the generator after that word
 abbrev pub next_word : Drawing → ℕ
-next_word d = if (current d).draws then word d.lots.generator else 0
+next_word d = if (current d).draws then word d.generator else 0
 
--- by a word: whether the last hart goes on, and which hart acts
-abbrev pub stays : Scene → Drawing → ℕ → Bool
-stays scene d w = nat_lt (stay_of w) (current d).stay && is_able scene d.opened d.last.0
+abbrev pub generator_after : Drawing → Generator
+generator_after d = if (current d).draws then next_generator d.generator else d.generator
 
+-- by a word: whether the stretch goes on, and whether its owner acts
+abbrev pub continues : Drawing → ℕ → Bool
+continues d w = nat_lt (stay_of w) (slice_index_or (current d).stays d.stretch 0)
+
+abbrev pub owner_acts : Scene → Drawing → ℕ → Bool
+owner_acts scene d w = continues d w && is_able scene d.opened d.owner.0
+
+-- which hart acts
 abbrev pub hart_by_word : Scene → Drawing → ℕ → Option ℕ
 hart_by_word scene d w =
-    if stays scene d w then Some d.last.0
+    if owner_acts scene d w then Some d.owner.0
     else slice_get (able scene d.opened) (hart_place w (length (able scene d.opened)))
 
--- the priorities as they are, and the generator after that word
-abbrev pub generator_after : Drawing → Generator
-generator_after d = if (current d).draws then next_generator d.lots.generator else d.lots.generator
+-- whose the stretch is behind an event of hart h by that word: a lasting one that goes on remains its owner's, whoever acts; else it is
+-- the hart's that acts
+abbrev pub owner_after : ℕ → ℕ → Drawing → ℕ
+owner_after h w d = if continues d w && (current d).lasting then d.owner.0 else h
 
-abbrev pub after_word : Drawing → Lots
-after_word d = record d.lots { generator = generator_after d }
+-- and which of the four stays it has: a new stretch has one by the word
+abbrev pub stretch_after : ℕ → Drawing → ℕ
+stretch_after w d = if continues d w then d.stretch else stretch_of w
+
+abbrev pub after_word : ℕ → ℕ → Drawing → Drawing
+after_word h w d = record d {
+  owner = record { 0 = owner_after h w d };
+  stretch = stretch_after w d;
+  generator = generator_after d;
+}
 
 abbrev pub drawn_by_word : Scene → Drawing → Option Drawn
 drawn_by_word scene d =
     let w = next_word d in
-    option_and_then (λ h. option_map (drawn_of h (after_word d) (settled_for h scene d)) (turn_at scene d h w)) (hart_by_word scene d w)
-
--- by priorities: the leader acts, a hart by a word, a store without one; then it and those whose next access races with its own get
--- new priorities
-abbrev pub lots_after : Scene → ℕ → ℕ → Choice → Lots → Lots
-lots_after scene actor h c lots = all_drawn (is_drawn_anew scene actor (access_by scene h c)) (actors scene.harts) lots
-
-abbrev pub drawn_by_hart : Scene → Drawing → ℕ → Option Drawn
-drawn_by_hart scene d actor =
-    let h = hart_of actor in
-    option_map (λ (t : Turn). drawn_of h (lots_after scene actor h t.choice (after_word d)) (settled_for h scene d) t)
-    (turn_at scene d h (next_word d))
-
-abbrev pub drawn_by_store : Scene → Drawing → ℕ → Drawn
-drawn_by_store scene d actor =
-    let h = hart_of actor in
-    drawn_of h (lots_after scene actor h asked.Drain d.lots) (settled_for h scene d) (draining (aim_of d h))
-
-abbrev pub drawn_by_actor : Scene → Drawing → ℕ → Option Drawn
-drawn_by_actor scene d actor =
-    if is_hart actor then drawn_by_hart scene d actor else Some (drawn_by_store scene d actor)
-
-abbrev pub drawn_by_priority : Scene → Drawing → Option Drawn
-drawn_by_priority scene d =
-    option_and_then (drawn_by_actor scene d) (leader (is_enabled scene d.opened d.aims) d.lots.priorities (actors scene.harts))
+    option_and_then (λ h. option_map (drawn_of h (after_word h w (settled_for h scene d))) (turn_at scene d h w)) (hart_by_word scene d w)
 
 -- the next event, where there is one
 unfoldable pub draw : Scene → Drawing → Option Drawn
 draw scene d =
-    if goes_on scene d then Some (on_credit d)
-    else if (current d).by_priority then drawn_by_priority scene d
-    else drawn_by_word scene d
+    if goes_on scene d then Some (on_credit d) else drawn_by_word scene d
 
 -- the event that is drawn, and what is kept after the draw
 abbrev pub event_of : Drawn → DrawnEvent
@@ -151,8 +139,10 @@ abbrev pub kept_after : Option Drawn → Drawing → Drawing
 kept_after None d = d
 kept_after (Some x) d = x.after
 
--- a machine has so many harts, 8 at most, and the harts that a drawing speaks of are among them
+-- a machine has so many harts, 8 at most, and the harts that a drawing speaks of are among them; and the stretch has one of four stays
 pub record IsFor (harts : ℕ) (d : Drawing) : Type 0 where
   pub few : harts ≤ 8
   pub last : d.last.0 < harts
+  pub owner : d.owner.0 < harts
+  pub stretch : d.stretch < 4
   pub opened : d.opened ≤ 8

@@ -1,20 +1,16 @@
 -- What a policy sees of the harts of a machine at a place (own), and which of them can make an event.
-use Rattle.std.specs.Prelude.{ℕ, zero, suc, ◌%◌, ◌^◌, ◌==◌, ◌&&◌, ◌||◌, Bool, false, List, [], ◌∷◌, ◌++◌, filter, length, Option, None, if◌then◌else◌, nat_lt}
+use Rattle.std.specs.Prelude.{ℕ, zero, suc, ◌%◌, ◌^◌, ◌==◌, ◌&&◌, ◌||◌, Bool, false, List, [], ◌∷◌, ◌++◌, filter, length, None, if◌then◌else◌, nat_lt}
 use Rattle.mach_types.specs.Kernel.Scheduling.{Scheduling, affinity_of, has_hart}
 use Rattle.mach_types.specs.declared.events.Sight.{Sight}
 use Rattle.draw_policies.specs.Acting.{can_act}
-use Rattle.draw_policies.specs.declared.accesses.Access.{Access}
 
 -- how many harts there are; of each hart what a scheduler sees of it, whether its thread is inside a good restartable sequence as
--- the hart sees memory, whether its next instruction traps, what that accesses, and what its oldest waiting store does; and the ready
--- threads with the affinities
+-- the hart sees memory, and whether its next instruction traps; and the ready threads with the affinities
 pub record Scene : Type 0 where
   pub harts : ℕ
   pub sight : ℕ → Sight
   pub is_inside : ℕ → Bool
   pub traps : ℕ → Bool
-  pub next_access : ℕ → Option Access
-  pub oldest_store : ℕ → Option Access
   pub scheduling : Scheduling
 
 -- what the turn of a hart goes by, of all that a scheduler sees of it: nothing else is told

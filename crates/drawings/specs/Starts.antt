@@ -1,12 +1,10 @@
--- How a drawing begins (own): one generator, seeded as that of hart 0 of `run`; then how many harts are open, and the priorities,
--- each by a word where one is needed.
-use Rattle.std.specs.Prelude.{ℕ, ◌+◌, ◌-◌, ◌%◌, ◌&&◌, Bool, not, true, None, if◌then◌else◌, nat_lt, replicate}
+-- How a drawing begins (own): one generator, seeded as that of hart 0 of `run`; then how many harts are open, by a word where one is
+-- needed; and the first stretch is hart 0's, and has the first of the four stays.
+use Rattle.std.specs.Prelude.{ℕ, ◌+◌, ◌-◌, ◌%◌, ◌&&◌, Bool, not, None, if◌then◌else◌, nat_lt, replicate}
 use Rattle.chooser.specs.Generators.{Generator, first_generator, next_generator, word}
 use Rattle.draw_policies.specs.Policies.{weights_of}
 use Rattle.draw_policies.specs.declared.policies.Policy.{Policy}
-use Rattle.drawings.specs.Priorities.{actors, all_drawn}
 use Rattle.drawings.specs.declared.drawing.Drawing.{Drawing}
-use Rattle.drawings.specs.declared.priorities.Lots.{Lots}
 
 -- whether a word says how many harts are open
 abbrev pub opens_by_word : Policy → ℕ → Bool
@@ -23,14 +21,6 @@ first_open policy harts g = if opens_by_word policy harts then 2 + word g % (har
 abbrev pub after_open : Policy → ℕ → Generator → Generator
 after_open policy harts g = if opens_by_word policy harts then next_generator g else g
 
--- no priority yet; and then a word for each actor, where the policy goes by priorities
-abbrev pub no_lots : Generator → Lots
-no_lots g = record { priorities = replicate 16 0; generator = g }
-
-abbrev pub first_lots : Policy → ℕ → Generator → Lots
-first_lots policy harts g =
-    if (weights_of policy).by_priority then all_drawn (λ actor. true) (actors harts) (no_lots g) else no_lots g
-
 -- the start, for a machine of so many harts, of a run that goes on fairly after so many events
 abbrev pub start : Policy → ℕ → ℕ → ℕ → Drawing
 start policy harts seed left =
@@ -40,8 +30,10 @@ start policy harts seed left =
       left = left;
       opened = first_open policy harts g;
       last = record { 0 = 0 };
+      owner = record { 0 = 0 };
+      stretch = 0;
       credit = 0;
       aims = replicate 8 None;
       ran = replicate 8 None;
-      lots = first_lots policy harts (after_open policy harts g);
+      generator = after_open policy harts g;
     }

@@ -6,9 +6,9 @@ ghost use Rattle.drawings.specs.Drawings as drawings;
 ghost use Rattle.drawings.specs.Scenes.{is_able, startable};
 
 use crate::harts::{Harts, able_by_word};
-use crate::priorities::Lots;
 use draw_policies::{Aim, Policy, Turn, Weights, Word, turn_of};
 use mach_types::{Choice, Hart, Sight, Tid};
+use rand_xoshiro::Xoshiro256PlusPlus;
 
 /// A drawn event.
 #[derive(Clone, Copy, Drop)]
@@ -30,14 +30,18 @@ pub struct Drawing {
     pub opened: u8,
     /// The hart of the last event; hart 0 at the start.
     pub last: Hart,
-    /// How many register-only instructions of that hart may follow without a word.
+    /// The owner of the stretch: the hart that goes on while it lasts; hart 0 at the start.
+    pub owner: Hart,
+    /// Which of the policy's four stays the stretch has, 0 to 3.
+    pub stretch: u8,
+    /// How many register-only instructions of the last event's hart may follow without a word.
     pub credit: u16,
     /// What each hart means to do.
     pub aims: [Option<Aim>; 8],
     /// The thread that ran last on each hart.
     pub ran: [Option<Tid>; 8],
-    /// The generator, and the priorities.
-    pub lots: Lots,
+    /// The generator of all words.
+    pub generator: Xoshiro256PlusPlus,
 }
 
 impl Drawing {
@@ -95,12 +99,20 @@ impl Drawing {
         }
     }
 
-    /// Whether the last hart goes on by a word.
-    fn stays<H: Harts>(&self, harts: &H, word: Word) -> bool
-        requires { drawings.IsFor (H.scene harts.now).harts self.now }
-        ensures { result ≡ drawings.stays (H.scene harts.now) self.now word.0 }
+    /// Whether the stretch goes on by a word.
+    fn continues(&self, word: Word) -> bool
+        requires { self.now.stretch < 4 }
+        ensures { result ≡ drawings.continues self.now word.0 }
     {
-        word.stay() < self.weights().stay && harts.is_able(self.last, self.opened)
+        word.stay() < self.weights().stays[self.stretch as usize]
+    }
+
+    /// Whether it goes on by a word, and its owner acts.
+    fn owner_acts<H: Harts>(&self, harts: &H, word: Word) -> bool
+        requires { drawings.IsFor (H.scene harts.now).harts self.now }
+        ensures { result ≡ drawings.owner_acts (H.scene harts.now) self.now word.0 }
+    {
+        self.continues(word) && harts.is_able(self.owner, self.opened)
     }
 
     /// The hart that acts by a word; None exactly where none can.
@@ -108,8 +120,8 @@ impl Drawing {
         requires { drawings.IsFor (H.scene harts.now).harts self.now }
         ensures { result ≡ drawings.hart_by_word (H.scene harts.now) self.now word.0 }
     {
-        if self.stays(harts, word) {
-            Some(self.last.0)
+        if self.owner_acts(harts, word) {
+            Some(self.owner.0)
         } else {
             able_by_word(harts, self.opened, word)
         }
@@ -206,6 +218,23 @@ impl Drawing {
         )
     }
 
+    /// Takes note of what a word by which a hart acts says of the stretch: whose it is, and which stay it has.
+    pub(crate) fn take_word(&mut self, hart: u8, word: Word)
+        requires { self.old.stretch < 4 }
+        ensures { self.new ≡ record self.old {
+          owner = record { 0 = drawings.owner_after hart word.0 self.old };
+          stretch = drawings.stretch_after word.0 self.old;
+        } }
+    {
+        let continues = self.continues(word);
+        if !(continues && self.weights().lasting) {
+            self.owner = Hart(hart);
+        }
+        if !continues {
+            self.stretch = word.stretch();
+        }
+    }
+
     /// Takes note of the thread that begins to run on a hart, if one does.
     fn note_run(&mut self, hart: u8, choice: Choice)
         requires { hart < 8 }
@@ -219,8 +248,8 @@ impl Drawing {
     /// Takes note of a turn.
     pub(crate) fn take_turn(&mut self, hart: u8, turn: &Turn) -> DrawnEvent
         requires { hart < 8 }
-        ensures event { result ≡ drawings.event_of (drawings.drawn_of hart self.old.lots self.old turn.now) }
-        ensures kept { self.new ≡ drawings.after_turn hart turn.now self.old.lots self.old }
+        ensures event { result ≡ drawings.event_of (drawings.drawn_of hart self.old turn.now) }
+        ensures kept { self.new ≡ drawings.after_turn hart turn.now self.old }
     {
         self.note_run(hart, turn.choice);
         self.aims[hart as usize] = turn.aim;

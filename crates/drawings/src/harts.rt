@@ -1,14 +1,13 @@
 //! What a policy sees of the harts of a machine, and which of them can make an event.
 
 ghost use Rattle.std.specs.Prelude.{◌≡◌, ◌<◌, ◌≤◌, ◌++◌, ◌∷◌, [], true, if◌then◌else◌, length, slice_get};
-ghost use Rattle.chooser.specs.Cases as cases;
 ghost use Rattle.draw_policies.specs.Aims.{is_due};
 ghost use Rattle.draw_policies.specs.Words.{hart_place};
 ghost use Rattle.drawings.specs.Scenes as scenes;
 ghost use Rattle.drawings.specs.Scenes.{Scene};
 
 use arrayvec::ArrayVec;
-use draw_policies::{Access, Aim, Word};
+use draw_policies::{Aim, Word};
 use mach_types::{Hart, Sight};
 
 /// The harts of a machine at a place, as a policy sees them.
@@ -33,11 +32,6 @@ pub trait Harts {
         requires able { scenes.is_able (scene self.now) opened hart.0 ≡ true }
         ensures { result ≡ scenes.of_turn ((scene self.now).sight hart.0) };
 
-    /// Whether a store of a hart waits.
-    fn has_stores(&self, hart: Hart) -> bool
-        requires { hart.0 < (scene self.now).harts }
-        ensures { result ≡ cases.has_stores ((scene self.now).sight hart.0) };
-
     /// Whether what a hart means can still be done.
     fn is_due(&self, hart: Hart, aim: Aim) -> bool
         requires { hart.0 < (scene self.now).harts }
@@ -52,16 +46,6 @@ pub trait Harts {
     fn is_inside(&self, hart: Hart) -> bool
         requires { hart.0 < (scene self.now).harts }
         ensures { result ≡ (scene self.now).is_inside hart.0 };
-
-    /// What the next instruction of the thread on a hart accesses; None on an idle hart, and in a barrier.
-    fn next_access(&self, hart: Hart) -> Option<Access>
-        requires { hart.0 < (scene self.now).harts }
-        ensures { result ≡ (scene self.now).next_access hart.0 };
-
-    /// What the oldest waiting store of a hart accesses.
-    fn oldest_store(&self, hart: Hart) -> Option<Access>
-        requires { hart.0 < (scene self.now).harts }
-        ensures { result ≡ (scene self.now).oldest_store hart.0 };
 
     /// The ready threads that may begin to run on a hart where the first so many harts are open, in order.
     fn startable(&self, hart: Hart, opened: u8) -> ArrayVec<u32, 64>

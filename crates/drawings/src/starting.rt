@@ -6,7 +6,6 @@ ghost use Rattle.drawings.specs.Starts as starts;
 ghost use Rattle.chooser.specs.Generators.{first_generator};
 
 use crate::drawing::Drawing;
-use crate::priorities::{ACTORS, Lots};
 use draw_policies::Policy;
 use mach_types::Hart;
 use rand_core::SeedableRng;
@@ -45,21 +44,6 @@ fn first_open(policy: Policy, harts: u8, generator: &mut Xoshiro256PlusPlus) -> 
     }
 }
 
-/// The first priorities of the actors of so many harts.
-fn first_lots(policy: Policy, harts: u8, generator: Xoshiro256PlusPlus) -> Lots
-    requires { harts ≤ 8 }
-    ensures { result ≡ starts.first_lots policy harts generator }
-{
-    let mut lots = Lots {
-        priorities: [0; ACTORS],
-        generator,
-    };
-    if policy.weights().by_priority {
-        lots.draw_all(harts);
-    }
-    lots
-}
-
 /// The generator of a seed.
 #[tactic(auto, unfolding(chooser::specs::Generators::first_generator))]
 fn generator_of(seed: u64) -> Xoshiro256PlusPlus
@@ -83,10 +67,12 @@ impl Drawing {
             left,
             opened,
             last: Hart(0),
+            owner: Hart(0),
+            stretch: 0,
             credit: 0,
             aims: [None; 8],
             ran: [None; 8],
-            lots: first_lots(policy, harts, generator),
+            generator,
         }
     }
 }

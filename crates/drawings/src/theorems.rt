@@ -1,8 +1,8 @@
 //! Laws of the drawing, each as the contract of a function that does nothing.
 
-ghost use Rattle.std.specs.Prelude.{◌≡◌, ◌<◌, ℕ, Some, IsSome, true};
+ghost use Rattle.std.specs.Prelude.{◌≡◌, ◌<◌, ℕ, Some, IsSome, false, true};
 ghost use Rattle.drawings.specs.Allowed.{AreSettled, IsAllowedOf};
-ghost use Rattle.drawings.specs.Drawings.{Drawn, IsFor, draw, kept_after};
+ghost use Rattle.drawings.specs.Drawings.{Drawn, IsFor, continues, current, draw, goes_on, kept_after, next_word};
 ghost use Rattle.drawings.specs.Scenes.{Scene, is_able};
 ghost use Rattle.drawings.specs.declared.drawing.Drawing.{Drawing};
 
@@ -23,4 +23,16 @@ pub fn drawing_goes_on()
 pub fn an_event_is_drawn()
     ensures { (scene : Scene) (d : Drawing) (h : ℕ) → IsFor scene.harts d → h < scene.harts
         → is_able scene d.opened h ≡ true → IsSome (draw scene d) }
+{}
+
+/// By a lasting policy a stretch ends by a word alone. As long as the words say that it goes on it stays its owner's and keeps its stay,
+/// whoever acts; and where its owner can act it does, but for the credit of the last hart.
+pub fn lasting_stretches_keep_their_owner()
+    ensures owner { (scene : Scene) (d : Drawing) (x : Drawn) → (current d).lasting ≡ true
+        → continues d (next_word d) ≡ true → draw scene d ≡ Some x → x.after.owner ≡ d.owner }
+    ensures stay { (scene : Scene) (d : Drawing) (x : Drawn) → continues d (next_word d) ≡ true
+        → draw scene d ≡ Some x → x.after.stretch ≡ d.stretch }
+    ensures acts { (scene : Scene) (d : Drawing) (x : Drawn) → continues d (next_word d) ≡ true
+        → is_able scene d.opened d.owner.0 ≡ true → goes_on scene d ≡ false → draw scene d ≡ Some x
+        → x.hart ≡ d.owner.0 }
 {}

@@ -10,7 +10,7 @@ use Rattle.mach_types.specs.declared.events.Entry.{Entry}
 use Rattle.mach_types.specs.declared.limits.End.{End}
 use Rattle.mach_types.specs.declared.limits.End.TheVariants.{Unended}
 use Rattle.draw_policies.specs.declared.aims.Aim.{Aim}
-use Rattle.drawings.specs.Drawings.{Drawn, IsFor, aim_behind, current, draw, drawn_by_priority, drawn_by_word, event_of, kept_after, on_credit}
+use Rattle.drawings.specs.Drawings.{Drawn, IsFor, aim_behind, draw, drawn_by_word, event_of, kept_after, on_credit}
 use Rattle.drawings.specs.Drawings.{goes_on as on}
 use Rattle.drawings.specs.Scenes.{Scene}
 use Rattle.drawings.specs.declared.drawing.Drawing.{Drawing}
@@ -245,7 +245,7 @@ less_left m now next d e way unended is =
 pub credit_draws : (scene : Scene) (d : Drawing) → on scene d ≡ true → draw scene d ≡ Some (on_credit d)
 unfolding draw
 credit_draws scene d is =
-    ap (λ (b : Bool). cond b (Some (on_credit d)) (cond (current d).by_priority (drawn_by_priority scene d) (drawn_by_word scene d))) is
+    ap (λ (b : Bool). cond b (Some (on_credit d)) (drawn_by_word scene d)) is
 
 -- so where there is credit, the hart means nothing and goes freely, and its thread is inside no sequence
 credit_parts : (credit may own inside none : Bool) → (may && own) ≡ true → credit ≡ true → inside ≡ false → none ≡ true

@@ -13,6 +13,5 @@ mod store_waits;
 
 pub use drawn_run::{DrawnRun, draw_on, run_drawn};
 pub use pc_set::PcSet;
-pub use seen_harts::SeenHarts;
 pub use store_pcs::StorePcs;
 pub use store_waits::LONG_WAIT;

@@ -31,7 +31,7 @@ impl Model for PcSet {
 
 impl PcSet {
     /// The empty set. It takes no memory.
-    pub fn new(alloc: Global) -> PcSet
+    pub(crate) fn new(alloc: Global) -> PcSet
         ensures { result ≡ [] }
     {
         PcSet {

@@ -9,7 +9,7 @@ ghost use Rattle.drawn_machine.specs.Scenes.{AreListed, scene_of};
 
 use crate::starting_threads::startable_threads;
 use arrayvec::ArrayVec;
-use draw_policies::{Access, Aim, access_of_effect, access_of_store};
+use draw_policies::Aim;
 use drawings::Harts;
 use mach_types::{Hart, Named, Sight};
 use machine_core::Machine;
@@ -151,10 +151,6 @@ impl Harts for SeenHarts<'_> {
         }
     }
 
-    fn has_stores(&self, hart: Hart) -> bool {
-        self.machine.hart(hart).buffer.len() != 0
-    }
-
     #[inline(always)]
     fn is_due(&self, hart: Hart, aim: Aim) -> bool {
         match aim {
@@ -171,18 +167,6 @@ impl Harts for SeenHarts<'_> {
 
     fn is_inside(&self, hart: Hart) -> bool {
         !self.machine.kernel().areas.is_empty() && self.is_inside_named(hart)
-    }
-
-    fn next_access(&self, hart: Hart) -> Option<Access> {
-        if self.machine.hart(hart).waits.is_some() {
-            return None;
-        }
-        access_of_effect(&self.machine.next_effect(hart)?)
-    }
-
-    fn oldest_store(&self, hart: Hart) -> Option<Access> {
-        let store = self.machine.hart(hart).buffer.oldest()?;
-        Some(access_of_store(&store))
     }
 
     fn startable(&self, hart: Hart, opened: u8) -> ArrayVec<u32, 64> {

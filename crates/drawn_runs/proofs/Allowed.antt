@@ -53,6 +53,8 @@ first_is_for s m some few =
     record {
       few = few;
       last = some;
+      owner = some;
+      stretch = omega arith;
       opened = at_most (first_open m.policy s.limits.harts g) s.limits.harts 8 (opened_within m.policy s.limits.harts g some) few;
     }
 

@@ -26,12 +26,12 @@ ready_ones = refl
 pub ready_at_start : ready_numbers (record { live = thread 1 Ready ∷ []; given = 1; waiters = [] }) ≡ 1 ∷ []
 ready_at_start = refl
 
--- seed 7 draws by the third policy, and of 100,000 steps the last 75,000 go on fairly
+-- seed 7 draws by the third policy, and of 100,000 steps the last 50,000 go on fairly
 pub manner_of_7 : manner_for All None 7 100000
-    ≡ record { seed = 7; policy = policy.Short; scripted = 0; calm = 25000 }
+    ≡ record { seed = 7; policy = policy.Short; scripted = 0; calm = 50000 }
 manner_of_7 = refl
 
 -- by one policy, each seed draws by that one; and from the first event on fairly where that is said
-pub manner_of_7_alone : manner_for (Only policy.Pos) (Some 0) 7 100000
-    ≡ record { seed = 7; policy = policy.Pos; scripted = 0; calm = 0 }
+pub manner_of_7_alone : manner_for (Only policy.Stall) (Some 0) 7 100000
+    ≡ record { seed = 7; policy = policy.Stall; scripted = 0; calm = 0 }
 manner_of_7_alone = refl

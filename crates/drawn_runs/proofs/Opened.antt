@@ -9,7 +9,7 @@ use Rattle.drawings.specs.Drawings.{Drawn, draw, kept_after}
 use Rattle.drawings.specs.Scenes.{Scene}
 use Rattle.drawings.specs.Starts.{first_open}
 use Rattle.drawings.specs.declared.drawing.Drawing.{Drawing}
-use Rattle.drawings.proofs.Laws.{ByStore, ByTurn, IsDrawnBy, OnCredit, draw-comes, draw-shape}
+use Rattle.drawings.proofs.Laws.{ByTurn, IsDrawnBy, OnCredit, draw-comes, draw-shape}
 use Rattle.block_model.specs.Choosing.{has_ended}
 use Rattle.block_model.specs.History.{History}
 use Rattle.block_model.specs.Setting.{Setting}
@@ -21,8 +21,7 @@ use Rattle.drawn_runs.proofs.Allowed.{drawing_is_for, opened_within}
 -- whatever is drawn
 shape_keeps : (scene : Scene) (d : Drawing) (x : Drawn) → IsDrawnBy scene d x → x.after.opened ≡ d.opened
 shape_keeps scene d x (OnCredit goes) = refl
-shape_keeps scene d x (ByTurn h w lots t e) = refl
-shape_keeps scene d x (ByStore h lots some) = refl
+shape_keeps scene d x (ByTurn h w t e) = refl
 
 kept_opened : (scene : Scene) (d : Drawing) (o : Option Drawn) → draw scene d ≡ o → (kept_after o d).opened ≡ d.opened
 kept_opened scene d None e = refl

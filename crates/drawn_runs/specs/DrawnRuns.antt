@@ -1,13 +1,11 @@
 -- Drawn runs (own): logs each of whose entries is the one that a policy draws at its place, from the seed and the log so far.
-use Rattle.std.specs.Prelude.{ℕ, ◌≡◌, ◌+◌, ◌||◌, Bool, false, List, [], ◌∷◌, length, Option, Some, None, if◌then◌else◌, is_some, nat_lt, slice_get}
-use Rattle.std.specs.Option.{option_and_then, option_map, option_map_or}
+use Rattle.std.specs.Prelude.{ℕ, ◌≡◌, ◌+◌, ◌||◌, Bool, false, List, [], ◌∷◌, length, Option, Some, None, if◌then◌else◌, is_some, nat_lt}
+use Rattle.std.specs.Option.{option_map, option_map_or}
 use Rattle.mach_types.specs.Kernel.Scheduling.{Scheduling}
 use Rattle.mach_types.specs.Kernel.Threads.{Threads, is_ready}
 use Rattle.mach_types.specs.declared.events.Entry.{Entry}
 use Rattle.rv_inst.specs.Class.{is_call}
 use Rattle.rv_inst.specs.declared.effects.Effect.{Effect}
-use Rattle.draw_policies.specs.Accesses.{access_of_effect, access_of_store}
-use Rattle.draw_policies.specs.declared.accesses.Access.{Access}
 use Rattle.drawings.specs.Drawings.{Drawn, draw, kept_after}
 use Rattle.drawings.specs.Scenes.{Scene, passing}
 use Rattle.drawings.specs.Starts.{start}
@@ -15,7 +13,7 @@ use Rattle.drawings.specs.declared.drawing.Drawing.{Drawing}
 use Rattle.drawn_runs.specs.declared.manner.Manner.{Manner}
 use Rattle.block_model.specs.Choosing.{has_ended}
 use Rattle.block_model.specs.Deciding.{entry_in, history}
-use Rattle.block_model.specs.Here.{Here, runs, waiting_here}
+use Rattle.block_model.specs.Here.{Here, runs}
 use Rattle.block_model.specs.History.{History, here_in_history, kernel, ran}
 use Rattle.block_model.specs.Record.{Kernel}
 use Rattle.block_model.specs.Sequences.{is_inside_here}
@@ -31,11 +29,6 @@ is_inside_on here (Some t) = is_inside_here here t
 -- environment call or another exception)
 abbrev pub traps_by : Option Effect → Option ℕ → Bool
 traps_by effect fault = is_some fault || option_map_or is_call effect false
-
--- what the next instruction of the hart's thread accesses; nothing on an idle hart, and in a barrier
-abbrev pub access_in : Option ℕ → Option Effect → Option Access
-access_in None effect = option_and_then access_of_effect effect
-access_in (Some left) effect = None
 
 -- the numbers of the ready threads, rising
 abbrev pub ready_numbers : Threads → List ℕ
@@ -53,8 +46,6 @@ scene_at s before = record {
   sight = λ h. sight_in (here_in_history s before h) (ran h before) 0;
   is_inside = λ h. is_inside_on (here_in_history s before h) (runs (here_in_history s before h));
   traps = λ h. traps_by (effect_here (here_in_history s before h)) (fault_here (here_in_history s before h));
-  next_access = λ h. access_in (here_in_history s before h).awaits (effect_here (here_in_history s before h));
-  oldest_store = λ h. option_map access_of_store (slice_get (waiting_here (here_in_history s before h)) 0);
   scheduling = by_number (kernel s before);
 }
 

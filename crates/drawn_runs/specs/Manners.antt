@@ -4,10 +4,10 @@ use Rattle.draw_policies.specs.Policies.{policy_for}
 use Rattle.draw_policies.specs.declared.policies.Policies.{Policies}
 use Rattle.drawn_runs.specs.declared.manner.Manner.{Manner}
 
--- after how many events a run goes on fairly: so many, or a quarter of the steps that it may make
+-- after how many events a run goes on fairly: so many, or half of the steps that it may make
 abbrev pub calm_of : Option ℕ → ℕ → ℕ
 calm_of (Some events) steps = events
-calm_of None steps = steps / 4
+calm_of None steps = steps / 2
 
 -- in a run of at most so many steps, without a script: by these policies
 abbrev pub manner_for : Policies → Option ℕ → ℕ → ℕ → Manner

@@ -18,19 +18,19 @@ pub struct Manner {
     pub calm: u32,
 }
 
-/// After how many events a run of at most so many steps goes on fairly, where nothing else is said: a quarter of them.
+/// After how many events a run of at most so many steps goes on fairly, where nothing else is said: half of them.
 fn calm_of(calm: Option<u32>, steps: u32) -> u32
     ensures { result ≡ calm_of calm steps }
 {
     match calm {
         Some(events) => events,
-        None => steps / 4,
+        None => steps / 2,
     }
 }
 
 impl Manner {
     /// The manner of a seed in a run of at most so many steps: by these policies, and from so many events on fairly; where that isn't
-    /// said, from a quarter of the steps on.
+    /// said, from half of the steps on.
     pub fn of(policies: Policies, calm: Option<u32>, seed: u64, steps: u32) -> Manner
         ensures { result ≡ manner_for policies calm seed steps }
     {

@@ -47,35 +47,35 @@ impl ProgramHeader {
     }
 
     /// Whether the segment is loaded (`PT_LOAD`).
-    pub fn is_load(&self) -> bool
+    pub(crate) fn is_load(&self) -> bool
         ensures { result ≡ is_load self.now }
     {
         self.kind == PT_LOAD
     }
 
     /// Whether it asks for a dynamic linker (`PT_DYNAMIC` or `PT_INTERP`).
-    pub fn is_dynamic(&self) -> bool
+    pub(crate) fn is_dynamic(&self) -> bool
         ensures { result ≡ is_dynamic self.now }
     {
         self.kind == PT_DYNAMIC || self.kind == PT_INTERP
     }
 
     /// Whether `PF_X` is set.
-    pub fn is_executable(&self) -> bool
+    pub(crate) fn is_executable(&self) -> bool
         ensures { result ≡ is_executable self.now }
     {
         self.flags & PF_X != 0
     }
 
     /// Whether `PF_W` is set.
-    pub fn is_writable(&self) -> bool
+    pub(crate) fn is_writable(&self) -> bool
         ensures { result ≡ is_writable self.now }
     {
         self.flags & PF_W != 0
     }
 
     /// Whether `PF_R` is set.
-    pub fn is_readable(&self) -> bool
+    pub(crate) fn is_readable(&self) -> bool
         ensures { result ≡ is_readable self.now }
     {
         self.flags & PF_R != 0
@@ -93,7 +93,7 @@ impl ProgramHeader {
     }
 
     /// Whether the offset and the address differ modulo a page.
-    pub fn is_unaligned(&self) -> bool
+    pub(crate) fn is_unaligned(&self) -> bool
         ensures { result ≡ is_unaligned self.now }
     {
         self.is_load() && self.offset % PAGE != self.vaddr % PAGE
@@ -107,7 +107,7 @@ impl ProgramHeader {
     }
 
     /// Whether the four bytes at the address are code of the segment.
-    pub fn has_code(&self, at: u64) -> bool
+    pub(crate) fn has_code(&self, at: u64) -> bool
         ensures { result ≡ has_code at self.now }
     {
         self.is_load()
@@ -117,21 +117,21 @@ impl ProgramHeader {
     }
 
     /// Whether it is a load segment with memory.
-    pub fn has_pages(&self) -> bool
+    pub(crate) fn has_pages(&self) -> bool
         ensures { result ≡ has_pages self.now }
     {
         self.is_load() && 0 < self.memsz
     }
 
     /// The page of its first byte of memory.
-    pub fn first_page(&self) -> u64
+    pub(crate) fn first_page(&self) -> u64
         ensures { result ≡ first_page self.now }
     {
         self.vaddr / PAGE
     }
 
     /// The page of its last byte of memory.
-    pub fn last_page(&self) -> u64
+    pub(crate) fn last_page(&self) -> u64
         requires { IsTrue (has_pages self.now) }
         ensures page { result ≡ last_page self.now }
         ensures bound { result < 2 ^ 53 }
@@ -140,7 +140,7 @@ impl ProgramHeader {
     }
 
     /// How many pages it has.
-    pub fn page_count(&self) -> u64
+    pub(crate) fn page_count(&self) -> u64
         ensures count { result ≡ page_count self.now }
         ensures bound { result ≤ 2 ^ 54 }
     {
@@ -152,7 +152,7 @@ impl ProgramHeader {
     }
 
     /// Whether a page of this segment is one of the other.
-    pub fn shares_page(&self, other: &ProgramHeader) -> bool
+    pub(crate) fn shares_page(&self, other: &ProgramHeader) -> bool
         ensures { result ≡ share_page self.now other.now }
     {
         self.has_pages()
@@ -162,7 +162,7 @@ impl ProgramHeader {
     }
 
     /// Whether so many bytes of the file lie in its part that the segment has.
-    pub fn holds(&self, offset: u64, size: u64) -> bool
+    pub(crate) fn holds(&self, offset: u64, size: u64) -> bool
         ensures { result ≡ holds offset size self.now }
     {
         self.is_load()

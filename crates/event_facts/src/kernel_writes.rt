@@ -18,7 +18,7 @@ fn kernel_fact(write: Write, line: u32) -> Fact
 }
 
 /// Appends the writes that the kernel made in the event of a line, in order. It errs only for want of memory.
-pub fn push_kernel_writes(
+pub(crate) fn push_kernel_writes(
     facts: &mut Vec<Fact>,
     writes: &[Write],
     line: u32,

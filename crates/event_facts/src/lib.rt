@@ -2,11 +2,10 @@
 //! it reserved, and which registers changed.
 //!
 //! [`Lines`] knows in which line of the log each store was executed that waits, and in which line each byte
-//! of memory was written last. [`trace`] makes an event on a machine, and tells all that came of it. Below it:
-//! [`plain_event`] looks whether the next event is plain, an instruction that makes neither a fault nor a call or a
-//! store that enters memory, and [`tell`] makes a plain event and tells its facts. [`push_before`] and
-//! [`push_after`] tell of any event what is read at the places before it and after it: faults, calls, barriers,
-//! interruptions, signals, threads and areas; [`push_kernel_writes`] what the kernel wrote in it.
+//! of memory was written last. [`trace`] makes an event on a machine, and tells all that came of it. It looks first
+//! whether the event is plain: an instruction that makes neither a fault nor a call, or a store that enters memory.
+//! Of any other it tells what is read at the places before it and after it (faults, calls, barriers, interruptions,
+//! signals, threads and areas), and what the kernel wrote in it.
 #![tactic(auto)]
 
 mod areas;
@@ -42,11 +41,9 @@ pub use calls::SystemCall;
 pub use facts::{Fact, Source};
 pub use faults::FaultWhy;
 pub use interruptions::{Interruption, WrongWord};
-pub use kernel_writes::push_kernel_writes;
 pub use killing::KillWhy;
-pub use lines::{Lines, Numbered};
-pub use places::{Before, push_after, push_before};
-pub use telling::{PlainEvent, plain_event, tell};
+pub use lines::Lines;
+pub use telling::PlainEvent;
 pub use theorems::{
     kills_are_told_with_their_reason, lines_are_told_rightly, plain_events_are_told_by_their_facts,
 };

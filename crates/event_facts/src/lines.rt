@@ -21,7 +21,7 @@ use std::alloc::{AllocError, Global};
 
 /// A store, with the line of the log in which it was executed.
 #[derive(Clone, Copy, Drop)]
-pub struct Numbered {
+pub(crate) struct Numbered {
     /// The number of the line, from 1 on.
     pub line: u32,
     /// The store.

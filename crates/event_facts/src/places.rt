@@ -22,7 +22,7 @@ use std::alloc::{AllocError, Global};
 
 /// What is kept of the place before an event, until that was made.
 #[derive(Drop)]
-pub struct Before {
+pub(crate) struct Before {
     /// The call that the event is, if it is one.
     pub(crate) call: Option<SystemCall>,
     /// The threads.
@@ -56,7 +56,7 @@ fn push_fault_of(facts: &mut Vec<Fact>, machine: &Machine, entry: Entry) -> Resu
 /// [`push_after`] has to know of this place.
 ///
 /// The entry is the next event of its hart on the machine. It errs only for want of memory.
-pub fn push_before(
+pub(crate) fn push_before(
     alloc: Global,
     facts: &mut Vec<Fact>,
     machine: &Machine,
@@ -97,7 +97,7 @@ pub fn push_before(
 /// became of pending signals, of threads, of the registers of other threads and of the words of its thread's area.
 ///
 /// The machine has made the entry, and `before` is what [`push_before`] answered. It errs only for want of memory.
-pub fn push_after(
+pub(crate) fn push_after(
     facts: &mut Vec<Fact>,
     machine: &Machine,
     entry: Entry,

@@ -60,7 +60,7 @@ fn plain_effect(machine: &Machine, hart: Hart) -> Option<Effect>
 
 /// The event of an entry, where it is plain: the next of its hart on a machine. None exactly where it isn't
 /// plain, or no store waits that could enter memory.
-pub fn plain_event(machine: &Machine, entry: Entry) -> Option<PlainEvent>
+pub(crate) fn plain_event(machine: &Machine, entry: Entry) -> Option<PlainEvent>
     requires { entry.hart.0 < machine.now.setting.limits.harts }
     ensures event { result ≡ plain_event_of (choice_of entry) (here_on machine.now entry.hart.0) }
     ensures sizes { IfSome result HasSizes }
@@ -253,7 +253,7 @@ pub(crate) fn tell_register(
 ///
 /// It errs only for want of memory.
 #[inline(never)]
-pub fn tell(
+pub(crate) fn tell(
     facts: &mut Vec<Fact>,
     machine: &mut Machine,
     lines: &mut Lines,

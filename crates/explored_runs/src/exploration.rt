@@ -12,7 +12,7 @@ use drawn_runs::Manner;
 pub struct Exploration {
     /// Which policies draw the runs.
     pub policies: Policies,
-    /// After how many events a run goes on fairly; None for a quarter of the steps.
+    /// After how many events a run goes on fairly; None for half of the steps.
     pub calm: Option<u32>,
     /// The first seed. Each run has the seed behind that of the run before, and 0 stands behind the last.
     pub first: u64,

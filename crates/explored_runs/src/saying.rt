@@ -2,7 +2,7 @@
 //! clause speaks of it.
 
 use crate::explored::{Explored, Found};
-use outside::{Progress, Sink};
+use outside::{Counted, Progress, Sink};
 use place_text::push_end;
 use std::alloc::{AllocError, Global};
 
@@ -12,6 +12,7 @@ const ROOM: u64 = 10;
 /// How far an exploration is, of so many runs at most.
 pub(crate) fn progress_of(explored: &Explored, runs: u64) -> Progress {
     Progress {
+        counted: Counted::Runs,
         made: explored.runs,
         all: runs,
         outcomes: explored.found.len() as u64,

@@ -14,7 +14,7 @@ use crate::explored::{Explored, Found, Others};
 use draw_policies::OutcomeKey;
 use drawn_machine::{LONG_WAIT, StorePcs};
 use place_text::fields::{begin_line, push_named_number, push_number, push_word};
-use place_text::push_end;
+use place_text::{push_console, push_end};
 use std::alloc::{AllocError, Global};
 
 /// The text of an exploration: how many outcomes there are, each of them, the others, and what was tried.
@@ -84,7 +84,7 @@ fn push_found(text: &mut Vec<u8>, apart: OutcomeKey, found: &Found) -> Result<()
     ensures { OnOk result (text.new.items ≡ text.old.items ++ found_text apart found.now) }
 {
     push_found_line(text, found)?;
-    push_console(text, apart, found.console.bytes())?;
+    push_told_console(text, apart, found.console.bytes())?;
     push_end(text, found.end)
 }
 
@@ -101,17 +101,16 @@ fn push_found_line(text: &mut Vec<u8>, found: &Found) -> Result<(), AllocError>
     Ok(())
 }
 
-/// Appends the console's length, its bytes and a newline, where outcomes are told apart by it.
-fn push_console(text: &mut Vec<u8>, apart: OutcomeKey, console: &[u8]) -> Result<(), AllocError>
+/// Appends the console, where outcomes are told apart by it.
+fn push_told_console(
+    text: &mut Vec<u8>,
+    apart: OutcomeKey,
+    console: &[u8],
+) -> Result<(), AllocError>
     ensures { OnOk result (text.new.items ≡ text.old.items ++ console_part apart console.now) }
 {
     match apart {
-        OutcomeKey::ByText => {
-            push_count(text, b"console", console.len() as u64)?;
-            text.extend_from_slice(console)?;
-            text.push(b'\n')?;
-            Ok(())
-        }
+        OutcomeKey::ByText => push_console(text, console),
         OutcomeKey::ByEnd => Ok(()),
     }
 }

@@ -4,4 +4,4 @@
 mod call_names;
 mod lines;
 
-pub use lines::{push_fact, push_facts, put_changed};
+pub use lines::{push_facts, put_changed};

@@ -424,7 +424,7 @@ fn push_kill(text: &mut Vec<u8>, why: KillWhy) -> Result<(), AllocError>
 }
 
 /// Appends the line of a fact.
-pub fn push_fact(text: &mut Vec<u8>, fact: &Fact) -> Result<(), AllocError>
+fn push_fact(text: &mut Vec<u8>, fact: &Fact) -> Result<(), AllocError>
     ensures { OnOk result (text.new.items ≡ text.old.items ++ spec.fact_line fact.now) }
 {
     match *fact {

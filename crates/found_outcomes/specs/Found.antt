@@ -1,7 +1,9 @@
 -- What the outcomes that were found say: each is that of a run, and no two are alike (own).
-use Rattle.std.specs.Prelude.{ℕ, ◌≡◌, List, Contains}
+use Rattle.std.specs.Prelude.{ℕ, ◌≡◌, List, Some, Contains}
 use Rattle.std.specs.List.{AllPairs}
+use Rattle.mach_types.specs.declared.events.Entry.{Entry}
 use Rattle.mach_types.specs.declared.limits.End.{End}
+use Rattle.block_model.specs.Plain.{plain_after, plain_over}
 use Rattle.block_model.specs.Setting.{Setting}
 use Rattle.same_places.specs.Closed.{IsRunEnding}
 use Rattle.found_outcomes.specs.declared.findings.OutcomeFound.{OutcomeFound}
@@ -12,6 +14,10 @@ pub record HasBeenFound (os : List OutcomeFound) (end : End) (console : List ℕ
   pub among : Contains os outcome
   pub end_is : outcome.end ≡ end
   pub console_is : outcome.console ≡ console
+
+-- where the run of a log is over, one of the outcomes has its end and its console
+abbrev pub IsEndFound : Setting → List OutcomeFound → List Entry → Type 0
+IsEndFound s os log = (end : End) → plain_over (plain_after s log) ≡ Some end → HasBeenFound os end (plain_after s log).kernel.console
 
 -- the log of the outcome is a block run that is over, with the outcome's end and console
 abbrev pub IsShown : Setting → OutcomeFound → Type 0

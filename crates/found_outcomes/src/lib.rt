@@ -1,4 +1,5 @@
-//! What a search of all runs of a program found: its outcomes, each with a run that ends so, and why the search ended.
+//! What a search of all runs of a program found: its outcomes, each with a run that ends so, and why the
+//! search ended.
 //!
 //! What the findings mean stands in `specs/`, by `block_model` and `same_places`.
 #![tactic(auto)]

@@ -8,7 +8,8 @@ ghost use Rattle.found_outcomes.specs.Search.{IsSearchOf};
 ghost use Rattle.found_outcomes.specs.declared.findings.Findings.{Findings};
 ghost use Rattle.found_outcomes.specs.declared.findings.Closing.TheVariants.{Complete};
 
-/// Two searches of one setting that visited all places found the same outcomes, however many places each was allowed.
+/// Two searches of one setting that visited all places found the same outcomes, however many places each was
+/// allowed.
 pub fn complete_searches_agree()
     ensures { (s : Setting) (most others : ℕ) (a b : Findings) (end : End) (console : List ℕ)
         → s.limits.steps ≤ 1000000 → IsSearchOf s most a → IsSearchOf s others b

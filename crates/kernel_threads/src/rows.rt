@@ -58,7 +58,7 @@ pub struct Row {
 
 impl Row {
     /// A thread at its start.
-    pub fn new(number: u32, start: Saved) -> Row
+    pub(crate) fn new(number: u32, start: Saved) -> Row
         ensures { result ≡ new_row number start }
     {
         Row {

@@ -6,4 +6,4 @@ mod lines;
 mod pieces;
 
 pub use lines::push_lines;
-pub use pieces::{LineBuffer, emit_around, emit_lines};
+pub use pieces::{LineBuffer, emit_around};

@@ -73,11 +73,7 @@ impl LineBuffer {
 }
 
 /// Writes the lines of a log, in pieces. It takes no memory. After `Failed` a prefix of them was appended.
-pub fn emit_lines<K: Sink>(
-    sink: &mut K,
-    buffer: &mut LineBuffer,
-    log: &[Entry],
-) -> Result<(), Failed>
+fn emit_lines<K: Sink>(sink: &mut K, buffer: &mut LineBuffer, log: &[Entry]) -> Result<(), Failed>
     requires { All (λ e. e.hart.0 < 8) log.now }
     ensures whole { OnOk result (Gained (K.held sink.old) (K.held sink.new) (log_text log.now)) }
     ensures prefix { OnErr result (GainedPrefix (K.held sink.old) (K.held sink.new) (log_text log.now)) }

@@ -1,22 +1,18 @@
 -- The printed log of a pair, played again.
-use Rattle.std.proofs.Common.{◌≡◌, ℕ, ◌+◌, ◌<◌, ◌≤◌, ◌^◌, Bool, true, false, List, [], ◌∷◌, length, Result, Ok, Err, refl, arith}
-use Rattle.std.specs.Prelude.{if◌then◌else◌, nat_le}
+use Rattle.std.proofs.Common.{◌≡◌, ℕ, ◌+◌, ◌<◌, ◌≤◌, ◌^◌, Bool, true, false, List, [], ◌∷◌, length, Ok, refl, arith}
 use Rattle.std.specs.List.{AllByRecursion}
 use Rattle.std.proofs.lemmas.Bool.{leb-false}
 use Rattle.mach_types.specs.Events.{choice_of}
 use Rattle.mach_types.specs.Limits.{InRange}
 use Rattle.mach_types.specs.declared.events.Choice.{Choice}
 use Rattle.mach_types.specs.declared.events.Entry.{Entry}
-use Rattle.mach_types.specs.declared.events.Why.TheVariants.{NoHart}
 use Rattle.elf_load.specs.declared.image.Image.{Image}
 use Rattle.step_log.specs.Grammar.{IsPrintable, log_text}
 use Rattle.block_model.specs.Replay.{script_of}
 use Rattle.block_model.proofs.Laws.{HaveBytes, answers_itself, image_bytes}
-use Rattle.shared_procs.specs.Pairs.{Pair, PairSetting, is_over, pair_setting_of, refusal_two, setting}
-use Rattle.shared_procs.specs.PairRuns.{IsPairRun, IsPairRunHistory, PairHistory, entry_two, event_two, pair_after, pair_decide, pair_history, unless_two}
-use Rattle.shared_procs.specs.declared.outcomes.PairRefused.{PairRefused}
-use Rattle.shared_procs.specs.declared.outcomes.PairRefused.TheVariants.{Ended, Full, NotEnabled}
-use Rattle.shared_procs.proofs.Laws.{AreSmall, all_narrow}
+use Rattle.shared_procs.specs.Pairs.{Pair, PairSetting, pair_setting_of, setting}
+use Rattle.shared_procs.specs.PairRuns.{IsPairRun, IsPairRunHistory, PairHistory, event_two, pair_after, pair_decide, pair_history}
+use Rattle.shared_procs.proofs.Laws.{AreSmall, all_narrow, decided_two}
 use Rattle.command_words.specs.Commands.{PairRun}
 use Rattle.outcomes.specs.PairFiles.{AreTaken, IsPairOutput}
 use Rattle.outcomes.specs.Programs.{Files, IsReadAs}
@@ -31,17 +27,7 @@ made_is s (e ∷ before) = let was = made_is s before in omega arith
 
 -- an entry comes where the log has room
 has_room : (s : PairSetting) (m : Pair) (h : ℕ) (c : Choice) (e : Entry) → pair_decide s m h c ≡ Ok e → m.made < s.limits.steps
-has_room s m h c e is =
-    leb-false s.limits.steps m.made
-    (by_tests (is_over m) (nat_le s.limits.steps m.made) (nat_le s.limits.harts h)
-    (unless_two (entry_two s m h c) (refusal_two s m h c)) is)
-  where
-    by_tests : (over full none : Bool) (r : Result Entry PairRefused)
-        → (if over then Err Ended else if full then Err Full else if none then Err (NotEnabled NoHart) else r) ≡ Ok e
-        → full ≡ false
-    by_tests true full none r is = absurd (cc is)
-    by_tests false true none r is = absurd (cc is)
-    by_tests false false none r is = refl
+has_room s m h c e is = leb-false s.limits.steps m.made (decided_two s m h c e is).room
 
 short_on : (s : PairSetting) (h : PairHistory) (log : List Entry) → length h ≤ s.limits.steps → IsPairRunHistory s (on s h log)
     → length h + length log ≤ s.limits.steps

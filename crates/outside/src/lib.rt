@@ -29,7 +29,7 @@ pub use metered_sink::MeteredSink;
 pub use moves::{emit, fetch};
 pub use open_gate::OpenGate;
 pub use out_sink::OutSink;
-pub use progress::Progress;
+pub use progress::{Counted, Progress};
 pub use sure_shelf::SureShelf;
 pub use sure_sink::SureSink;
 pub use traits::{Gate, Shelf, Sink};

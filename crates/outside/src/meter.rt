@@ -11,13 +11,13 @@ const STANDS: u128 = 100;
 const LONG: u128 = 1_000;
 
 /// What is written over the line, as long as the longest one.
-const CLEARED: &str = "\r                                                    \r";
+const CLEARED: &str = "\r                                                        \r";
 
-/// What standard error says of an exploration for a person who waits for it.
+/// What standard error says of an exploration or a search for a person who waits for it.
 ///
-/// At a terminal that is a line that says how many runs are made, and how many outcomes they came to. It is written ten times a second
-/// at most, and for the first time a tenth of a second after it was first asked for. Terminal or not, other lines may be said. Where
-/// nothing can be written, nobody is told.
+/// At a terminal that is a line that says how many runs are made or places visited, and how many outcomes were found. It is written ten
+/// times a second at most, and for the first time a tenth of a second after it was first asked for. Terminal or not, other lines may be
+/// said. Where nothing can be written, nobody is told.
 #[derive(Drop)]
 pub struct Meter<R: Eprint + Clock> {
     rt: R,
@@ -45,7 +45,7 @@ impl<R: Eprint + Clock> Meter<R> {
 
     /// Shows how far a call is, where it is time, and answers whether it takes long. Where the clock can't be read, it is never time,
     /// and nothing takes long.
-    pub fn show(&self, progress: &Progress) -> bool {
+    pub(crate) fn show(&self, progress: &Progress) -> bool {
         let Ok(now) = Instant::now(&self.rt) else {
             return false;
         };
@@ -68,15 +68,20 @@ impl<R: Eprint + Clock> Meter<R> {
         }
     }
 
-    /// Writes the line of progress.
+    /// Writes the line of progress, in place of the one that stands there: that may be longer.
     fn write(&self, progress: &Progress) {
         let Progress {
+            counted,
             made,
             all,
             outcomes,
         } = *progress;
+        let counted = counted.word();
         let plural = if outcomes == 1 { "" } else { "s" };
-        let _ = eprint!(self.rt; "\rrseq_run: {made} of {all} runs, {outcomes} outcome{plural}");
+        self.clear();
+        let _ = eprint!(self.rt;
+            "\rrseq_run: {made} of {all} {counted}, {outcomes} outcome{plural}"
+        );
         self.is_shown.set(true);
     }
 

@@ -1,12 +1,33 @@
-//! How far an exploration is.
+//! How far an exploration or a search is.
 
-/// How far an exploration is, as a person sees it.
+/// What is counted of it.
+#[derive(Clone, Copy, Drop)]
+pub enum Counted {
+    /// The runs that are made.
+    Runs,
+    /// The places that are visited.
+    Places,
+}
+
+impl Counted {
+    /// The word for them.
+    pub(crate) fn word(self) -> &'static str {
+        match self {
+            Counted::Runs => "runs",
+            Counted::Places => "places",
+        }
+    }
+}
+
+/// How far an exploration or a search is, as a person sees it.
 #[derive(Clone, Copy, Drop)]
 pub struct Progress {
-    /// How many runs are made.
+    /// What is counted.
+    pub counted: Counted,
+    /// How many there are by now.
     pub made: u64,
-    /// How many will be made at most.
+    /// How many there will be at most.
     pub all: u64,
-    /// To how many different outcomes they came.
+    /// How many different outcomes were found.
     pub outcomes: u64,
 }

@@ -94,7 +94,7 @@ pub trait Sink {
     fn trouble(&self) -> Option<ErrorKind>
         ensures { result ≡ last_trouble self.now };
 
-    /// Hears how far an exploration is, before its text is written, and answers whether it takes so long that what it found so far is
+    /// Hears how far an exploration or a search is, before its text is written, and answers whether it takes so long that what it found so far is
     /// to be said.
     ///
     /// It has no meaning: nothing is appended, and no fault comes of it. A device may show it to a person. By default nothing is done,

@@ -1,9 +1,9 @@
 -- The numbers of the leaves, as they lie in rows.
-use Rattle.std.proofs.Common.{◌≡◌, ℕ, ◌/◌, ◌%◌, ◌<◌, inl, inr, cond, List, [], length, get_or, set, nat_eq, sym, ◌∙◌, arith, eq-eqb}
+use Rattle.std.proofs.Common.{◌≡◌, ℕ, ◌/◌, ◌%◌, ◌<◌, inl, inr, cond, List, [], length, get_or, set, nat_eq, sym, ap, ◌∙◌, arith, eq-eqb}
 use Rattle.std.proofs.lemmas.Bool.{cases_eq, cases_lt, ne_eqb}
 use Rattle.std.proofs.lemmas.List.{ext_get_or, get_or-set_same, get_or-set_other, get_or_past, length-set}
 use Rattle.std.proofs.lemmas.List.FromFn.{get_or-map-range_with_len, length-map-range_with_len}
-use Rattle.page_map.specs.Layout.{empty_row, numbers_in}
+use Rattle.page_map.specs.Layout.{IsRows, empty_row, numbers_in}
 use Rattle.page_map.proofs.Rows.{IsFresh, fresh-row}
 
 pub fresh-zeros : IsFresh 0 empty_row
@@ -28,6 +28,12 @@ numbers-zero names rows zeros c = elim (cases_lt c 131072) [
   | inl lt ↦ numbers-at names rows c lt ∙ zeros c
   | inr past ↦ get_or_past (numbers_in names rows) c 0 (omega (arith, numbers-length names rows))
 ]
+
+-- a group without a row of its own has no numbers
+pub bare-group : (names : List ℕ) (rows : List (List ℕ)) (capacity c : ℕ) → IsRows 0 256 names rows capacity → c < 131072
+    → get_or names (c / 512) 0 ≡ 0 → get_or (numbers_in names rows) c 0 ≡ 0
+bare-group names rows capacity c table lt bare =
+    numbers-at names rows c lt ∙ ap (λ i. get_or (get_or rows i []) (c % 512) 0) bare ∙ table.empty (c % 512)
 
 -- a number is written
 module _ (names names' : List ℕ) (rows after : List (List ℕ)) (chunk number : ℕ) (inside : chunk < 131072)

@@ -47,16 +47,14 @@ pub record NoneBefore (t : Table) (from page : ℕ) : Type 0 where
   pub none : (k : ℕ) → from ≤ k → k < page → is_some (place_in t k) ≡ false
 
 module _ (t : Table) (from page : ℕ) (passed : NoneBefore t from page) where
-  -- a chunk without a leaf is passed over
-  pub pass-chunk : (capacity : ℕ) → IsTable t.directory t.leaves capacity → get_or t.directory (page / 512) 0 ≡ 0
-      → NoneBefore t from ((page / 512 + 1) * 512)
-  pass-chunk capacity table bare = record {
+  -- chunks without leaves are passed over
+  pub pass-chunks : (capacity to : ℕ) → IsTable t.directory t.leaves capacity → page / 512 < to
+      → ((c : ℕ) → page / 512 ≤ c → c < to → get_or t.directory c 0 ≡ 0) → NoneBefore t from (to * 512)
+  pass-chunks capacity to table past bare = record {
     low = let before = passed.low in omega arith;
     none = λ k low high. elim (cases_lt k page) [
       | inl before ↦ passed.none k low before
-      | inr past ↦
-          let chunk : k / 512 ≡ page / 512 = omega arith in
-          ap is_some (bare-none t.directory t.leaves capacity k table (ap (λ c. get_or t.directory c 0) chunk ∙ bare))
+      | inr here ↦ ap is_some (bare-none t.directory t.leaves capacity k table (bare (k / 512) (omega arith) (omega arith)))
     ];
   }
 

@@ -72,6 +72,23 @@ impl Directory {
         self.rows[row as usize][chunk % GROUP]
     }
 
+    /// Where to go on past a chunk whose number is 0: at the next chunk, or at the next group, where all numbers
+    /// of this one are 0 because it has no row of its own. So a long gap is passed over in few steps.
+    pub(crate) fn past_empty(&self, chunk: usize) -> usize
+        requires chunk { chunk < CHUNKS }
+        requires empty { slice_index self.now chunk ≡ 0 }
+        ensures past { chunk < result }
+        ensures within { result ≤ CHUNKS }
+        ensures empty { (c : ℕ) → chunk ≤ c → c < result → slice_index self.now c ≡ 0 }
+    {
+        let group = chunk / GROUP;
+        if self.names[group] == EMPTY_ROW {
+            (group + 1) * GROUP
+        } else {
+            chunk + 1
+        }
+    }
+
     /// Gives a chunk this number instead of the one that it had. It takes no memory.
     pub(crate) fn set(&mut self, chunk: usize, number: u32)
         requires { chunk < CHUNKS }

@@ -1,7 +1,7 @@
 //! The pages of a process: which of them are mapped, with which permission, and their bytes.
 //!
-//! Each page that is mapped has a frame of its own. How pages are found is own. Only [`PageTable::new`] and
-//! [`PageMap::boot`] take memory.
+//! Each page that is mapped has a frame of its own. How pages are found is own. Only [`PageMap::boot`] takes
+//! memory.
 #![tactic(auto)]
 
 mod access;
@@ -19,7 +19,6 @@ mod theorems;
 pub use calls::pages_of;
 pub use listing::ALL_PAGES;
 pub use map::PageMap;
-pub use table::PageTable;
 pub use theorems::{
     addresses_end, alike_maps_hold_writes, code_is_bytes, held_bytes_are_seen,
     lowest_hole_is_lowest, permission_decides,

@@ -442,7 +442,7 @@ impl PageMap {
     }
 
     /// The lowest break, where the data ended with which the process started.
-    pub fn break_start(&self) -> u64
+    pub(crate) fn break_start(&self) -> u64
         ensures { result ≡ break_start_in self.now }
     {
         self.break_start

@@ -11,13 +11,13 @@ use std::alloc::{AllocError, Global};
 use std::marker::Model;
 
 /// How many pages a process can have at most: the addresses of a user end at 2^38.
-pub const PAGES: u64 = USER_END / PAGE_SIZE;
+pub(crate) const PAGES: u64 = USER_END / PAGE_SIZE;
 
 /// How many pages lie in one chunk.
-pub const CHUNK: u64 = 512;
+pub(crate) const CHUNK: u64 = 512;
 
 /// How many chunks there are.
-pub const CHUNKS: u64 = PAGES / CHUNK;
+pub(crate) const CHUNKS: u64 = PAGES / CHUNK;
 
 /// The leaf that all chunks without a leaf of their own share.
 const EMPTY_LEAF: u32 = 0;
@@ -28,7 +28,7 @@ type Leaf = [Option<u32>; 512];
 /// A table from the numbers of pages, below 2^26, to places. A page is found in three look-ups, however many
 /// there are. Each mapping page before `filled_to` has a place, so that a hole is looked for from there on.
 #[derive(Drop)]
-pub struct PageTable {
+pub(crate) struct PageTable {
     directory: Directory,
     leaves: Vec<Leaf>,
     filled_to: u64,
@@ -50,7 +50,7 @@ impl Model for PageTable {
 impl PageTable {
     /// A table without entries. It has all the memory that it ever takes: room for a leaf of each chunk,
     /// which costs nothing until it is used.
-    pub fn new(alloc: Global) -> Result<PageTable, AllocError>
+    pub(crate) fn new(alloc: Global) -> Result<PageTable, AllocError>
         ensures empty { IfOk result (λ t. (n : ℕ) → place_in t n ≡ None) }
     {
         let directory = Directory::new(alloc)?;
@@ -64,7 +64,7 @@ impl PageTable {
     }
 
     /// A table without entries again. It takes no memory.
-    pub fn clear(&mut self)
+    pub(crate) fn clear(&mut self)
         ensures { (n : ℕ) → place_in self.new n ≡ None }
     {
         self.directory.clear();
@@ -74,7 +74,7 @@ impl PageTable {
     }
 
     /// The place of a page; None exactly where it has none, as each page whose number is 2^26 or more.
-    pub fn get(&self, page: u64) -> Option<u32>
+    pub(crate) fn get(&self, page: u64) -> Option<u32>
         ensures { result ≡ place_in self.now page }
     {
         if page >= PAGES {
@@ -85,7 +85,7 @@ impl PageTable {
     }
 
     /// Gives a page this place, or none, instead of the one that it had, if any. It takes no memory.
-    pub fn set(&mut self, page: u64, place: Option<u32>)
+    pub(crate) fn set(&mut self, page: u64, place: Option<u32>)
         requires { page < PAGES }
         ensures { (n : ℕ) → place_in self.new n ≡ (if n == page then place else place_in self.old n) }
     {
@@ -100,7 +100,7 @@ impl PageTable {
 
     /// The first mapping page that has no place, and `filled_to` moves there. It costs time in the pages from
     /// `filled_to` on that it passes.
-    pub fn pass_filled(&mut self) -> u64
+    pub(crate) fn pass_filled(&mut self) -> u64
         ensures same { self.new ≡ self.old }
         ensures from { FIRST_MAPPING_PAGE ≤ result }
         ensures filled { (n : ℕ) → FIRST_MAPPING_PAGE ≤ n → n < result
@@ -126,15 +126,17 @@ impl PageTable {
     }
 
     /// The first page that has a place, from one page on and before another; None exactly where none has. A
-    /// chunk that never had a page is passed over in one step.
-    pub fn next(&self, from: u64, end: u64) -> Option<u64>
+    /// chunk that never had a page is passed over in one step, and so are the 512 chunks of a group of which none
+    /// had one.
+    pub(crate) fn next(&self, from: u64, end: u64) -> Option<u64>
         requires { end ≤ PAGES }
         ensures { result ≡ first_page (λ n. is_some (place_in self.now n)) from (end - from) }
     {
         let mut page = from;
         while page < end {
-            if self.directory.number((page / CHUNK) as usize) == EMPTY_LEAF {
-                page = (page / CHUNK + 1) * CHUNK;
+            let chunk = (page / CHUNK) as usize;
+            if self.directory.number(chunk) == EMPTY_LEAF {
+                page = self.directory.past_empty(chunk) as u64 * CHUNK;
             } else if self.get(page).is_some() {
                 return Some(page);
             } else {

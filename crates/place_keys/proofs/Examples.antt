@@ -30,7 +30,8 @@ five_in_a0 =
     0 ∷ 0 ∷ 0 ∷ 0 ∷ 0 ∷ 0 ∷ 0 ∷ 0 ∷ 0 ∷ 0 ∷ 5 ∷ 0 ∷ 0 ∷ 0 ∷ 0 ∷ 0
     ∷ 0 ∷ 0 ∷ 0 ∷ 0 ∷ 0 ∷ 0 ∷ 0 ∷ 0 ∷ 0 ∷ 0 ∷ 0 ∷ 0 ∷ 0 ∷ 0 ∷ 0 ∷ 0 ∷ []
 
--- hart on which thread 2 runs: a store of 7 waits, four bytes at 0x20000, which is reserved too; a barrier asks hart 1's bit
+-- hart on which thread 2 runs: a store of 7 waits, four bytes at 0x20000, which is reserved too; a barrier
+-- asks hart 1's bit
 abbrev busy_hart : HartState
 busy_hart = record {
   file = record { x = five_in_a0 };
@@ -47,8 +48,8 @@ busy_hart = record {
   cid = 1;
 }
 
--- 32 registers, of which the one past ten others is 5; the pc; one store; its thread; requests, a restart, three harts
--- that are waited for, the reservation and the concurrency id; neither the 30, the 4 nor the 50
+-- 32 registers, of which the one past ten others is 5; the pc; one store; its thread; requests, a restart,
+-- three harts that are waited for, the reservation and the concurrency id; neither the 30, the 4 nor the 50
 words_of_hart : hart_words busy_hart
     ≡ 32 ∷ 11 ∷ 5 ∷ 0 ∷ 65712 ∷ 1 ∷ 131072 ∷ 4 ∷ 7 ∷ 1 ∷ 2 ∷ 2 ∷ 1 ∷ 1 ∷ 3 ∷ 1 ∷ 131072 ∷ 1 ∷ []
 unfolding differences
@@ -74,8 +75,8 @@ words_of_threads : threads_words three_threads
 unfolding differences
 words_of_threads = refl
 
--- signals: the default action of the first one, an action of the second one, and what threads 2 and 3 mask and have
--- pending
+-- signals: the default action of the first one, an action of the second one, and what threads 2 and 3 mask
+-- and have pending
 abbrev some_signals : Signalling
 some_signals = record {
   actions = (record { at = 0; flags = 0; mask = 0 }) ∷ (record { at = 65792; flags = 4; mask = 512 }) ∷ [];

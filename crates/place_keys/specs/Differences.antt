@@ -21,7 +21,8 @@ pub record Written : Type 0 where
   pub next : ℕ
 
 -- the differences at the places between two such states have been written: the words at the second, with what
--- is left to write there, are the words at the first with what was left there, however many places are to come
+-- is left to write there, are the words at the first with what was left there, however many places are to
+-- come
 pub record IsWrittenOn (start now : ℕ → ℕ) (from to : Written) : Type 0 where
   pub order : to.past ≤ to.next
   pub all : (more : ℕ) → to.words ++ differences start now (to.next - to.past) to.next more

@@ -1,5 +1,5 @@
--- Words as bytes, seven bits of a number to a byte, the lowest first: each byte but the last has 128 added (DWARF
--- Debugging Information Format Version 5, 7.6: "LEB128", unsigned).
+-- Words as bytes, seven bits of a number to a byte, the lowest first: each byte but the last has 128 added
+-- (DWARF Debugging Information Format Version 5, 7.6: "LEB128", unsigned).
 use Rattle.std.specs.Prelude.{ℕ, ◌+◌, ◌/◌, ◌%◌, List, [], ◌∷◌, if◌then◌else◌, nat_lt, zero, suc}
 use Rattle.place_keys.specs.Words.{of_each}
 

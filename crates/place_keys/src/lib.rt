@@ -17,7 +17,7 @@ mod words;
 
 pub use mapped::pages_in_all;
 pub use packing::pack;
-pub use parts::{write_parts, write_place};
+pub use parts::write_place;
 pub use theorems::{
     equal_bytes_are_equal_words, equal_words_are_the_same_place, equal_words_lead_back,
     pages_add_up,

@@ -76,8 +76,8 @@ pub fn pages_in_all(pages: &PageMap) -> u64
     u64::from(pages.free()) + count_from(pages, 0)
 }
 
-/// Whether no page is mapped between the break and the stack, where the free frames and the mapped pages are so
-/// many together. It may be false of a program that has many pages.
+/// Whether no page is mapped between the break and the stack, where the free frames and the mapped pages are
+/// so many together. It may be false of a program that has many pages.
 pub fn is_bare(pages: &PageMap, total: u64) -> bool
     ensures { AddsUp total pages.now → IsBare result pages.now }
 {

@@ -18,7 +18,8 @@ fn pack_word(bytes: &mut Vec<u8>, word: u64) -> Result<(), AllocError>
     Ok(())
 }
 
-/// Appends words as bytes: a word below 128 takes one byte, and one of 64 bits ten. Other words have other bytes.
+/// Appends words as bytes: a word below 128 takes one byte, and one of 64 bits ten. Other words have other
+/// bytes.
 ///
 /// # Errors
 ///

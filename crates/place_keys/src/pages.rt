@@ -87,8 +87,8 @@ fn word_of(bytes: &[u8], index: u64) -> u64
     }
 }
 
-/// The words of a block of 64 bytes, which begin at one word of memory, where they differ from those at the start.
-/// Answers the place past the last one that differs.
+/// The words of a block of 64 bytes, which begin at one word of memory, where they differ from those at the
+/// start. Answers the place past the last one that differs.
 fn write_block(
     words: &mut Vec<u64>,
     start: &[u8],
@@ -119,8 +119,8 @@ fn write_block(
     Ok(last)
 }
 
-/// The words of a page, which begin at one word of memory, where they differ from those at the start, block by block.
-/// Answers the place past the last one that differs.
+/// The words of a page, which begin at one word of memory, where they differ from those at the start, block
+/// by block. Answers the place past the last one that differs.
 fn write_page_words(
     words: &mut Vec<u64>,
     start: &[u8],
@@ -213,8 +213,8 @@ fn write_memory(
     write_word(words, 0)
 }
 
-/// Where the pages of a process differ from those at the start, how many frames are free, and the break. Of each
-/// page map it is said whether no page is mapped between the break and the stack.
+/// Where the pages of a process differ from those at the start, how many frames are free, and the break. Of
+/// each page map it is said whether no page is mapped between the break and the stack.
 pub fn write_pages(
     words: &mut Vec<u64>,
     pages: &PageMap,

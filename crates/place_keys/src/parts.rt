@@ -49,20 +49,9 @@ fn write_all(
 /// the pages of the program's start, or any others: keys over one `start` are equal only where the places are
 /// the same.
 ///
-/// This goes over all pages that a process may have. [`write_place`] writes the same words, and needs not.
-///
-/// # Errors
-///
-/// [`AllocError`] where memory runs out; some of the words may then have been appended.
-pub fn write_parts(words: &mut Vec<u64>, parts: &Parts, start: &PageMap) -> Result<(), AllocError>
-    ensures { OnOk result (words.new.items ≡ words.old.items ++ parts_words start.now parts.now) }
-{
-    write_all(words, parts, false, start, false)
-}
-
-/// Appends the words of [`write_parts`], where the free frames and the mapped pages of the parts are `total`
-/// together, and so are those of the start ([`pages_in_all`](crate::pages_in_all)): as it is at each place of a
-/// run ([`pages_add_up`](crate::pages_add_up)). Where they show that no mapping is left to be found, none is
+/// The free frames and the mapped pages of the parts are `total` together, and so are those of the start
+/// ([`pages_in_all`](crate::pages_in_all)): as it is at each place of a run
+/// ([`pages_add_up`](crate::pages_add_up)). Where they show that no mapping is left to be found, none is
 /// looked for.
 ///
 /// # Errors

@@ -163,8 +163,8 @@ pub fn write_ready(words: &mut Vec<u64>, ready: &Ready) -> Result<(), AllocError
     write_affinities(words, ready.affinities())
 }
 
-/// The numbers of an action, which begin at one place, as far as they aren't 0. Answers the place past the last one
-/// that isn't.
+/// The numbers of an action, which begin at one place, as far as they aren't 0. Answers the place past the
+/// last one that isn't.
 fn write_action(
     words: &mut Vec<u64>,
     action: &Action,

@@ -35,8 +35,8 @@ pub fn equal_bytes_are_equal_words()
     ensures { (words others : List ℕ) → packed words ≡ packed others → words ≡ others }
 {}
 
-/// At each place of a block run the free frames and the mapped pages of the parts are as many together as those of the
-/// start.
+/// At each place of a block run the free frames and the mapped pages of the parts are as many together as
+/// those of the start.
 pub fn pages_add_up()
     ensures { (s : Setting) (log : List Entry) (first m : Parts) → IsLaidOut s.program → IsBlockRun s log
         → StandAfter s [] first → StandAfter s log m → (total : ℕ) → AddsUp total first.pages

@@ -14,7 +14,7 @@ use Rattle.process.specs.Refinement.{IsTied}
 use Rattle.process.specs.declared.parts.Parts.{Parts}
 use Rattle.same_places.specs.Places.{rested}
 use Rattle.same_places.specs.Trying.{IsLonger}
-use Rattle.local_loads.specs.Resting.{LeavesAreas}
+use Rattle.local_steps.specs.Resting.{LeavesAreas}
 use Rattle.settled_places.specs.Settling.{settles_of}
 use Rattle.settling.specs.Edges.{IsEdge, own_thread}
 use Rattle.settling.specs.Looks.{is_kept, look_in}

@@ -1,5 +1,5 @@
 -- What was found, where a search ends.
-use Rattle.std.proofs.Common.{◌≡◌, ℕ, ◌+◌, ◌<◌, ◌≤◌, true, List, length, Some, sym, ap, ◌∙◌, subst, arith, All, Contains}
+use Rattle.std.proofs.Common.{◌≡◌, ◌≢◌, ℕ, ◌+◌, ◌<◌, ◌≤◌, true, List, length, Some, sym, ap, ◌∙◌, subst, arith, All, Contains}
 use Rattle.std.proofs.lemmas.List.Elements.{All-contains}
 use Rattle.mach_types.specs.declared.events.Entry.{Entry}
 use Rattle.mach_types.specs.declared.limits.End.{End}
@@ -7,22 +7,21 @@ use Rattle.block_model.specs.Deciding.{over_at}
 use Rattle.block_model.specs.History.{console}
 use Rattle.block_model.specs.Plain.{Plain, plain_over}
 use Rattle.block_model.specs.Run.{IsBlockRun}
-use Rattle.block_model.specs.Setting.{Setting}
+use Rattle.block_model.specs.Setting.{Setting, with_steps}
 unfoldable use Rattle.block_model.specs.Deciding.{history}
 unfoldable use Rattle.block_model.specs.Plain.{plain_after}
 use Rattle.page_map.specs.Map.{Map}
 use Rattle.same_places.specs.Closed.{HasOutcome, after_logs}
 use Rattle.same_places.specs.FreeRuns.{IsFreeRun}
-use Rattle.same_places.specs.Places.{with_steps}
 use Rattle.found_outcomes.specs.Complete.{IsComplete}
-use Rattle.found_outcomes.specs.Found.{AreDifferent, HasBeenFound, IsShown}
+use Rattle.found_outcomes.specs.Found.{AreDifferent, HasBeenFound, IsEndFound, IsShown}
 use Rattle.found_outcomes.specs.Search.{IsDepth, IsSearchOf}
 use Rattle.found_outcomes.specs.declared.findings.Closing.{Closing}
-use Rattle.found_outcomes.specs.declared.findings.Closing.TheVariants.{Complete, Deep, Places}
+use Rattle.found_outcomes.specs.declared.findings.Closing.TheVariants.{Complete, Deep, Memory, Places}
 use Rattle.found_outcomes.specs.declared.findings.Findings.{Findings}
 use Rattle.found_outcomes.specs.declared.findings.OutcomeFound.{OutcomeFound}
 use Rattle.place_search.specs.Logs.{logs_of}
-use Rattle.place_search.specs.Visiting.{HasVisited, IsEndFound}
+use Rattle.place_search.specs.Visiting.{AreEndsFound, HasVisited}
 use Rattle.place_search.specs.declared.visited.Visited.{Visited}
 use Rattle.place_search.proofs.Logs.{logs_length}
 
@@ -52,8 +51,9 @@ pub record AreFindings (found : Findings) (v : Visited) (why : Closing) : Type 0
   pub closing : found.closing ≡ why
 
 pub search_of : (s : Setting) (start : Map) (most : ℕ) (v : Visited) (closing : Closing) (found : Findings) → AreFindings found v closing → HasVisited s start v → length v.rows.items < most
-    → (closing ≡ Complete → IsComplete s v.outcomes.items) → (closing ≡ Places → length v.rows.items + 1 ≡ most) → (closing ≡ Deep → v.deep ≡ true) → IsSearchOf s most found
-search_of s start most v closing found are h few complete full deep =
+    → (closing ≡ Complete → IsComplete s v.outcomes.items) → (closing ≡ Places → length v.rows.items + 1 ≡ most) → (closing ≡ Deep → v.deep ≡ true)
+    → (closing ≢ Memory → AreEndsFound s v) → IsSearchOf s most found
+search_of s start most v closing found are h few complete full deep ends =
     let items : v.outcomes.items ≡ found.outcomes.items = sym (ap (λ os. os.items) are.outcomes) in
     let size = logs_length v.rows.items in
     let places = are.places in
@@ -69,6 +69,7 @@ search_of s start most v closing found are h few complete full deep =
         deepest = subst (IsDepth (logs_of v.rows.items)) (sym are.deepest) h.deepest;
         outcomes = subst (All (λ (o : OutcomeFound). Contains (logs_of v.rows.items) o.log.items)) items h.among;
       };
+      noted = λ not. subst (λ (os : List OutcomeFound). All (IsEndFound s os) (logs_of v.rows.items)) items (ends (λ is. not (are.closing ∙ is)));
       allowed = omega arith;
       all_places = λ is. places ∙ full (sym are.closing ∙ is);
       at_limit = λ is. let was = h.at_limit (deep (sym are.closing ∙ is)) in (was.log, was.visited, was.at_limit);

@@ -7,4 +7,5 @@ mod Nexts
 mod Outcomes
 mod Starts
 mod Steps
+mod Stops
 mod Visits

@@ -12,8 +12,9 @@ use Rattle.same_places.specs.Replayed.{StandAfter}
 use Rattle.place_keys.specs.MappedPages.{AddsUp}
 use Rattle.place_keys.specs.Packed.{packed}
 use Rattle.place_keys.specs.PartWords.{parts_words}
+use Rattle.found_outcomes.specs.Found.{IsEndFound}
 use Rattle.place_search.specs.Logs.{log_next, logs_of}
-use Rattle.place_search.specs.Visiting.{AreEndsFound, HasVisited, IsEndFound, IsKeyOf, IsMore, MayVisit}
+use Rattle.place_search.specs.Visiting.{AreEndsFound, HasVisited, IsKeyOf, IsMore, MayVisit}
 use Rattle.place_search.specs.Visits.{IsAdded, IsNoted}
 use Rattle.place_search.specs.declared.remade.Remade.{Remade}
 use Rattle.place_search.specs.declared.row.Row.{Row}

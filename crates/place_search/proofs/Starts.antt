@@ -18,10 +18,10 @@ use Rattle.process.specs.declared.parts.Parts.{Parts}
 use Rattle.same_places.specs.Replayed.{StandAfter}
 use Rattle.place_keys.specs.Packed.{packed}
 use Rattle.place_keys.specs.PartWords.{parts_words}
-use Rattle.found_outcomes.specs.Found.{AreDifferent, IsShown}
+use Rattle.found_outcomes.specs.Found.{AreDifferent, IsEndFound, IsShown}
 use Rattle.found_outcomes.specs.declared.findings.OutcomeFound.{OutcomeFound}
 use Rattle.place_search.specs.Logs.{AreAfterParents, logs_of}
-use Rattle.place_search.specs.Visiting.{HasVisited, IsEndFound, IsKeyOf}
+use Rattle.place_search.specs.Visiting.{HasVisited, IsKeyOf}
 use Rattle.place_search.specs.Visits.{IsFirst, IsNoted}
 use Rattle.place_search.specs.declared.row.Row.{Row}
 use Rattle.place_search.specs.declared.visited.Visited.{Visited}

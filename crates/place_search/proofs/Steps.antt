@@ -18,9 +18,9 @@ use Rattle.block_model.proofs.Laws.{loaded_is_laid_out, standing, within_limit}
 use Rattle.process.specs.declared.parts.Parts.{Parts}
 use Rattle.same_places.specs.Choices.{all_choices}
 use Rattle.same_places.specs.Places.{IsCarried, IsSamePlace, rested}
-use Rattle.same_places.proofs.Laws.{same_but_counts}
+use Rattle.same_places.proofs.Laws.{same_but_counts, same_itself}
 use Rattle.process.specs.Refinement.{IsTied}
-use Rattle.local_loads.specs.Resting.{LeavesAreas}
+use Rattle.local_steps.specs.Resting.{LeavesAreas}
 use Rattle.settled_places.specs.SettledSearch.{IsSettledSearch, LeadsToStored}
 use Rattle.settled_places.specs.Settling.{settles_of}
 use Rattle.place_search.specs.SettlingSteps.{HasMore, IsStandingAt, all_or_none, none_private}
@@ -251,15 +251,6 @@ expanded_of s settle rows place all each log (k, lt, at) =
     let size = logs_length rows in
     let same : log_at rows k ≡ log = get_or_default (logs_of rows) k [] log lt ∙ at in
     subst (IsExpanded s settle (logs_of rows)) same (each k (omega (arith, lt)))
-
-same_itself : (s : Setting) (p : Plain) → IsSamePlace s p p
-same_itself s p = record {
-  harts = λ h lt. refl;
-  files = λ t kept. refl;
-  pages = record { permissions = λ n. refl; bytes = λ a. refl; free = refl; break_at = refl };
-  tables = record { threads = refl; signals = refl; scheduling = refl; areas = refl; barriers = refl; console = refl };
-  over = refl;
-}
 
 pub searched_by : (s : Setting) (settle : Bool) (start : Map) (v : Visited) (place : ℕ) → s.limits.steps ≤ 1000000 → HasVisited s start v → length v.rows.items + 1 ≤ place
     → ((k : ℕ) → k < place → IsExpanded s settle (logs_of v.rows.items) (log_at v.rows.items k)) → IsSettledSearch s (all_or_none settle) none_private (logs_of v.rows.items)

@@ -14,11 +14,11 @@ use Rattle.process.specs.declared.parts.Parts.{Parts}
 use Rattle.same_places.specs.Replayed.{StandAfter}
 use Rattle.place_keys.specs.Packed.{packed}
 use Rattle.place_keys.specs.PartWords.{parts_words}
-use Rattle.found_outcomes.specs.Found.{AreDifferent, HasBeenFound, IsShown}
+use Rattle.found_outcomes.specs.Found.{AreDifferent, HasBeenFound, IsEndFound, IsShown}
 use Rattle.found_outcomes.specs.Search.{IsAtLimit, IsDepth}
 use Rattle.found_outcomes.specs.declared.findings.OutcomeFound.{OutcomeFound}
 use Rattle.place_search.specs.Logs.{AreAfterParents, log_next, logs_of}
-use Rattle.place_search.specs.Visiting.{HasLimit, HasVisited, IsEndFound, IsKeyOf, IsMore}
+use Rattle.place_search.specs.Visiting.{HasLimit, HasVisited, IsKeyOf, IsMore}
 use Rattle.place_search.specs.Visits.{IsAdded, IsEndNoted, IsNoted, IsUnchanged}
 use Rattle.place_search.specs.declared.row.Row.{Row}
 use Rattle.place_search.specs.declared.visited.Visited.{Visited}

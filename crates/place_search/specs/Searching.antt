@@ -11,7 +11,7 @@ use Rattle.same_places.specs.Places.{IsCarried}
 use Rattle.same_places.specs.Replayed.{StandAfter}
 use Rattle.same_places.specs.Searched.{IsOpen}
 use Rattle.place_search.specs.Logs.{log_at}
-use Rattle.local_loads.specs.Resting.{LeavesAreas}
+use Rattle.local_steps.specs.Resting.{LeavesAreas}
 use Rattle.process.specs.declared.parts.Parts.{Parts}
 use Rattle.settled_places.specs.SettledSearch.{LeadsToStored}
 use Rattle.settled_places.specs.Settling.{settles_of}

@@ -1,8 +1,6 @@
 -- What holds of the places that were visited (own).
-use Rattle.std.specs.Prelude.{ℕ, ◌≡◌, ◌≤◌, ◌++◌, true, List, length, Some, All, Contains}
+use Rattle.std.specs.Prelude.{ℕ, ◌≡◌, ◌≤◌, ◌++◌, true, List, length, All, Contains}
 use Rattle.mach_types.specs.declared.events.Entry.{Entry}
-use Rattle.mach_types.specs.declared.limits.End.{End}
-use Rattle.block_model.specs.Plain.{plain_after, plain_over}
 use Rattle.block_model.specs.Run.{IsBlockRun}
 use Rattle.block_model.specs.Setting.{Setting}
 use Rattle.block_model.specs.Layouts.{IsLaidOut}
@@ -11,7 +9,7 @@ use Rattle.process.specs.declared.parts.Parts.{Parts}
 use Rattle.same_places.specs.Replayed.{StandAfter}
 use Rattle.place_keys.specs.Packed.{packed}
 use Rattle.place_keys.specs.PartWords.{parts_words}
-use Rattle.found_outcomes.specs.Found.{AreDifferent, HasBeenFound, IsShown}
+use Rattle.found_outcomes.specs.Found.{AreDifferent, IsEndFound, IsShown}
 use Rattle.found_outcomes.specs.Search.{IsAtLimit, IsDepth}
 use Rattle.found_outcomes.specs.declared.findings.OutcomeFound.{OutcomeFound}
 use Rattle.place_search.specs.Logs.{AreAfterParents, log_at, logs_of}
@@ -48,10 +46,7 @@ pub record HasVisited (s : Setting) (start : Map) (v : Visited) : Type 0 where
   pub deepest : IsDepth (logs_of v.rows.items) v.deepest
   pub at_limit : v.deep ≡ true → HasLimit s (logs_of v.rows.items)
 
--- where the run of a log is over, one of the outcomes has its end and its console
-abbrev pub IsEndFound : Setting → List OutcomeFound → List Entry → Type 0
-IsEndFound s os log = (e : End) → plain_over (plain_after s log) ≡ Some e → HasBeenFound os e (plain_after s log).kernel.console
-
+-- each log that was visited and is over ends as one of the outcomes says
 abbrev pub AreEndsFound : Setting → Visited → Type 0
 AreEndsFound s v = All (IsEndFound s v.outcomes.items) (logs_of v.rows.items)
 

@@ -1,6 +1,6 @@
 //! A place whose choices are all tried.
 
-ghost use Rattle.std.specs.Prelude.{◌≡◌, ◌≤◌, ◌+◌, true, false, length, IfOk, IsErrOf, OnOk};
+ghost use Rattle.std.specs.Prelude.{◌≡◌, ◌≢◌, ◌≤◌, ◌+◌, Err, true, false, length, IfOk, IsErrOf, OnOk};
 ghost use Rattle.place_search.specs.Logs.{log_at, logs_of};
 ghost use Rattle.place_search.specs.Searching.{IsExpanded, IsReached, IsSearching, IsTask, setting_for};
 ghost use Rattle.place_search.specs.Visiting.{AreEndsFound, IsMore};
@@ -43,8 +43,8 @@ impl Searcher {
         ensures expanded { OnOk result (self.new.visited.deep ≡ false
             → IsExpanded (setting_for task.now) task.now.settle (logs_of self.new.visited.rows.items)
             (log_at self.new.visited.rows.items place)) }
-        ensures ends { OnOk result (AreEndsFound (setting_for task.now) self.old.visited
-            → AreEndsFound (setting_for task.now) self.new.visited) }
+        ensures ends { result ≢ Err Stop.Memory → AreEndsFound (setting_for task.now) self.old.visited
+            → AreEndsFound (setting_for task.now) self.new.visited }
         ensures full { IsErrOf result Stop.Places → length self.new.visited.rows.items + 1 ≡ task.now.most }
         ensures unsettled { IsErrOf result Stop.Unsettled → task.now.settle ≡ true }
     {

@@ -1,11 +1,11 @@
 //! The search.
 
-ghost use Rattle.std.specs.Prelude.{◌≡◌, ◌≤◌, ◌<◌, ◌+◌, true, length, IfOk, IfSome, None, Some};
+ghost use Rattle.std.specs.Prelude.{◌≡◌, ◌≢◌, ◌≤◌, ◌<◌, ◌+◌, true, length, IfOk, IfSome, None, Some};
 ghost use Rattle.mach_types.specs.Limits.{InRange};
 ghost use Rattle.elf_load.specs.Images.{IsBootable};
 ghost use Rattle.block_model.specs.Setting.{setting_of};
 ghost use Rattle.found_outcomes.specs.Search.{IsSearchOf};
-ghost use Rattle.found_outcomes.specs.declared.findings.Closing.TheVariants.{Complete, Deep, Places};
+ghost use Rattle.found_outcomes.specs.declared.findings.Closing.TheVariants.{Complete, Deep, Memory, Places};
 ghost use Rattle.place_search.specs.Logs.{logs_of};
 ghost use Rattle.settled_places.specs.SettledSearch.{IsSettledSearch};
 ghost use Rattle.place_search.specs.SettlingSteps.{all_or_none, none_private};
@@ -14,7 +14,7 @@ ghost use Rattle.place_search.specs.Visiting.{AreEndsFound};
 
 use crate::keys::key_of;
 use crate::remade::Remade;
-use crate::saying::say_progress;
+use crate::saying::{say_progress, say_stop};
 use crate::task::Task;
 use crate::trying::Searcher;
 use crate::visited::Visited;
@@ -56,17 +56,21 @@ impl Searcher {
         ensures searching { IsSearching task.now self.new }
         ensures searched { result ≡ Some Closing.Complete → IsSettledSearch (setting_for task.now) (all_or_none task.now.settle)
             none_private (logs_of self.new.visited.rows.items) }
-        ensures ends { result ≡ Some Closing.Complete → AreEndsFound (setting_for task.now) self.new.visited }
+        ensures ends { result ≢ Some Closing.Memory → AreEndsFound (setting_for task.now) self.new.visited }
         ensures full { result ≡ Some Closing.Places → length self.new.visited.rows.items + 1 ≡ task.now.most }
         ensures deep { result ≡ Some Closing.Deep → self.new.visited.deep ≡ true }
         ensures none { result ≡ None → task.now.settle ≡ true }
     {
         let mut place = 0;
+        let mut said = 0;
         'places: while place < self.visited.places() {
-            say_progress(task.alloc, sink, &self.visited, place);
+            said = say_progress(task, sink, &self.visited, place, said);
             match self.expand(task, place) {
                 Ok(()) => place += 1,
-                Err(stop) => return stop.closing(),
+                Err(stop) => {
+                    say_stop(task, sink, &self.visited, place, stop);
+                    return stop.closing();
+                }
             }
         }
         if self.visited.deep {
@@ -97,7 +101,7 @@ fn search_by<K: Sink>(task: &Task, sink: &K) -> Result<Option<Findings>, AllocEr
 /// Where an event may reach a thread that has made such steps, the search begins again, and visits each place that runs come to.
 ///
 /// Fails only where memory is short for the start; where it is short later, the search ends with what it found. The sink hears how far
-/// it is; nothing is put there.
+/// it is, and where that takes long what it has found so far; nothing is put there.
 pub fn search<K: Sink>(
     alloc: Global,
     image: &Image,

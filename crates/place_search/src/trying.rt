@@ -1,6 +1,6 @@
 //! The choices that are tried at a place.
 
-ghost use Rattle.std.specs.Prelude.{◌≡◌, ◌<◌, ◌+◌, ℕ, true, false, length, All, IsErrOf, OnOk};
+ghost use Rattle.std.specs.Prelude.{◌≡◌, ◌≢◌, ◌<◌, ◌+◌, ℕ, Err, true, false, length, All, IsErrOf, OnOk};
 ghost use Rattle.same_places.specs.Replayed.{StandAfter};
 ghost use Rattle.place_search.specs.Logs.{logs_of};
 ghost use Rattle.place_search.specs.Searching.{IsExpanded, IsOpenAt, IsTask, IsTriedAt, setting_for};
@@ -62,8 +62,8 @@ impl Searcher {
         ensures more { IsMore self.old.visited self.new.visited }
         ensures tried { OnOk result (IsTriedAt (setting_for task.now) task.now.settle (logs_of self.new.visited.rows.items)
             from.now.log.items hart.0 choice) }
-        ensures ends { OnOk result (AreEndsFound (setting_for task.now) self.old.visited
-            → AreEndsFound (setting_for task.now) self.new.visited) }
+        ensures ends { result ≢ Err Stop.Memory → AreEndsFound (setting_for task.now) self.old.visited
+            → AreEndsFound (setting_for task.now) self.new.visited }
         ensures full { IsErrOf result Stop.Places → length self.new.visited.rows.items + 1 ≡ task.now.most }
         ensures unsettled { IsErrOf result Stop.Unsettled → task.now.settle ≡ true }
     {
@@ -101,8 +101,8 @@ impl Searcher {
         ensures more { IsMore self.old.visited self.new.visited }
         ensures tried { OnOk result (All (IsTriedAt (setting_for task.now) task.now.settle (logs_of self.new.visited.rows.items)
             from.now.log.items hart.0) choices.now) }
-        ensures ends { OnOk result (AreEndsFound (setting_for task.now) self.old.visited
-            → AreEndsFound (setting_for task.now) self.new.visited) }
+        ensures ends { result ≢ Err Stop.Memory → AreEndsFound (setting_for task.now) self.old.visited
+            → AreEndsFound (setting_for task.now) self.new.visited }
         ensures full { IsErrOf result Stop.Places → length self.new.visited.rows.items + 1 ≡ task.now.most }
         ensures unsettled { IsErrOf result Stop.Unsettled → task.now.settle ≡ true }
     {
@@ -121,8 +121,8 @@ impl Searcher {
         ensures more { IsMore self.old.visited self.new.visited }
         ensures expanded { OnOk result (IsExpanded (setting_for task.now) task.now.settle (logs_of self.new.visited.rows.items)
             from.now.log.items) }
-        ensures ends { OnOk result (AreEndsFound (setting_for task.now) self.old.visited
-            → AreEndsFound (setting_for task.now) self.new.visited) }
+        ensures ends { result ≢ Err Stop.Memory → AreEndsFound (setting_for task.now) self.old.visited
+            → AreEndsFound (setting_for task.now) self.new.visited }
         ensures full { IsErrOf result Stop.Places → length self.new.visited.rows.items + 1 ≡ task.now.most }
         ensures unsettled { IsErrOf result Stop.Unsettled → task.now.settle ≡ true }
     {

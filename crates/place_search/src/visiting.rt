@@ -57,8 +57,8 @@ impl Visited {
         ensures few { length self.new.rows.items < most }
         ensures back { OnOk result ((s : Setting) → MayVisit s self.old from.now entries.items made.now
             → IsKeyOf s made.now.start (logs_of self.new.rows.items) (packed (parts_words made.now.start made.now.parts))) }
-        ensures ends { OnOk result ((s : Setting) → MayVisit s self.old from.now entries.items made.now
-            → AreEndsFound s self.old → AreEndsFound s self.new) }
+        ensures ends { result ≢ Err Stop.Memory → (s : Setting) → MayVisit s self.old from.now entries.items made.now
+            → AreEndsFound s self.old → AreEndsFound s self.new }
         ensures full { IsErrOf result Stop.Places → length self.new.rows.items + 1 ≡ most }
         ensures settled { result ≢ Err Stop.Unsettled }
     {

@@ -1,7 +1,7 @@
-//! The line of a run's end.
+//! The line of a run's end, and the text of its console.
 
 ghost use Rattle.std.specs.Prelude.{◌≡◌, ◌++◌, OnOk};
-ghost use Rattle.place_text.specs.Ends.{end_line, number_line};
+ghost use Rattle.place_text.specs.Ends.{console_text, end_line, number_line};
 
 use mach_types::End;
 use std::alloc::AllocError;
@@ -14,6 +14,16 @@ pub fn push_number_line(text: &mut Vec<u8>, words: &[u8], number: usize) -> Resu
     text.extend_from_slice(words)?;
     text.push(b' ')?;
     text.extend_from_slice(digits.format(number).as_bytes())?;
+    text.push(b'\n')?;
+    Ok(())
+}
+
+/// Appends a console's length, its bytes and a newline.
+pub fn push_console(text: &mut Vec<u8>, console: &[u8]) -> Result<(), AllocError>
+    ensures { OnOk result (text.new.items ≡ text.old.items ++ console_text console.now) }
+{
+    push_number_line(text, b"console", console.len())?;
+    text.extend_from_slice(console)?;
     text.push(b'\n')?;
     Ok(())
 }

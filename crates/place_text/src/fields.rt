@@ -61,7 +61,7 @@ pub fn push_number(text: &mut Vec<u8>, number: u64) -> Result<(), AllocError>
 }
 
 /// Appends a space and the lowest hexadecimal digits of a number, so many.
-pub fn push_hex(text: &mut Vec<u8>, places: u8, number: u64) -> Result<(), AllocError>
+pub(crate) fn push_hex(text: &mut Vec<u8>, places: u8, number: u64) -> Result<(), AllocError>
     ensures { OnOk result (text.new.items ≡ text.old.items ++ space ∷ hex_text places number) }
 {
     text.push(b' ')?;

@@ -13,7 +13,7 @@ mod registers;
 mod sequences;
 mod threads;
 
-pub use ends::{push_end, push_number_line};
+pub use ends::{push_console, push_end, push_number_line};
 pub use line_end::LineEnd;
 pub use memory::push_memory;
 pub use place::place_text;

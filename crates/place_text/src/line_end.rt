@@ -71,7 +71,7 @@ impl LineEnd {
 
     /// Puts a number in decimal before it, with no space.
     #[inline(always)]
-    pub fn put_decimal(&mut self, number: u64)
+    pub(crate) fn put_decimal(&mut self, number: u64)
         requires { length self.old ≤ 100 }
         ensures text { self.new ≡ decimal number ++ self.old }
         ensures length { length self.new ≤ length self.old + 20 }

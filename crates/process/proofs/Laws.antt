@@ -11,6 +11,7 @@ pub use Rattle.process.proofs.KernelWrites.{foreseen_entered}
 pub use Rattle.process.proofs.SavedFiles.{saved_plain}
 pub use Rattle.process.proofs.Memory.{bytes_held, writable_held}
 pub use Rattle.process.proofs.PlainInstructions.{plain_next}
+pub use Rattle.process.proofs.RestartableSequences.{view_is}
 pub use Rattle.process.proofs.Places.{in_list, runs_there, thread_is}
 pub use Rattle.process.proofs.NextInstruction.{next_at}
 pub use Rattle.process.proofs.SignalsOfHarts.{has_signals}

@@ -29,6 +29,8 @@ mod starting;
 
 pub use code::Code;
 pub use exec::Written;
+pub use handlers::is_handler;
+pub use hart_view::HartView;
 pub use kernel_writes::KernelWrites;
 pub use next::{
     Next, effect_at, effect_of_next, fault_of_next, is_free, is_local, is_open, next_of,

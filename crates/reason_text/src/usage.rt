@@ -10,8 +10,8 @@ const OPTIONS: &str = "  --harts N   how many harts there are: 1 to 8 (default 2
   --frames N  how many frames of memory there are: 128 to 16384 (default 4096)
   --steps N   how many lines the log may have: 1 to 1000000 (default 200000)
   --seed N    where the generators begin: 0 to 18446744073709551615 (default 1)
-  --policy P  which policy draws: one, long, short, pos, spread, rule, or all, the first five in turn by the seed (default all)
-  --calm N    from how many events on the run goes on fairly: 0 to 1000000 (default a quarter of the steps)
+  --policy P  which policy draws: one, stretch, short, stall, spread, rule, or all, the first five in turn by the seed (default all)
+  --calm N    from how many events on the run goes on fairly: 0 to 1000000 (default half of the steps)
   --after S   the script whose events come before those that are drawn (default none)
   --runs N    how many runs are explored: 1 to 1000000000 (default 10000)
   --until K   how many different outcomes are enough: 1 to 64 (by default all runs are made)
@@ -21,7 +21,7 @@ const OPTIONS: &str = "  --harts N   how many harts there are: 1 to 8 (default 2
   --to N      to which line the log is told: 1 to 1000000 (default its last)
   --memory M  which bytes of memory are shown: AT:LENGTH, an address in hexadecimal and 1 to 65536; or several, one comma apart (default none)
   --expect E  how all runs are expected to end: \"exit N\", \"killed N\", stuck or limit; where one ends otherwise the status is 1 (default nothing is)
-  --places N  how many places are visited: 1 to 16000000 (default 1000000)
+  --places N  how many places are visited at most: 1 to 16000000 (default 1000000)
   --deep N    how many events lead to a place at most: 1 to 1000000 (default 100000)
   --scripts W whether a script of each outcome is printed: yes or no (default yes)
 ";
@@ -123,7 +123,7 @@ fn push_about(text: &mut String, kind: CommandKind) -> Result<(), AllocError> {
             "makes the runs of FILE that the seed and those behind it draw; prints each different outcome, and how many runs came to it\n",
         ),
         CommandKind::Searches => text.push_str(
-            "visits each place that runs of FILE come to; prints each outcome with a script of it, and whether there is no other\n",
+            "visits the places that runs of FILE come to; prints each outcome with a script of it, and whether it is known that there is no other\n",
         ),
         CommandKind::Makes => text.push_str("prints the file of the guest NAME for the size N\n"),
         CommandKind::Tries => text.push_str(

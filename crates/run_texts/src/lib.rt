@@ -5,4 +5,4 @@ mod forms;
 mod output;
 
 pub use forms::push_form;
-pub use output::{Log, Output, output_with, push_console, run_output};
+pub use output::{Log, Output, output_with, run_output};

@@ -14,7 +14,7 @@ use log_lines::{LineBuffer, emit_around};
 use mach_types::Entry;
 use machine_core::Machine;
 use outside::{Failed, Sink, emit};
-use place_text::{push_end, push_number_line};
+use place_text::{push_console, push_end, push_number_line};
 use std::alloc::{AllocError, Global};
 use std::marker::Model;
 
@@ -155,14 +155,4 @@ fn tail_of(alloc: Global, machine: &Machine) -> Result<Vec<u8>, AllocError>
     let mut text = Vec::new(alloc);
     push_end(&mut text, machine.end())?;
     Ok(text)
-}
-
-/// Appends the console's length, its bytes and a newline.
-pub fn push_console(text: &mut Vec<u8>, console: &[u8]) -> Result<(), AllocError>
-    ensures { OnOk result (text.new.items ≡ text.old.items ++ console_text console.now) }
-{
-    push_number_line(text, b"console", console.len())?;
-    text.extend_from_slice(console)?;
-    text.push(b'\n')?;
-    Ok(())
 }

@@ -7,7 +7,7 @@ use Rattle.mach_types.specs.declared.events.Why.{Why}
 use Rattle.block_model.specs.Deciding.{entry_in}
 use Rattle.block_model.specs.Events.{done_of, refusal_of}
 use Rattle.block_model.specs.Plain.{Plain, apply, here_in_plain}
-use Rattle.block_model.specs.Setting.{Setting}
+use Rattle.block_model.specs.Setting.{Setting, with_steps}
 use Rattle.block_model.specs.Stands.{Stand, here_at}
 use Rattle.process.specs.Refinement.{IsAfter, IsAlone, IsPlace, IsReadable, IsTied, answer_to, answered}
 use Rattle.process.specs.Harts.{hart_at}
@@ -21,7 +21,7 @@ use Rattle.std.proofs.lemmas.Option.{slice_get-map}
 use Rattle.std.proofs.lemmas.List.{length-map}
 use Rattle.process.specs.declared.parts.Parts.{Parts}
 use Rattle.std.specs.Prelude.{List}
-use Rattle.same_places.specs.Places.{IsCarried, alone, plain_after_choice, rested, with_steps}
+use Rattle.same_places.specs.Places.{IsCarried, alone, plain_after_choice, rested}
 use Rattle.same_places.specs.Resting.{rested_hart}
 use Rattle.same_places.proofs.Transfers.{place_same, same_tied}
 

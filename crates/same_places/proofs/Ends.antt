@@ -12,20 +12,20 @@ use Rattle.block_model.specs.Here.{Done}
 use Rattle.block_model.specs.History.{console}
 use Rattle.block_model.specs.Plain.{Plain, apply, here_in_plain, here_of, plain_next, plain_over, plain_seen, plain_start}
 use Rattle.block_model.specs.Run.{IsBlockRun, IsRunHistory}
-use Rattle.block_model.specs.Setting.{Seen, Setting}
+use Rattle.block_model.specs.Setting.{Seen, Setting, with_steps}
 use Rattle.block_model.specs.Standing.{IsStanding}
 use Rattle.block_model.proofs.Laws.{history-append, next_event, plain_made, run_before, same_state, stand_fit, stand_next, standing, start_plain, start_run}
 unfoldable use Rattle.block_model.specs.Deciding.{history}
 unfoldable use Rattle.block_model.specs.Plain.{plain_after}
 use Rattle.same_places.specs.Closed.{HasOutcome, IsClosed, IsRunEnding, IsVisited, after_logs}
 use Rattle.same_places.specs.FreeRuns.{IsFreeFrom, IsFreeRun, free_decide}
-use Rattle.same_places.specs.Places.{IsSamePlace, alone, plain_after_choice, rested, with_steps}
+use Rattle.same_places.specs.Places.{IsSamePlace, alone, plain_after_choice, rested}
 use Rattle.same_places.proofs.Carried.{free_answer}
 use Rattle.same_places.proofs.FreeSteps.{allowed}
 use Rattle.same_places.proofs.Transfers.{recounted, same_recounted, same_same}
 
 -- counts of a place don't matter for the place after an event
-same_applied : (s : Setting) (x q k : Plain) (h : ℕ) (d : Done) → IsSamePlace s x (apply h d (recounted k q)) → IsSamePlace s x (apply h d q)
+pub same_applied : (s : Setting) (x q k : Plain) (h : ℕ) (d : Done) → IsSamePlace s x (apply h d (recounted k q)) → IsSamePlace s x (apply h d q)
 same_applied s x q k h d same = record {
   harts = same.harts;
   files = same.files;

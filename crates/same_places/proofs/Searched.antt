@@ -14,15 +14,15 @@ use Rattle.block_model.specs.Deciding.{entry_in}
 use Rattle.block_model.specs.Here.{Here, runs}
 use Rattle.block_model.specs.Plain.{Plain, here_in_plain, plain_after, plain_over, plain_start}
 use Rattle.block_model.specs.Run.{IsBlockRun}
-use Rattle.block_model.specs.Setting.{Seen, Setting}
+use Rattle.block_model.specs.Setting.{Seen, Setting, with_steps}
 use Rattle.block_model.specs.Standing.{IsStanding}
 use Rattle.block_model.proofs.Laws.{plain_made, standing, start_plain}
 use Rattle.process.specs.Refinement.{answer_to, answered}
 use Rattle.same_places.specs.Closed.{IsClosed, IsVisited, after_logs}
-use Rattle.same_places.specs.Places.{IsCarried, IsSamePlace, alone, plain_after_choice, with_steps}
+use Rattle.same_places.specs.Places.{IsCarried, IsSamePlace, alone, plain_after_choice}
 use Rattle.same_places.specs.Searched.{IsSearched, IsTried, LeadsBack}
 
-same_itself : (s : Setting) (p : Plain) → IsSamePlace s p p
+pub same_itself : (s : Setting) (p : Plain) → IsSamePlace s p p
 same_itself s p = record {
   harts = λ h lt. refl;
   files = λ t kept. refl;

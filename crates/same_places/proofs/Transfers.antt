@@ -1,15 +1,16 @@
--- Parts that are tied to one place are tied to each that is the same, with its counts; and places to which the same parts are tied are the same.
+-- Parts that are tied to one place are tied to each that is the same, with its counts; and places to which
+-- the same parts are tied are the same.
 use Rattle.std.proofs.Common.{◌≡◌, ℕ, ◌≤◌, ◌<◌, Some, sym, ap, ◌∙◌, arith}
 use Rattle.std.proofs.lemmas.Option.{same_Some}
 use Rattle.mach_types.specs.Limits.{InRange}
 use Rattle.hart_state.specs.declared.hart.HartState.{HartState}
 use Rattle.block_model.specs.Plain.{Plain}
-use Rattle.block_model.specs.Setting.{Setting}
+use Rattle.block_model.specs.Setting.{Setting, with_steps}
 use Rattle.block_model.specs.Standing.{IsStanding}
 use Rattle.process.specs.Harts.{credit_of, hart_at}
 use Rattle.process.specs.Refinement.{IsPlace, IsTied}
 use Rattle.process.specs.declared.parts.Parts.{Parts}
-use Rattle.same_places.specs.Places.{IsSamePlace, alone, rested, rests, with_steps}
+use Rattle.same_places.specs.Places.{IsSamePlace, alone, rested, rests}
 use Rattle.same_places.proofs.Kept.{has_kept, rests_kept}
 
 -- a place with these counts

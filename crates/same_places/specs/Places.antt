@@ -12,7 +12,7 @@ use Rattle.hart_state.specs.declared.hart.HartState.{HartState}
 use Rattle.block_model.specs.Events.{done_of, refusal_of}
 use Rattle.block_model.specs.Plain.{Plain, apply, here_in_plain, plain_over}
 use Rattle.block_model.specs.Record.{Kernel}
-use Rattle.block_model.specs.Setting.{Setting}
+use Rattle.block_model.specs.Setting.{Setting, with_steps}
 use Rattle.block_model.specs.Standing.{IsStanding}
 use Rattle.block_model.specs.Stands.{Stand}
 use Rattle.process.specs.Harts.{hart_in}
@@ -61,10 +61,6 @@ pub record IsSamePlace (s : Setting) (p q : Plain) : Type 0 where
   pub pages : HasSamePages p q
   pub tables : HasSameTables p.kernel q.kernel
   pub over : plain_over q ≡ plain_over p
-
--- a setting with another step limit
-abbrev pub with_steps : ℕ → Setting → Setting
-with_steps n s = record s { limits = record s.limits { steps = n } }
 
 -- a place whose harts have no counts
 abbrev pub rested : Plain → Plain

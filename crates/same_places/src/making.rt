@@ -23,7 +23,7 @@ fn rest_all(harts: &mut [HartState])
 
 /// Sets to 0 how many events each hart made and how many instructions it executed since its thread began to
 /// run. No rule of an event reads these counts.
-pub fn rest(parts: &mut Parts)
+pub(crate) fn rest(parts: &mut Parts)
     ensures harts { parts.new.harts.items ≡ map rested_hart parts.old.harts.items }
     ensures pages { parts.new.pages ≡ parts.old.pages }
     ensures kernel { parts.new.kernel ≡ parts.old.kernel }
@@ -39,7 +39,7 @@ pub fn rest(parts: &mut Parts)
 /// every other place that is the same but for counts, under each step limit: the choice is answered alike
 /// there, and its event leads to the same place. That holds since the clauses of [`Parts::make`] speak of
 /// every place at which these parts may stand.
-pub fn make_carried(
+pub(crate) fn make_carried(
     parts: &mut Parts,
     code: &Code,
     hart: Hart,

@@ -6,10 +6,9 @@ ghost use Rattle.block_model.specs.Deciding.{history, over_at};
 ghost use Rattle.block_model.specs.History.{console};
 ghost use Rattle.block_model.specs.Plain.{plain_after, plain_over};
 ghost use Rattle.block_model.specs.Run.{IsBlockRun};
-ghost use Rattle.block_model.specs.Setting.{Setting};
+ghost use Rattle.block_model.specs.Setting.{Setting, with_steps};
 ghost use Rattle.same_places.specs.Closed.{HasOutcome, IsClosed, IsRunEnding, after_logs};
 ghost use Rattle.same_places.specs.FreeRuns.{IsFreeRun};
-ghost use Rattle.same_places.specs.Places.{with_steps};
 ghost use Rattle.same_places.specs.Searched.{IsSearched};
 
 /// A family of places that no event leaves has the outcome of every run that is over, however many steps the

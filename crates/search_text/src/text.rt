@@ -1,13 +1,12 @@
 //! The text of what a search found.
 
 ghost use Rattle.std.specs.Prelude.{◌≡◌, ◌<◌, ◌++◌, All, IfOk, OnOk};
-ghost use Rattle.place_text.specs.Ends.{console_text};
 ghost use Rattle.search_text.specs.Text.{HasDigits, closing_line, findings_text, outcome_text, outcomes_text, places_text, script_text};
 
 use found_outcomes::{Closing, Findings, OutcomeFound};
 use log_lines::push_lines;
 use mach_types::Entry;
-use place_text::{push_end, push_number_line};
+use place_text::{push_console, push_end, push_number_line};
 use std::alloc::{AllocError, Global};
 
 /// The text of what a search found: how many outcomes there are, each of them with its script where `scripts` says so, how many places
@@ -60,16 +59,6 @@ fn push_outcome(
     push_end(text, outcome.end)?;
     push_console(text, outcome.console.bytes())?;
     push_script(text, &outcome.log, scripts)
-}
-
-/// Appends the console's length, its bytes and a newline.
-fn push_console(text: &mut Vec<u8>, console: &[u8]) -> Result<(), AllocError>
-    ensures { OnOk result (text.new.items ≡ text.old.items ++ console_text console.now) }
-{
-    push_number_line(text, b"console", console.len())?;
-    text.extend_from_slice(console)?;
-    text.push(b'\n')?;
-    Ok(())
 }
 
 /// Appends how many lines the log has, and its lines, where scripts are printed.

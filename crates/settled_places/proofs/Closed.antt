@@ -12,11 +12,12 @@ use Rattle.block_model.specs.Plain.{Plain, here_in_plain, plain_after, plain_ove
 use Rattle.block_model.specs.Run.{IsBlockRun}
 use Rattle.block_model.specs.Setting.{Setting}
 use Rattle.block_model.proofs.Laws.{run_ready, start_plain}
-use Rattle.local_loads.specs.Explorations.{IsClosed}
-use Rattle.local_loads.specs.Resting.{LeavesAreas, RestsOutside}
-use Rattle.local_loads.specs.Runs.{MayCome, next_of}
+use Rattle.local_steps.specs.Explorations.{IsClosed}
+use Rattle.local_steps.specs.Resting.{LeavesAreas, RestsOutside}
+use Rattle.local_steps.specs.Runs.{MayCome, next_of}
 use Rattle.same_places.specs.Closed.{HasOutcome, after_logs}
 use Rattle.same_places.specs.Places.{IsCarried, IsSamePlace}
+use Rattle.same_places.proofs.Laws.{same_itself}
 use Rattle.same_places.specs.Searched.{IsOpen, IsTried}
 use Rattle.settled_places.specs.SettledSearch.{IsSettledSearch}
 use Rattle.settled_places.specs.Settling.{settles_of}
@@ -89,12 +90,3 @@ module _ (s : Setting) (threads : ℕ → Bool) (private : ℕ → ℕ → Bool)
   starts well =
       settled s threads private logs found.steps [] (plain_start s) found.start well
       (subst (λ (y : Plain). IsSamePlace s y (plain_start s)) (sym (start_plain s)) (same_itself s (plain_start s)))
-    where
-      same_itself : (s : Setting) (p : Plain) → IsSamePlace s p p
-      same_itself s p = record {
-        harts = λ h lt. refl;
-        files = λ t kept. refl;
-        pages = record { permissions = λ n. refl; bytes = λ a. refl; free = refl; break_at = refl };
-        tables = record { threads = refl; signals = refl; scheduling = refl; areas = refl; barriers = refl; console = refl };
-        over = refl;
-      }

@@ -1,9 +1,7 @@
 -- An event at a place that is the same as one at which its choice is carried.
-use Rattle.std.proofs.Common.{◌≡◌, ℕ, ◌<◌, ◌≤◌, ◌+◌, Option, Some, None, refl, sym, ◌∙◌, subst, arith}
+use Rattle.std.proofs.Common.{◌≡◌, ℕ, ◌<◌, ◌≤◌, ◌+◌, None, refl, sym, ◌∙◌, subst, arith}
 use Rattle.mach_types.specs.Kernel.Threads.{Threads}
 use Rattle.mach_types.specs.declared.events.Choice.{Choice}
-use Rattle.mach_types.specs.declared.events.Entry.{Entry}
-use Rattle.mach_types.specs.declared.events.Why.{Why}
 use Rattle.block_model.specs.Deciding.{entry_in}
 use Rattle.block_model.specs.Events.{done_of, refusal_of}
 use Rattle.block_model.specs.Plain.{Plain, here_in_plain}
@@ -11,35 +9,9 @@ use Rattle.block_model.specs.Setting.{Setting}
 use Rattle.block_model.specs.Standing.{IsStanding}
 use Rattle.block_model.proofs.Laws.{IsGood, good_here, good_next, good_of, stand_fit, stand_next}
 use Rattle.process.specs.Refinement.{answered}
-use Rattle.local_loads.specs.Runs.{MayCome, next_of}
-use Rattle.same_places.specs.Places.{IsCarried, IsSamePlace, alone}
-
--- a place with so many events, none of them of a hart
-abbrev counted : ℕ → Plain → Plain
-counted n q = record q { events = λ h. 0; ran = λ h. 0; made = n }
-
-same_counted : (s : Setting) (n : ℕ) (p q : Plain) → IsSamePlace s p q → IsSamePlace s p (counted n q)
-same_counted s n p q same = record {
-  harts = same.harts;
-  files = same.files;
-  pages = record { permissions = same.pages.permissions; bytes = same.pages.bytes; free = same.pages.free; break_at = same.pages.break_at };
-  tables = same.tables;
-  over = same.over;
-}
-
-same_applied : (s : Setting) (x q : Plain) (a : ℕ × Choice) (n : ℕ) → IsSamePlace s x (next_of s (counted n q) a) → IsSamePlace s x (next_of s q a)
-same_applied s x q a n same = record {
-  harts = same.harts;
-  files = same.files;
-  pages = record { permissions = same.pages.permissions; bytes = same.pages.bytes; free = same.pages.free; break_at = same.pages.break_at };
-  tables = same.tables;
-  over = same.over;
-}
-
-free_answer : (e f : Entry) (o p : Option Why) → answered e o ≡ answered f p → o ≡ None → p ≡ None
-free_answer e f None None same free = refl
-free_answer e f None (Some why) same free = cc
-free_answer e f (Some why) p same free = cc
+use Rattle.local_steps.specs.Runs.{MayCome, next_of}
+use Rattle.same_places.specs.Places.{IsCarried, IsSamePlace, alone, rested}
+use Rattle.same_places.proofs.Laws.{free_answer, recounted, same_applied, same_recounted}
 
 -- ONE EVENT
 
@@ -68,7 +40,7 @@ well_on s m a well may =
 
 module _ (s : Setting) (high : s.limits.steps ≤ 1000000) (p q : Plain) (a : ℕ × Choice) (place : HasRoom s p) (well : IsWell s q) (same : IsSamePlace s p q)
     (carried : IsCarried s p a.0 a.1) where
-  stands_counted : IsStanding (alone s (counted p.made q))
+  stands_counted : IsStanding (alone s (recounted (rested p) q))
   stands_counted =
       let given = place.stands.given in
       record {
@@ -81,7 +53,7 @@ module _ (s : Setting) (high : s.limits.steps ≤ 1000000) (p q : Plain) (a : �
       }
 
   alike : answered (entry_in a.1 (here_in_plain s q a.0)) (refusal_of a.1 (here_in_plain s q a.0)) ≡ answered (entry_in a.1 (here_in_plain s p a.0)) (refusal_of a.1 (here_in_plain s p a.0))
-  alike = carried.answer s.limits.steps (counted p.made q) stands_counted place.room high (same_counted s p.made p q same)
+  alike = carried.answer s.limits.steps (recounted (rested p) q) stands_counted place.room high (same_recounted s p q (rested p) same)
 
   -- it may come at both or at neither
   pub may_back : MayCome s q a → MayCome s p a
@@ -101,5 +73,5 @@ module _ (s : Setting) (high : s.limits.steps ≤ 1000000) (p q : Plain) (a : �
   -- and leads both to the same place
   pub next_same : MayCome s p a → IsSamePlace s (next_of s p a) (next_of s q a)
   next_same may =
-      same_applied s (next_of s p a) q a p.made
-      (carried.after s.limits.steps (counted p.made q) stands_counted place.room high (same_counted s p.made p q same) may.free)
+      same_applied s (next_of s p a) q (rested p) a.0 (done_of a.1 (here_in_plain s q a.0))
+      (carried.after s.limits.steps (recounted (rested p) q) stands_counted place.room high (same_recounted s p q (rested p) same) may.free)

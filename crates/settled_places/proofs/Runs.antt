@@ -1,28 +1,24 @@
 -- A run of any length is a run by choices, and ends as a place that was stored.
-use Rattle.std.proofs.Common.{◌≡◌, ℕ, ◌≤◌, Bool, true, false, cond, leb, leb-false, List, [], ◌∷◌, Option, Some, None, Result, Ok, Err, fold, refl, ap, ◌∙◌, subst, arith}
+use Rattle.std.proofs.Common.{◌≡◌, ℕ, ◌≤◌, Bool, List, [], ◌∷◌, Some, Ok, fold, refl, ap, ◌∙◌, subst, arith}
 use Rattle.mach_types.specs.Events.{choice_of}
 use Rattle.mach_types.specs.declared.events.Choice.{Choice}
 use Rattle.mach_types.specs.declared.events.Entry.{Entry}
-use Rattle.mach_types.specs.declared.events.Why.{Why}
-use Rattle.mach_types.specs.declared.events.Why.TheVariants.{NoHart}
 use Rattle.mach_types.specs.declared.limits.End.{End}
-use Rattle.block_model.specs.declared.refusals.Refused.{Refused}
-use Rattle.block_model.specs.declared.refusals.Refused.TheVariants.{Full, NotEnabled}
-use Rattle.block_model.specs.Deciding.{decide_in, entry_in, history, over_at, unless}
-use Rattle.block_model.specs.Events.{refusal_of}
+use Rattle.block_model.specs.Deciding.{decide_in, history, over_at}
 use Rattle.block_model.specs.History.{console}
 use Rattle.block_model.specs.Plain.{Plain, here_in_plain, plain_next, plain_over, plain_start}
 use Rattle.block_model.specs.Run.{IsBlockRun}
-use Rattle.block_model.specs.Setting.{Seen, Setting}
+use Rattle.block_model.specs.Setting.{Seen, Setting, with_steps}
 use Rattle.block_model.proofs.Laws.{same_state, standing, start_plain, start_run}
 unfoldable use Rattle.block_model.specs.Plain.{plain_after}
-use Rattle.local_loads.proofs.Notions.{EndsSo}
-use Rattle.local_loads.specs.Runs.{MayCome, choices, total}
-use Rattle.local_loads.proofs.BlockRuns.{link_from, start_good}
-use Rattle.local_loads.proofs.WithAreas.{complete_with_areas}
+use Rattle.local_steps.proofs.Notions.{EndsSo}
+use Rattle.local_steps.specs.Runs.{MayCome, choices, total}
+use Rattle.local_steps.proofs.BlockRuns.{link_from, start_good}
+use Rattle.local_steps.proofs.WithAreas.{complete_with_areas}
 use Rattle.same_places.specs.Closed.{HasOutcome, after_logs}
 use Rattle.same_places.specs.FreeRuns.{IsFreeFrom, IsFreeRun}
-use Rattle.same_places.specs.Places.{alone, with_steps}
+use Rattle.same_places.specs.Places.{alone}
+use Rattle.same_places.proofs.Laws.{allowed}
 use Rattle.block_model.specs.Standing.{IsStanding}
 use Rattle.settled_places.specs.SettledSearch.{IsSettledSearch}
 use Rattle.settled_places.specs.Settling.{settles_of}
@@ -30,27 +26,16 @@ use Rattle.settled_places.proofs.Closed.{closed_by, starts}
 use Rattle.settled_places.proofs.Events.{IsWell}
 
 -- an entry that is decided where no event counts may come
-
-past : (b : Bool) (w : Refused) (r : Result Entry Refused) (e : Entry) → cond b (Err w) r ≡ Ok e → (b ≡ false) × (r ≡ Ok e)
-past true w r e h = cc
-past false w r e h = (refl, h)
-
-free_of : (e f : Entry) (o : Option Why) → unless e o ≡ Ok f → o ≡ None
-free_of e f None is = refl
-free_of e f (Some why) is = cc
-
-may_come : (s : Setting) (p : Plain) (h : ℕ) (c : Choice) (over : Option End) (e : Entry) → plain_over p ≡ over → decide_in 0 over c (here_in_plain s p h) ≡ Ok e → MayCome s p (h, c)
-may_come s p h c (Some x) e is decided = cc
-may_come s p h c None e is decided =
-    let a = past (leb s.limits.steps 0) Full _ e decided in
-    let b = past (leb s.limits.harts h) (NotEnabled NoHart) _ e a.1 in
-    record { goes = is; lt = leb-false s.limits.harts h b.0; free = free_of (entry_in c (here_in_plain s p h)) e (refusal_of c (here_in_plain s p h)) b.1 }
+may_come : (s : Setting) (p : Plain) (h : ℕ) (c : Choice) (e : Entry) → decide_in 0 (plain_over p) c (here_in_plain s p h) ≡ Ok e → MayCome s p (h, c)
+may_come s p h c e decided =
+    let may = allowed 0 (plain_over p) c (here_in_plain s p h) e decided in
+    record { goes = may.goes; lt = may.lt; free = may.free }
 
 ends_from : (s : Setting) (log : List Entry) (p : Plain) (e : End) → IsFreeFrom s p log → plain_over (fold (plain_next s) p log) ≡ Some e
     → EndsSo s p (choices log) e (fold (plain_next s) p log).kernel.console
 ends_from s [] p e free over = (over, refl)
 ends_from s (x ∷ log) p e free over =
-    (may_come s p x.hart.0 (choice_of x) (plain_over p) x refl free.0, ends_from s log (plain_next s p x) e free.1 over)
+    (may_come s p x.hart.0 (choice_of x) x free.0, ends_from s log (plain_next s p x) e free.1 over)
 
 costs_nothing : (log : List (ℕ × Choice)) → total (λ c. 0) log ≤ 0
 costs_nothing [] = omega arith

@@ -21,9 +21,9 @@ use Rattle.block_model.specs.Plain.{Plain, here_in_plain}
 use Rattle.block_model.specs.Setting.{Setting}
 use Rattle.block_model.specs.Tables.{IsTables}
 use Rattle.process.specs.Harts.{file_of, file_on}
-use Rattle.local_loads.specs.LocalSteps.{IsLoadStep, IsLocalStep, IsStepAt, seen_by, seen_in}
-use Rattle.local_loads.specs.Resting.{IsPast, LeavesAreas, RestsOutside, looked}
-use Rattle.local_loads.specs.Runs.{next_of}
+use Rattle.local_steps.specs.LocalSteps.{IsLoadStep, IsLocalStep, IsStepAt, seen_by, seen_in}
+use Rattle.local_steps.specs.Resting.{IsPast, LeavesAreas, RestsOutside, looked}
+use Rattle.local_steps.specs.Runs.{next_of}
 use Rattle.same_places.specs.Places.{IsSamePlace}
 
 -- a byte that is mapped alike can be read alike

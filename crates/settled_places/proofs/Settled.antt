@@ -12,9 +12,9 @@ use Rattle.block_model.specs.Standing.{IsStanding}
 use Rattle.block_model.specs.Tables.{IsTables}
 use Rattle.block_model.proofs.Laws.{plain_made, run_before, standing, IsNext, next_event}
 use Rattle.block_model.proofs.Swaps.Logs.{last_decided}
-use Rattle.local_loads.specs.Explorations.{Settled, SettlesTo, Steps}
-use Rattle.local_loads.specs.Resting.{RestsOutside}
-use Rattle.local_loads.specs.Runs.{MayCome, next_of}
+use Rattle.local_steps.specs.Explorations.{Settled, SettlesTo, Steps}
+use Rattle.local_steps.specs.Resting.{RestsOutside}
+use Rattle.local_steps.specs.Runs.{MayCome, next_of}
 use Rattle.same_places.specs.Places.{IsSamePlace, alone}
 use Rattle.same_places.proofs.Laws.{same_same}
 use Rattle.settled_places.specs.Settling.{AreSettlingSteps, IsSettlingStep, SettlesBack, settles_of}

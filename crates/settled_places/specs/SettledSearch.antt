@@ -7,7 +7,7 @@ use Rattle.block_model.specs.Events.{refusal_of}
 use Rattle.block_model.specs.Plain.{here_in_plain, plain_after, plain_over}
 use Rattle.block_model.specs.Run.{IsBlockRun}
 use Rattle.block_model.specs.Setting.{Setting}
-use Rattle.local_loads.specs.Resting.{LeavesAreas}
+use Rattle.local_steps.specs.Resting.{LeavesAreas}
 use Rattle.same_places.specs.Places.{IsCarried, plain_after_choice}
 use Rattle.same_places.specs.Searched.{IsOpen}
 use Rattle.settled_places.specs.Settling.{SettlesBack, settles_of}

@@ -8,8 +8,8 @@ use Rattle.mach_types.specs.declared.threads.Saved.{Saved}
 use Rattle.block_model.specs.Plain.{plain_after}
 use Rattle.block_model.specs.Run.{IsBlockRun}
 use Rattle.block_model.specs.Setting.{Setting}
-use Rattle.local_loads.specs.LocalSteps.{IsStepAt}
-use Rattle.local_loads.specs.Resting.{RestsOutside}
+use Rattle.local_steps.specs.LocalSteps.{IsStepAt}
+use Rattle.local_steps.specs.Resting.{RestsOutside}
 use Rattle.same_places.specs.Places.{IsCarried, IsSamePlace}
 
 -- the threads whose local steps a search makes at once

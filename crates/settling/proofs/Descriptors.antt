@@ -5,7 +5,7 @@ unfoldable use Rattle.mach_types.specs.Kernel.Areas.{are_readable, number_at}
 use Rattle.mach_types.specs.Kernel.Areas.{can_read_descriptor, descriptor_at, is_inside, pointer_of, sequence_of}
 use Rattle.mach_types.specs.declared.sequences.Area.{Area}
 use Rattle.mach_types.proofs.Laws.{are_readable-split, is_some-word_at}
-use Rattle.local_loads.specs.Resting.{IsPast, Looked, looked}
+use Rattle.local_steps.specs.Resting.{IsPast, Looked, looked}
 use Rattle.settling.specs.Glances.{glance_at, glance_in, has_descriptor, is_past, looked_of, pointer_in, descriptor_of}
 
 regroup : (a b c d e : Bool) → a && (b && (c && (d && e))) ≡ a && b && c && d && e

@@ -23,9 +23,9 @@ use Rattle.block_model.specs.Tables.{IsTables}
 use Rattle.process.specs.Refinement.{IsTied}
 use Rattle.process.specs.declared.parts.Parts.{Parts}
 use Rattle.process.proofs.Laws.{bytes_held}
-use Rattle.local_loads.specs.LocalSteps.{seen_by, seen_in}
-use Rattle.local_loads.specs.Resting.{LeavesAreas, looked}
-use Rattle.local_loads.specs.Runs.{next_of}
+use Rattle.local_steps.specs.LocalSteps.{seen_by, seen_in}
+use Rattle.local_steps.specs.Resting.{LeavesAreas, looked}
+use Rattle.local_steps.specs.Runs.{next_of}
 use Rattle.same_places.specs.Places.{rested}
 use Rattle.settling.specs.Edges.{IsEdge, own_thread}
 use Rattle.settling.specs.Glances.{glance_in, is_same_glance, is_same_or_null, is_same_word, looked_of}

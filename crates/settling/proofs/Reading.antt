@@ -5,27 +5,16 @@ use Rattle.elf_load.specs.declared.image.ImagePage.{ImagePage}
 use Rattle.mach_types.specs.declared.events.Tid.{Tid}
 use Rattle.mach_types.specs.declared.sequences.Area.{Area}
 use Rattle.mach_types.specs.declared.threads.Saved.{Saved}
-use Rattle.rv_inst.specs.Execution.{seen_byte}
 use Rattle.hart_state.specs.declared.hart.HartState.{HartState}
-use Rattle.page_map.specs.Map.{byte_in}
-use Rattle.block_model.specs.Here.{Here, runs, view, waiting_here}
+use Rattle.block_model.specs.Here.{Here, runs, view}
 use Rattle.block_model.specs.Plain.{Plain, here_in_plain}
 use Rattle.block_model.specs.Sequences.{area_here}
 use Rattle.block_model.specs.Setting.{Setting}
 use Rattle.block_model.specs.Sights.{thread}
 use Rattle.process.specs.Harts.{file_of, file_on, hart_at}
-use Rattle.process.specs.Refinement.{IsTied}
-use Rattle.process.specs.declared.parts.Parts.{Parts}
-use Rattle.process.proofs.Laws.{bytes_held, thread_is}
+use Rattle.process.proofs.Laws.{thread_is}
 use Rattle.settling.specs.LocalFiles.{local_file}
 use Rattle.settling.specs.Settles.{are_past, is_settling_by, is_settling_here}
-
--- memory behind the waiting stores of a hart is what the hart sees
-pub view_is : (s : Setting) (p : Plain) (m : Parts) (h credit : ℕ) (x : HartState) → IsTied s p m → x ≡ hart_at s p h credit
-    → seen_byte x.buffer (byte_in m.pages) ≡ view (here_in_plain s p h)
-view_is s p m h credit x tied own =
-    ap (λ (y : HartState). seen_byte y.buffer (byte_in m.pages)) own
-    ∙ ap (seen_byte (waiting_here (here_in_plain s p h))) (bytes_held p.kernel s.program.break_at p.byte m.pages tied.pages)
 
 -- the thread that a hart keeps runs there
 pub runs_is : (s : Setting) (p : Plain) (h credit : ℕ) (x : HartState) (t : Tid) → x ≡ hart_at s p h credit → Some t ≡ x.running → runs (here_in_plain s p h) ≡ Some t.0

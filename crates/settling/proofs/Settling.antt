@@ -13,8 +13,8 @@ use Rattle.block_model.specs.Sequences.{area_here}
 use Rattle.block_model.specs.Setting.{Setting}
 use Rattle.block_model.specs.Tables.{IsTables}
 use Rattle.block_model.proofs.Laws.{running_is}
-use Rattle.local_loads.specs.LocalSteps.{IsLocalStep, local_after, seen_by, seen_in}
-use Rattle.local_loads.specs.Resting.{IsPast, RestsOutside, looked}
+use Rattle.local_steps.specs.LocalSteps.{IsLocalStep, local_after, seen_by, seen_in}
+use Rattle.local_steps.specs.Resting.{IsPast, RestsOutside, looked}
 use Rattle.settling.specs.Glances.{glance_in, is_past}
 use Rattle.settling.specs.LocalFiles.{local_file}
 use Rattle.settling.specs.Settles.{MaySettle, are_past, is_settling_by, is_settling_here}

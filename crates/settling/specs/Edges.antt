@@ -12,7 +12,7 @@ use Rattle.block_model.specs.Sights.{thread}
 use Rattle.block_model.specs.Tables.{IsTables}
 use Rattle.process.specs.Refinement.{IsTied}
 use Rattle.process.specs.declared.parts.Parts.{Parts}
-use Rattle.local_loads.specs.Runs.{next_of}
+use Rattle.local_steps.specs.Runs.{next_of}
 use Rattle.same_places.specs.Places.{rested}
 use Rattle.settling.specs.Handlers.{has_no_handler}
 use Rattle.settling.specs.Looks.{is_kept, look_in}
@@ -27,8 +27,8 @@ own_thread asked.Preempt o = None
 own_thread (asked.Run t) o = None
 own_thread asked.Signal o = None
 
--- parts stood at this place before the event of the choice, and stand at the next one after it, with no counts of
--- harts; no signal had a handler; and each area that was registered before it is kept
+-- parts stood at this place before the event of the choice, and stand at the next one after it, with no
+-- counts of harts; no signal had a handler; and each area that was registered before it is kept
 pub record IsEdge (s : Setting) (p : Plain) (h : ℕ) (c : Choice) (before after : Parts) : Type 0 where
   pub tied : IsTied s (rested p) before
   pub tables : IsTables s.limits.harts p.kernel.threads p.kernel.scheduling

@@ -5,7 +5,7 @@ use Rattle.mach_types.specs.Kernel.Areas.{is_inside, sequence_of}
 use Rattle.mach_types.specs.declared.sequences.Area.{Area}
 use Rattle.mach_types.specs.declared.sequences.Descriptor.{Descriptor}
 use Rattle.mach_types.specs.declared.sequences.TheConstants.{RSEQ_CS}
-use Rattle.local_loads.specs.Resting.{Looked}
+use Rattle.local_steps.specs.Resting.{Looked}
 use Rattle.settling.specs.declared.areas.Glance.{Glance}
 
 -- the pointer of an area; 0 where it can't be read

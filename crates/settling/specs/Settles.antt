@@ -8,8 +8,8 @@ use Rattle.block_model.specs.Here.{Here, runs, view}
 use Rattle.block_model.specs.Plain.{Plain}
 use Rattle.block_model.specs.Sequences.{area_here}
 use Rattle.block_model.specs.Setting.{Setting}
-use Rattle.local_loads.specs.LocalSteps.{IsLocalStep}
-use Rattle.local_loads.specs.Resting.{RestsOutside}
+use Rattle.local_steps.specs.LocalSteps.{IsLocalStep}
+use Rattle.local_steps.specs.Resting.{RestsOutside}
 use Rattle.settling.specs.Glances.{glance_in, is_past}
 use Rattle.settling.specs.LocalFiles.{local_file}
 

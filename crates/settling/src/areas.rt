@@ -35,7 +35,7 @@ fn word<M: UserMem>(mem: &M, at: u64, offset: u64, size: u8) -> Option<u64>
 }
 
 /// The words that an area looks at.
-pub fn glance_of<M: UserMem>(mem: &M, area: &Area) -> Glance
+pub(crate) fn glance_of<M: UserMem>(mem: &M, area: &Area) -> Glance
     ensures { result ≡ glance_in (M.byte mem.now) area.now }
 {
     let pointer = word(mem, area.at, RSEQ_CS, 8).unwrap_or(0);

@@ -5,16 +5,15 @@ ghost use Rattle.std.specs.List.{list_all};
 ghost use Rattle.mach_types.specs.Kernel.Threads.{running_on};
 ghost use Rattle.block_model.specs.Plain.{Plain};
 ghost use Rattle.block_model.specs.Setting.{Setting};
-ghost use Rattle.local_loads.specs.Resting.{LeavesAreas};
+ghost use Rattle.local_steps.specs.Resting.{LeavesAreas};
 ghost use Rattle.process.specs.Refinement.{IsTied};
 ghost use Rattle.settling.specs.Edges.{IsEdge, own_thread};
 ghost use Rattle.settling.specs.Glances.{glance_in, is_same_or_null};
 ghost use Rattle.settling.specs.Looks.{is_kept, look_in, seen_in_parts};
 
 use crate::areas::{Glance, glance_of};
-use crate::hart_view::HartView;
 use mach_types::{Area, Choice, Hart, ThreadState, Tid};
-use process::Parts;
+use process::{HartView, Parts};
 use std::alloc::{AllocError, Global};
 
 /// What the area of a thread looks at.

@@ -5,12 +5,10 @@
 mod areas;
 mod edges;
 mod handlers;
-mod hart_view;
 mod local;
 mod resting;
 
-pub use areas::{Glance, glance_of};
+pub use areas::Glance;
 pub use edges::{Look, are_kept, kept_areas_are_left, looks, own_of};
 pub use handlers::has_no_handler;
-pub use local::local_pc;
 pub use resting::{is_settling, settling_threads_rest};

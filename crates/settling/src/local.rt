@@ -11,7 +11,7 @@ use rv_inst::Effect;
 
 /// Where the thread on a hart in this state goes on after its next instruction, where that touches registers
 /// and the pc alone: it sets a register, or is a fence. None where it is another.
-pub fn local_pc(code: &Code, state: &HartState) -> Option<u64>
+pub(crate) fn local_pc(code: &Code, state: &HartState) -> Option<u64>
     ensures { result ≡ option_map (λ f. f.pc) (local_file code.now (file_of state.now)) }
 {
     match effect_of_next(code, state)? {

@@ -10,12 +10,11 @@ ghost use Rattle.process.specs.Refinement.{IsTied};
 ghost use Rattle.settling.specs.Settles.{MaySettle, are_past, is_settling_here};
 
 use crate::areas::glance_of;
-use crate::hart_view::HartView;
 use crate::local::local_pc;
 use hart_state::HartState;
 use mach_types::{Area, Hart};
 use page_map::PageMap;
-use process::{Code, Parts};
+use process::{Code, HartView, Parts};
 use sys_calls::area_of;
 
 /// Whether both pcs are outside what an area looks at, as a hart in this state sees memory.

@@ -2,9 +2,8 @@
 use Rattle.mach_types.specs.declared.events.Choice.TheVariants as asked
 use Rattle.mach_types.specs.declared.events.Kind.TheVariants as kind
 use Rattle.block_model.specs.Deciding.{pc_in}
-use Rattle.block_model.specs.History.{file_among}
-use Rattle.block_model.proofs.Laws.{AllStand, FilesStand, HaveBytes, IsProper, StandsIn, proper_of, start_small, start_stand, thread_given, written_small}
-use Rattle.shared_procs.proofs.Common.{◌≡◌, ℕ, ◌-◌, ◌≤◌, ◌<◌, ◌^◌, ◌+◌, List, [], ◌∷◌, fold, Bool, true, false, not, Option, Some, None, cond, eqb, refl, sym, ap, ◌∙◌, subst, arith, acting, apply, apply_two, aside, Choice, choice_of, Done, done_of, done_two, End, ended_if, Entry, entry_two, event_two, filter, goes_on, half, Here, here_at, here_two, is_shared, IsPairRun, IsPairRunHistory, kind_of, leb-false, Neighbour, neighbour, number_in_log, number_of, own_choice, Pair, pair_after, pair_history, pair_start, PairEvent, PairHistory, PairSetting, Saved, SECOND_THREADS, setting, Stand, stand, thread_in, Write}
+use Rattle.block_model.proofs.Laws.{AllStand, HaveBytes, IsProper, StandsIn, among_stands, proper_of, start_small, start_stand, thread_given, written_small}
+use Rattle.shared_procs.proofs.Common.{◌≡◌, ℕ, ◌-◌, ◌≤◌, ◌<◌, ◌^◌, ◌+◌, List, [], ◌∷◌, fold, Bool, true, false, not, Option, Some, None, refl, sym, ap, ◌∙◌, subst, arith, acting, apply, apply_two, aside, Choice, choice_of, Done, done_of, done_two, End, ended_if, Entry, entry_two, event_two, filter, goes_on, half, Here, here_at, here_two, is_shared, IsPairRun, IsPairRunHistory, kind_of, leb-false, Neighbour, neighbour, number_in_log, number_of, own_choice, Pair, pair_after, pair_history, pair_start, PairEvent, PairHistory, PairSetting, SECOND_THREADS, setting, Stand, stand, thread_in, Write}
 use Rattle.std.proofs.lemmas.List.Elements.{All-from_recursion}
 use Rattle.std.specs.Prelude.{All}
 use Rattle.std.specs.List.{AllByRecursion}
@@ -27,16 +26,11 @@ both_start : (s : PairSetting) → AreSmall s → BothStand s (pair_start s)
 both_start s small true h = record { threads = λ t. small.starts true; handlers = start_stand; bytes = λ a. start_small s.second a (small.bytes true) }
 both_start s small false h = record { threads = λ t. small.starts false; handlers = start_stand; bytes = λ a. start_small s.first a (small.bytes false) }
 
--- a thread's file among those that an event set
-one_of : (files : List (ℕ × Saved)) (t : ℕ) (f : Saved) → FilesStand files → StandsIn f → StandsIn (file_among files t f)
-one_of [] t f all stands = stands
-one_of (p ∷ files) t f all stands = elim (eqb p.0 t) as (λ b. StandsIn (cond b p.1 (file_among files t f))) [ true ↦ all.0 | false ↦ one_of files t f all.1 stands ]
-
 -- what an event leaves of the process that acts, whatever enters memory in it
 own_stand : (v : Stand) (h k : ℕ) (d : Done) (entered : List Write) (o : Option End) (beside : Option Neighbour) → AllStand (here_at v h) → IsProper (here_at v h) d
     → AllStand (here_at (record { setting = v.setting; plain = ended_if o (apply h (record d { entered = entered }) v.plain); beside = beside }) k)
 own_stand v h k d entered o beside was proper = record {
-  threads = λ t. one_of d.files t (v.plain.file t) (proper.files was) (was.threads t);
+  threads = λ t. among_stands d.files t (v.plain.file t) (proper.files was) (was.threads t);
   handlers = proper.handlers was;
   bytes = λ a. written_small entered a (v.plain.byte a) (was.bytes a);
 }

@@ -25,7 +25,8 @@ use command_words::MemorySpans;
 use elf_load::Image;
 use mach_types::Limits;
 use machine_core::Machine;
-use run_texts::{Output, output_with, push_console};
+use place_text::push_console;
+use run_texts::{Output, output_with};
 use std::alloc::{AllocError, Global};
 
 /// The summary of a run, at whose end a machine is and whose acts these counts are.

@@ -13,7 +13,7 @@ use Rattle.outcomes.specs.Outcome.{Call, CouldNotRead, IsDue, IsElfLine, IsGuest
 use Rattle.outcomes.specs.Outcome.{Wrote, WroteText}
 use Rattle.outcomes.specs.Outputs.{IsOutput, IsOutputOf}
 use Rattle.call_reasons.specs.declared.reasons.OtherEnd.{OtherEnd}
-use Rattle.command_words.specs.Commands.{Command, Runs, Makes, Tries, Explores, Searches, Pairs}
+use Rattle.command_words.specs.Commands.{Command}
 use Rattle.outcomes.specs.Programs.{Files}
 use Rattle.call_reasons.specs.Statuses.{fault_status}
 use Rattle.call_reasons.specs.FaultLines.{fault_line}
@@ -21,7 +21,7 @@ use Rattle.command_words.specs.Words.{command_of}
 use Rattle.output_laws.proofs.Laws.{fault_when_good, left_by_bad_line, left_by_big, left_by_faulty, left_by_outside, status_left}
 use Rattle.output_laws.proofs.Laws.{unused_when_bad_line, unused_when_big}
 use Rattle.output_laws.proofs.Laws.{unused_when_faulty, unused_when_outside, used_by_output}
-use Rattle.output_laws.proofs.Laws.{plain_output_of}
+use Rattle.output_laws.proofs.Laws.{judged_output, plain_output_of}
 
 -- what each call leaves as it was
 pub record IsKept (call : Call) : Type 0 where
@@ -80,18 +80,6 @@ or_seven : (status : ℕ) → (status ≡ 0) ⊎ (status ≡ 1) → (status ≡ 
 or_seven status (inl zero) = inl zero
 or_seven status (inr one) = inr (inl one)
 
--- an output that is judged is one
-output_judged : (files : Files) (command : Option Command) (other : Option OtherEnd) (text : List ℕ)
-    → IsJudged files command other text → IsOutputOf files command text
-output_judged files None other text judged = absurd judged
-output_judged files (Some (Runs run)) other text judged = judged.1
-output_judged files (Some (Makes guest)) other text judged = judged.1
-output_judged files (Some (Tries trial)) other text judged = judged.1
-output_judged files (Some (Explores program settings)) other text judged =
-    record { image = judged.image; taken = judged.taken; account = judged.account; told = judged.told; text = judged.text }
-output_judged files (Some (Searches program settings)) other text judged = judged.1
-output_judged files (Some (Pairs pair)) other text judged = judged.1
-
 -- the status of an output
 an_output_status : (other : Option OtherEnd) → IsStatus (output_status other)
 an_output_status None = inl refl
@@ -124,7 +112,7 @@ written_output : (call : Call) (text : List ℕ) (other : Option OtherEnd) (stat
     → IsOutcome call status
 written_output call text other status keeps judged written =
     let is = written.status in
-    let output : IsOutput call.files call.words text = output_judged call.files (command_of call.words) other text judged in
+    let output : IsOutput call.files call.words text = judged_output call.files (command_of call.words) other text judged in
     let used = used_by_output call.files (command_of call.words) text output in
     record {
       statuses = subst IsStatus (sym is) (an_output_status other);
@@ -274,7 +262,7 @@ output_delivered : (call : Call) (text : List ℕ) (other : Option OtherEnd) (st
 output_delivered call text other status keeps judged (inl written) =
     written_output call text other status keeps judged written
 output_delivered call text other status keeps judged (inr cut) =
-    cut_short call text status keeps (inl (output_judged call.files (command_of call.words) other text judged)) cut
+    cut_short call text status keeps (inl (judged_output call.files (command_of call.words) other text judged)) cut
 
 fault_delivered : (call : Call) (fault : Fault) (status : ℕ) → IsKept call
     → IsCause call.files call.words call.read_faults call.read_faults_after fault

@@ -1,18 +1,16 @@
 -- What a log that is a pair run says of its entries.
-use Rattle.std.proofs.Common.{◌≡◌, ℕ, ◌<◌, ◌≤◌, All, Bool, true, false, List, [], ◌∷◌, Result, Ok, Err, refl, arith}
+use Rattle.std.proofs.Common.{◌≡◌, ℕ, ◌<◌, ◌≤◌, All, List, [], ◌∷◌, Ok, arith}
 use Rattle.std.proofs.lemmas.Bool.{leb-false}
 use Rattle.std.proofs.lemmas.List.Elements.{All-from_recursion}
-use Rattle.std.specs.Prelude.{fold, if◌then◌else◌, nat_le}
+use Rattle.std.specs.Prelude.{fold}
 use Rattle.std.specs.List.{AllByRecursion}
 use Rattle.mach_types.specs.Events.{choice_of}
 use Rattle.mach_types.specs.declared.events.Choice.{Choice}
 use Rattle.mach_types.specs.declared.events.Entry.{Entry}
-use Rattle.mach_types.specs.declared.events.Why.TheVariants.{NoHart}
-use Rattle.shared_procs.specs.Pairs.{Pair, PairSetting, is_over, refusal_two}
-use Rattle.shared_procs.specs.PairRuns.{IsPairRun, IsPairRunHistory, PairHistory, entry_two, event_two, pair_after, pair_decide}
-use Rattle.shared_procs.specs.PairRuns.{pair_history, unless_two}
-use Rattle.shared_procs.specs.declared.outcomes.PairRefused.{PairRefused}
-use Rattle.shared_procs.specs.declared.outcomes.PairRefused.TheVariants.{Ended, Full, NotEnabled}
+use Rattle.shared_procs.specs.Pairs.{Pair, PairSetting}
+use Rattle.shared_procs.specs.PairRuns.{IsPairRun, IsPairRunHistory, PairHistory, event_two, pair_after, pair_decide}
+use Rattle.shared_procs.specs.PairRuns.{pair_history}
+use Rattle.shared_procs.proofs.Laws.{decided_two}
 
 -- a history with the entries of a log behind it
 abbrev pub on : PairSetting → PairHistory → List Entry → PairHistory
@@ -30,18 +28,7 @@ decided s h e log run = (begun s (event_two s h e ∷ h) log run).1
 
 -- its hart is one of the machine's
 hart_within : (s : PairSetting) (m : Pair) (h : ℕ) (c : Choice) (e : Entry) → pair_decide s m h c ≡ Ok e → h < s.limits.harts
-hart_within s m h c e is =
-    leb-false s.limits.harts h
-    (by_tests (is_over m) (nat_le s.limits.steps m.made) (nat_le s.limits.harts h)
-    (unless_two (entry_two s m h c) (refusal_two s m h c)) is)
-  where
-    by_tests : (over full none : Bool) (r : Result Entry PairRefused)
-        → (if over then Err Ended else if full then Err Full else if none then Err (NotEnabled NoHart) else r) ≡ Ok e
-        → none ≡ false
-    by_tests true full none r is = absurd (cc is)
-    by_tests false true none r is = absurd (cc is)
-    by_tests false false true r is = absurd (cc is)
-    by_tests false false false r is = refl
+hart_within s m h c e is = leb-false s.limits.harts h (decided_two s m h c e is).hart
 
 digits_on : (s : PairSetting) (h : PairHistory) (log : List Entry) → s.limits.harts ≤ 8 → IsPairRunHistory s (on s h log)
     → AllByRecursion (λ (e : Entry). e.hart.0 < 8) log

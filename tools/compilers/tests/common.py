@@ -17,7 +17,7 @@ RVCC = COMMON / 'rvcc'
 PROGRAM = Path(os.environ.get('RSEQ_RUN', ROOT / 'crates' / 'rseq_run' / 'out' / 'rseq_run')).resolve()
 GCC, CLANG, LINUX_GCC = 'riscv64-unknown-elf-gcc', 'clang', 'riscv64-linux-gnu-gcc'
 PICOLIBC = Path('/usr/lib/picolibc/riscv64-unknown-elf')
-TIMEOUT = 600
+TIMEOUT = 1800
 """Seconds that no build and no exploration takes, on a machine that has other work too."""
 
 

@@ -28,6 +28,9 @@ FOUND = EXAMPLES / 'peterson' / 'found.output'
 
 START = 0x10078
 
+TIMEOUT = 1800
+"""Seconds that no command takes, on a slow machine that has other work too."""
+
 GCC, CLANG = 'riscv64-unknown-elf-gcc', 'clang'
 COMPILERS = [
     name for name in (GCC, CLANG) if shutil.which(name) and (name != CLANG or shutil.which('ld.lld'))
@@ -80,7 +83,7 @@ def values(run: Path, elf: Path, trace: str) -> Values:
 
 def lens(*words: object, cwd: Path = ROOT, stdin: bytes = b'') -> subprocess.CompletedProcess:
     """What the command answers to some words."""
-    return subprocess.run([LENS, *map(str, words)], cwd=cwd, input=stdin, capture_output=True, timeout=300)
+    return subprocess.run([LENS, *map(str, words)], cwd=cwd, input=stdin, capture_output=True, timeout=TIMEOUT)
 
 
 def toolchain(tool: str, *words: object) -> None:
@@ -111,7 +114,7 @@ def build(compiler: str, folder: Path, name: str, source: str, *options: str) ->
     text, elf = folder / f'{name}.c', folder / f'{name}.elf'
     text.write_text(source)
     words = [EXAMPLES / 'common' / 'rvcc', *options, '-o', elf, text]
-    subprocess.run(words, env={**os.environ, 'RVCC': compiler}, check=True, capture_output=True, timeout=300)
+    subprocess.run(words, env={**os.environ, 'RVCC': compiler}, check=True, capture_output=True, timeout=TIMEOUT)
     return elf
 
 

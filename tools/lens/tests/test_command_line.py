@@ -7,7 +7,7 @@ from pathlib import Path
 
 from lens.command_line import VERSION
 
-from .common import EXAMPLES, FOUND, LENS, PETERSON, PROGRAM, ROOT, lens
+from .common import EXAMPLES, FOUND, LENS, PETERSON, PROGRAM, ROOT, TIMEOUT, lens
 
 SWEEP = ROOT / 'tools' / 'bin' / 'sweep'
 COMMANDS = 'list', 'trace', 'svg', 'calls', 'sequences', 'watch', 'races', 'why', 'cut', 'play', 'inspect', 'steer', 'shrink'
@@ -35,7 +35,7 @@ SWEEP_WRONG = {
 
 
 def sweep(*words: str) -> subprocess.CompletedProcess:
-    return subprocess.run([SWEEP, *words], capture_output=True, timeout=300)
+    return subprocess.run([SWEEP, *words], capture_output=True, timeout=TIMEOUT)
 
 
 class Words(unittest.TestCase):
@@ -70,7 +70,7 @@ class Words(unittest.TestCase):
             for reader in ('head -n 1', 'true'):
                 with self.subTest(words=words, reader=reader):
                     line = f'{{ {LENS} {words}; }} | {reader}'.replace('--program cat', f'--program {self.program()}')
-                    answer = subprocess.run(['sh', '-c', line], capture_output=True, timeout=300)
+                    answer = subprocess.run(['sh', '-c', line], capture_output=True, timeout=TIMEOUT)
                     self.assertEqual((answer.returncode, answer.stderr), (0, b''))
 
     def test_nobody_reads_what_a_command_prints(self):
@@ -93,7 +93,7 @@ class Words(unittest.TestCase):
         reader, writer = os.pipe()
         os.close(reader)
         try:
-            return subprocess.run(list(map(str, words)), stdout=writer, stderr=subprocess.PIPE, timeout=300)
+            return subprocess.run(list(map(str, words)), stdout=writer, stderr=subprocess.PIPE, timeout=TIMEOUT)
         finally:
             os.close(writer)
 
@@ -113,7 +113,7 @@ class Words(unittest.TestCase):
 
     def test_a_full_disk(self):
         with open('/dev/full', 'w') as full:
-            answer = subprocess.run([LENS, 'list', FOUND, PETERSON], stdout=full, stderr=subprocess.PIPE, timeout=300)
+            answer = subprocess.run([LENS, 'list', FOUND, PETERSON], stdout=full, stderr=subprocess.PIPE, timeout=TIMEOUT)
         said = b'lens: standard output: No space left on device\n'
         self.assertEqual((answer.returncode, answer.stderr), (2, said))
 
@@ -123,7 +123,7 @@ class Words(unittest.TestCase):
             for words in (('why', FOUND, PETERSON), ('play', FOUND, PETERSON), ('list', '--seed', 1, PETERSON)):
                 with self.subTest(program=program, words=words):
                     env = {**os.environ, 'RSEQ_RUN': program}
-                    answer = subprocess.run([LENS, *map(str, words)], env=env, capture_output=True, timeout=300)
+                    answer = subprocess.run([LENS, *map(str, words)], env=env, capture_output=True, timeout=TIMEOUT)
                     said = f'lens: {program} is another program than rseq_run (RSEQ_RUN or --program names the one that is called)\n'
                     self.assertEqual((answer.returncode, answer.stdout, answer.stderr.decode()), (2, b'', said))
 

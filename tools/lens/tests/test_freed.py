@@ -159,7 +159,7 @@ class Freed(unittest.TestCase):
         for (access, block), due in zip(zip(rows[::2], rows[1::2]), ACCESSES, strict=True):
             kind, function, line, byte, given, freed = due
             with self.subTest(access=access):
-                self.assertIn(f'hart 0  thread 1  {kind} 0x', access)
+                self.assertRegex(access, f'hart [01]  thread 1  {kind} 0x')
                 self.assertRegex(access, f'  {function}(\\+0x[0-9a-f]+)?  {line}')
                 self.assertRegex(block, f'^ +{byte} at 0x[0-9a-f]+, given to thread 1 in step [0-9]+, at main.*{given}; ')
                 self.assertRegex(block, f'; freed by thread 1 in step [0-9]+, at main.*, {freed}, [0-9]+ steps before$')

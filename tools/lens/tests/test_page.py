@@ -9,7 +9,7 @@ import textwrap
 import unittest
 from pathlib import Path
 
-from .common import PROGRAM, ROOT, needs_objdump, needs_program
+from .common import PROGRAM, ROOT, TIMEOUT, needs_objdump, needs_program
 
 PAGES = {
     'README.md': 18,
@@ -39,6 +39,9 @@ COMPILER, LIBRARY = 'riscv64-unknown-elf-gcc', Path('/usr/lib/picolibc/riscv64-u
 CLANG = 'RVCC=clang'
 MUSL = 'musl/bin/rvcc'
 """The programs that are built by it are tried by tools/musl."""
+SAID = re.compile(r'^outcome \d+: end .*\n', re.MULTILINE)
+"""What `explore` and `outcomes` say of what they find, where they take longer than a second: a slow machine has more of
+it."""
 CALL = re.compile(r'^REPOSITORY/crates/rseq_run/out/rseq_run .*\n', re.MULTILINE)
 
 
@@ -105,7 +108,7 @@ class Page(unittest.TestCase):
         """Builds a program in a room of its own and runs it; what that prints begins with the block below."""
         here = command.replace('REPOSITORY/crates/rseq_run/out/rseq_run', str(PROGRAM))
         here = here.replace('REPOSITORY', str(ROOT))
-        ran = subprocess.run(['sh', '-c', here], cwd=room, capture_output=True, text=True, timeout=300)
+        ran = subprocess.run(['sh', '-c', here], cwd=room, capture_output=True, text=True, timeout=TIMEOUT)
         self.assertEqual(words(ran.stdout)[: len(words(below))], words(below), ran.stderr)
 
     def furnish(self, room):
@@ -129,10 +132,10 @@ class Page(unittest.TestCase):
             capture_output=True,
             text=True,
             env={**os.environ, 'RSEQ_RUN': str(PROGRAM)},
-            timeout=300,
+            timeout=TIMEOUT,
         )
         if not below.strip().startswith(COMMANDS):
-            printed = words(ran.stdout + ran.stderr).replace(f'{room}/', '/tmp/')
+            printed = words(ran.stdout + SAID.sub('', ran.stderr)).replace(f'{room}/', '/tmp/')
             self.assertTrue(
                 not printed or printed.startswith(words(below)),
                 f'{printed[:400]}\nand not\n{words(below)[:400]}',

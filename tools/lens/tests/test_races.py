@@ -332,7 +332,7 @@ class Marks(unittest.TestCase):
 
     @needs_program
     def test_indices_and_members(self):
-        text = lens('races', '--seed', 3, EXAMPLES / 'hazard' / 'hazard.elf').stdout.decode()
+        text = lens('races', '--seed', 4, EXAMPLES / 'hazard' / 'hazard.elf').stdout.decode()
         self.assertIn('readers[0].hazard, 3 times:', text)
 
     def test_plain(self):

@@ -3,6 +3,7 @@ foreseen; the kept steers of two runs, which lead to the same end; and searches 
 import os
 import signal
 import subprocess
+import sys
 import tempfile
 import unittest
 from collections import Counter
@@ -28,7 +29,8 @@ from lens.stretches import (
 from lens.trials import Run, Trials
 
 from .common import (
-    EXAMPLES, GOLDEN, LENS, PETERSON, PROGRAM, assemble, counting_program, found, lens, needs_program, toolchain,
+    EXAMPLES, GOLDEN, LENS, PETERSON, PROGRAM, ROOT, TIMEOUT, assemble, counting_program, found, lens, needs_program,
+    toolchain,
 )
 
 HAZARD = EXAMPLES / 'hazard_plain'
@@ -39,6 +41,15 @@ SPIN = Path(__file__).with_name('spin.c')
 MOST_CALLS = 250
 """So often the program is called at most to shrink a run of 25,000 steps in which two threads spin. It was some
 120 times on 1 December 2026, and 904 before spinning was foreseen."""
+COUNTED_CLOCK = f'''
+import itertools, sys, time
+sys.path.insert(0, {str(ROOT / 'tools' / 'lens')!r})
+from lens.cli import main
+looks = itertools.count()
+time.monotonic = lambda: next(looks) / 64
+sys.exit(main())
+'''
+"""`lens` with a clock of its own. What waits for others has taken the other one before."""
 OPTIONS = '-g -march=rv64ima -mabi=lp64 -O2 -ffreestanding -msmall-data-limit=0 -nostdlib -static -Wl,-no-pie'
 
 
@@ -238,6 +249,19 @@ def on_one_processor():
     os.sched_setaffinity(0, {min(os.sched_getaffinity(0))})
 
 
+def by_a_counted_clock(*words):
+    """What `lens` answers to some words where each look at the clock finds it later by the same."""
+    return subprocess.run([sys.executable, '-c', COUNTED_CLOCK, *map(str, words)], capture_output=True, timeout=TIMEOUT)
+
+
+def slow_program(folder):
+    """A program that does what the built one does, and waits before."""
+    program = folder / 'slow'
+    program.write_text(f'#!/bin/sh\nsleep 0.2\nexec {PROGRAM} "$@"\n')
+    program.chmod(0o755)
+    return program
+
+
 def failing(elf, seeds):
     """The seeds of runs that end by a trap."""
     ends = {
@@ -289,7 +313,7 @@ class Shrunk(unittest.TestCase):
             elf, (counting, calls) = Path(name, 'spin.elf'), counting_program(Path(name))
             toolchain('gcc', *OPTIONS.split(), '-o', elf, f'-I{COMMON}', COMMON / 'start.S', SPIN)
             words = [LENS, 'shrink', '--seed', '1', elf, '-o', Path(name, 'made.steer'), '--program', counting]
-            answer = subprocess.run(words, capture_output=True, text=True, preexec_fn=on_one_processor, timeout=600)
+            answer = subprocess.run(words, capture_output=True, text=True, preexec_fn=on_one_processor, timeout=TIMEOUT)
             self.assertEqual(answer.returncode, 0, answer.stderr)
             steps = int(answer.stderr.split()[1])
             self.assertGreater(steps, 20_000)
@@ -297,12 +321,13 @@ class Shrunk(unittest.TestCase):
             self.assertLess(calls.read_text().count('\n'), MOST_CALLS)
 
     def test_a_search_of_some_seconds(self):
-        """It stops, says so, and gives the best so far; meanwhile it says how far it is."""
+        """It stops, says so, and gives the best so far; meanwhile it says how far it is. The clock goes on with
+        each look at it, so that as much is done by then on a fast machine as on a slow one."""
         with tempfile.TemporaryDirectory() as name:
             elf, run = Path(name, 'sums.elf'), Path(name, 'sums.output')
             toolchain('gcc', *OPTIONS.split(), '-o', elf, f'-I{COMMON}', COMMON / 'start.S', SUMS)
             run.write_bytes(subprocess.run([PROGRAM, 'draw', elf, '--seed=60'], capture_output=True).stdout)
-            answer = lens('shrink', run, elf, '--seconds', 4, '--progress')
+            answer = by_a_counted_clock('shrink', run, elf, '--seconds', 4, '--progress')
         self.assertEqual(answer.returncode, 0, answer.stderr)
         told = '--seconds 4 came after [0-9]+ trials'
         self.assertRegex(answer.stderr.decode(), f'It may be shortened further: {told}\n$')
@@ -311,19 +336,18 @@ class Shrunk(unittest.TestCase):
         self.assertTrue(answer.stdout.splitlines()[-1].startswith(b'finish'))
 
     def test_a_signal_loses_nothing(self):
+        """The program takes its time, so that the search isn't over when the signal comes."""
         for number, status in ((signal.SIGINT, 130), (signal.SIGTERM, 143)):
-            words = ['shrink', HAZARD / 'freed.output', HAZARD / 'hazard_plain.elf', '--progress']
-            with self.subTest(number=number), subprocess.Popen(
-                [LENS, *words], stdout=subprocess.PIPE, stderr=subprocess.PIPE
-            ) as running:
-                shown = running.stderr.readline()
-                while b'the best so far: none' in shown:
+            with self.subTest(number=number), tempfile.TemporaryDirectory() as name:
+                words = ['shrink', HAZARD / 'freed.output', HAZARD / 'hazard_plain.elf', '--progress']
+                words += ['--program', slow_program(Path(name))]
+                with subprocess.Popen([LENS, *words], stdout=subprocess.PIPE, stderr=subprocess.PIPE) as running:
                     shown = running.stderr.readline()
-                running.send_signal(number)
-                steer, said = running.communicate(timeout=60)
+                    while b'the best so far: none' in shown:
+                        shown = running.stderr.readline()
+                    running.send_signal(number)
+                    steer, said = running.communicate(timeout=TIMEOUT)
                 self.assertNotIn(b'Traceback', said)
-                if running.returncode == 0:
-                    continue  # (it was done before the signal came)
                 self.assertEqual(running.returncode, status, said)
                 self.assertIn(b'# It may be shortened further: ', steer)
                 self.assertTrue(steer.splitlines()[-1].startswith(b'finish'))

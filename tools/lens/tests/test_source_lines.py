@@ -27,7 +27,7 @@ int main(void) {
 }
 """
 RUN_PUTS, MAIN_PUTS = 'made.c:9 (made.c:5)  cell = value;', 'made.c:13 (made.c:5)  cell = value;'
-SEED = 3
+SEED = 4
 """One in whose run nothing orders the two stores."""
 
 

@@ -15,7 +15,7 @@ from musl.building import TOOLS
 ROOT = Path(__file__).resolve().parents[3]
 MUSL = ROOT / 'tools' / 'bin' / 'musl'
 PROGRAM = Path(os.environ.get('RSEQ_RUN', ROOT / 'crates' / 'rseq_run' / 'out' / 'rseq_run')).resolve()
-TIMEOUT = 900
+TIMEOUT = 1800
 """Seconds that no command takes, on a machine that has other work too."""
 BLOCK = re.compile(r'(?:^ {4}.*\n|^\n(?= {4}))+', re.MULTILINE)
 COMMAND = re.compile(r'^(?:REPOSITORY/|musl/bin/rvcc -|root=|cd |\./configure |make ).*\n', re.MULTILINE)

@@ -59,10 +59,10 @@ class Refusals(Room):
         (self.room / 'place').mkdir()
         words = [MUSL, 'place/new']
         with subprocess.Popen(words, cwd=self.room, env=self.environment(), stderr=subprocess.PIPE) as process:
-            while not (self.room / 'begun').exists():
+            while process.poll() is None and not (self.room / 'begun').exists():
                 time.sleep(0.05)
             process.send_signal(signal.SIGTERM)
-            process.communicate(timeout=60)
+            process.communicate(timeout=TIMEOUT)
         self.assertEqual(process.returncode, 143)
         self.assertEqual(list((self.room / 'place').iterdir()), [])
 

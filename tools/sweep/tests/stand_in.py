@@ -48,7 +48,7 @@ def explore(runs, first, count):
     counts, texts = {}, {}
     for seed in range(first, first + count):
         console, steps, end = runs.make(seed)
-        texts.setdefault(end, f'seed {seed} policy long steps {steps}\n{console_part(console)}end {end}\n')
+        texts.setdefault(end, f'seed {seed} policy stretch steps {steps}\n{console_part(console)}end {end}\n')
         counts[end] = counts.get(end, 0) + 1
     parts = ''.join(f'runs {counts[end]} {text}' for end, text in texts.items())
     others = 'others 1 seed 1\n' if 'others' in runs.words else ''

@@ -24,6 +24,8 @@ TOOLS = Path(__file__).resolve().parents[2]
 SWEEP = TOOLS / 'bin' / 'sweep'
 STAND_IN = Path(__file__).with_name('stand_in.py')
 RUNS, SEEDS_A_JOB = 30, 5
+TIMEOUT = 1800
+"""Seconds that no command takes, on a slow machine that has other work too."""
 UNEXPECTED_STATUS, FAULT_STATUS, INTERRUPTED_STATUS = 1, 2, 130
 
 
@@ -92,7 +94,7 @@ class Sweeps(unittest.TestCase):
         ]
 
     def sweep(self, *more: object, **options) -> subprocess.CompletedProcess:
-        return subprocess.run(self.words(*more, **options), capture_output=True, text=True, timeout=300)
+        return subprocess.run(self.words(*more, **options), capture_output=True, text=True, timeout=TIMEOUT)
 
     def table(self, folder: Path) -> str:
         """The table of a sweep, with its folder's name left out."""
@@ -175,7 +177,7 @@ class Sweeps(unittest.TestCase):
         while running.poll() is None and (not results.exists() or not results.read_text()):
             time.sleep(0.02)
         os.killpg(running.pid, signal.SIGINT)
-        said = running.communicate(timeout=300)[1]
+        said = running.communicate(timeout=TIMEOUT)[1]
         self.assertEqual(running.returncode, INTERRUPTED_STATUS)
         self.assertIn(f'of {RUNS} runs are kept in {folder}; the same command goes on', said)
         return int(said.split('sweep: ')[1].split()[0])
@@ -234,7 +236,7 @@ class Sweeps(unittest.TestCase):
 
     def test_what_parallel_says_is_passed_on(self):
         """Where no job said what is wrong."""
-        answer = self.sweep('-o', self.room / 'swept', '--sshlogin', 'no-such-login', '--seconds', 5, runs=1)
+        answer = self.sweep('-o', self.room / 'swept', '--sshlogin', 'no-such-login', runs=1)
         self.assertEqual(answer.returncode, FAULT_STATUS)
         self.assertIn('no-such-login', answer.stderr)
 
@@ -319,7 +321,7 @@ class Sweeps(unittest.TestCase):
 
     def test_a_pipe_to_a_command_that_ends(self):
         line = f'{shlex.join(self.words("-o", self.room / "swept"))} | true'
-        answer = subprocess.run(['sh', '-c', line], capture_output=True, timeout=300)
+        answer = subprocess.run(['sh', '-c', line], capture_output=True, timeout=TIMEOUT)
         self.assertEqual((answer.returncode, answer.stderr), (0, b''))
 
     @needs_small_disks
@@ -333,7 +335,7 @@ class Sweeps(unittest.TestCase):
                 words = shlex.join(self.words('-o', disk / 'swept', '--jobs', 1))
                 first = f'mount -t tmpfs -o size={blocks}k tmpfs {disk} && {{ {words}; echo STATUS $?; }}'
                 later = f'mount -o remount,size=1m {disk} && {words}'
-                ran = subprocess.run([*SMALL_DISKS, f'{first} && {later}'], capture_output=True, text=True, timeout=300)
+                ran = subprocess.run([*SMALL_DISKS, f'{first} && {later}'], capture_output=True, text=True, timeout=TIMEOUT)
                 self.assertEqual(ran.returncode, 0, ran.stderr)
                 status, _, table = ran.stdout.partition('\n')
                 self.assertEqual(status, f'STATUS {FAULT_STATUS}')
@@ -342,7 +344,7 @@ class Sweeps(unittest.TestCase):
 
     def test_a_full_disk_of_the_table(self):
         with open('/dev/full', 'w') as full:
-            answer = subprocess.run(self.words('-o', self.room / 'swept'), stdout=full, stderr=subprocess.PIPE, timeout=300)
+            answer = subprocess.run(self.words('-o', self.room / 'swept'), stdout=full, stderr=subprocess.PIPE, timeout=TIMEOUT)
         said = b'sweep: standard output: No space left on device\n'
         self.assertEqual((answer.returncode, answer.stderr), (FAULT_STATUS, said))
 
@@ -361,7 +363,7 @@ class Sweeps(unittest.TestCase):
         os.close(reader)
         try:
             env = {**os.environ, 'PYTHONUNBUFFERED': unbuffered}
-            return subprocess.run(self.words(*more), env=env, stdout=writer, stderr=subprocess.PIPE, timeout=300)
+            return subprocess.run(self.words(*more), env=env, stdout=writer, stderr=subprocess.PIPE, timeout=TIMEOUT)
         finally:
             os.close(writer)
 

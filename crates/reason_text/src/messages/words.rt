@@ -11,7 +11,7 @@ use std::fmt::Write;
 const GUESTS: &str = "counter, list, pool, dekker, signals, migrate, ring and urcu";
 
 /// The names of policies.
-const POLICIES: &str = "all, one, long, short, pos, spread and rule";
+const POLICIES: &str = "all, one, stretch, short, stall, spread and rule";
 
 /// The spans of memory that an option takes.
 const SPANS: &str =

@@ -18,7 +18,7 @@ returns-in-Some-clause-search g c =
     run.searching.visited run.searching.few
     (λ is.
     let searched = run.searched (ap Some is) in
-    complete_by s logs v.outcomes.items (run.ends (ap Some is))
+    complete_by s logs v.outcomes.items (run.ends (λ not. absurd cc))
     (λ n log e few block over. c.settled_searches_are_complete.ensures.block_runs s threads none_private n logs log e searched block over)
     (λ log e free over. c.settled_searches_are_complete.ensures.free_runs s threads none_private logs log e searched free over))
-    (λ is. run.full (ap Some is)) (λ is. run.deep (ap Some is))
+    (λ is. run.full (ap Some is)) (λ is. run.deep (ap Some is)) (λ not. run.ends (λ is. not cc))

@@ -5,9 +5,9 @@ use Rattle.block_model.specs.Plain.{here_in_plain}
 use Rattle.block_model.specs.Sequences.{area_here}
 use Rattle.mach_types.specs.Kernel.Areas.{area_of}
 use Rattle.process.specs.Harts.{file_of}
-use Rattle.process.proofs.Laws.{hart_tied}
+use Rattle.process.proofs.Laws.{hart_tied, view_is}
 use Rattle.settling.specs.Settles.{are_past}
-use Rattle.settling.proofs.Reading.{file_is, runs_is, settles_is, view_is}
+use Rattle.settling.proofs.Reading.{file_is, runs_is, settles_is}
 use Rattle.settling.proofs.resting.is_settling.Goals as goal
 
 pub returns-in_default-local_pc : goal.returns-in_default-local_pc

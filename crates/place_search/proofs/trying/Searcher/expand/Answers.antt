@@ -1,5 +1,4 @@
 use Rattle.std.proofs.Common.{sym, subst, arith}
-use Rattle.std.proofs.lemmas.Result.{on_ok_weaker}
 use Rattle.place_search.specs.Searching.{setting_for}
 use Rattle.place_search.specs.Visiting.{AreEndsFound}
 use Rattle.place_search.specs.declared.visited.Visited.{Visited}
@@ -29,5 +28,4 @@ try_all-requires-clause-open c =
 
 pub returns-clause-ends : goal.returns-clause-ends
 returns-clause-ends c =
-    on_ok_weaker c.try_all.result
-    (λ found ends. found (subst (λ (v : Visited). AreEndsFound (setting_for c.args.task.now) v) (sym c.in_ok-from.ensures.visited) ends)) c.try_all.ensures.ends
+    λ not ends. c.try_all.ensures.ends not (subst (λ (v : Visited). AreEndsFound (setting_for c.args.task.now) v) (sym c.in_ok-from.ensures.visited) ends)

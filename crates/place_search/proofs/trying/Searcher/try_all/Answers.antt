@@ -3,6 +3,8 @@ use Rattle.mach_types.specs.Kernel.Scheduling.{Scheduling}
 use Rattle.block_model.specs.Plain.{plain_after}
 use Rattle.place_search.specs.Logs.{logs_of}
 use Rattle.place_search.specs.Searching.{IsTriedAt, setting_for}
+use Rattle.place_search.specs.declared.stop.Stop.TheVariants.{Memory}
+use Rattle.place_search.proofs.Stops.{passed_on}
 use Rattle.place_search.proofs.Steps.{all_stay, expanded_by, open_run}
 use Rattle.place_search.proofs.Visits.{more_more, same_more}
 use Rattle.place_search.proofs.trying.Searcher.try_all.Goals as goal
@@ -27,7 +29,7 @@ loop-hart-preserved c =
       more = more_more c.args.self.now.visited before after inv.more c.in_ok-try_hart.ensures.more;
       tried = below_more P c.loop-hart.hart (λ h lt. all_stay s c.args.task.now.settle before after log h choices c.in_ok-try_hart.ensures.more (inv.tried h lt))
           (subst (All (IsTriedAt s c.args.task.now.settle (logs_of after.rows.items) log c.loop-hart.hart)) c.deref.ensures.value c.in_ok-try_hart.ensures.tried);
-      ends = λ found. c.in_ok-try_hart.ensures.ends (inv.ends found);
+      ends = λ found. c.in_ok-try_hart.ensures.ends (λ is. absurd cc) (inv.ends found);
     }
 
 pub returns-clause-expanded : goal.returns-clause-expanded
@@ -41,3 +43,8 @@ returns-clause-expanded c =
     (open_run c.args.task.now c.loop-hart.self c.args.from.now inv.going) c.requires.open.room (ap (λ (sc : Scheduling). sc.order) stands.tables.scheduling) c.in_ok-choices.ensures
     (λ choice tables tried. c.all_choices_are_listed.ensures s.limits.harts at.kernel.threads at.kernel.scheduling choice tables tried)
     (λ h lt. inv.tried h (omega (arith, lt)))
+
+pub returns-in_err-try_hart-clause-ends : goal.returns-in_err-try_hart-clause-ends
+returns-in_err-try_hart-clause-ends c = λ not found.
+    c.in_err-try_hart.ensures.ends (λ is. not (passed_on c.from_residual-in_err-try_hart.result c.in_err-try_hart.field-0.0 Memory c.from_residual-in_err-try_hart.ensures.1 is))
+    (c.loop-hart.invariant.ends found)

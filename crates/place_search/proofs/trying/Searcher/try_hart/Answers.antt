@@ -4,6 +4,8 @@ use Rattle.std.proofs.lemmas.List.Elements.{All-more, All-nil}
 use Rattle.mach_types.specs.declared.events.Choice.TheVariants as asked
 use Rattle.place_search.specs.Logs.{logs_of}
 use Rattle.place_search.specs.Searching.{IsTriedAt, setting_for}
+use Rattle.place_search.specs.declared.stop.Stop.TheVariants.{Memory}
+use Rattle.place_search.proofs.Stops.{passed_on}
 use Rattle.place_search.proofs.Steps.{all_stay}
 use Rattle.place_search.proofs.Visits.{more_more, same_more}
 use Rattle.place_search.proofs.trying.Searcher.try_hart.Goals as goal
@@ -29,7 +31,7 @@ loop-choice-preserved c =
       more = more_more c.args.self.now.visited before after inv.more c.in_ok-try_one.ensures.more;
       tried = All-more (IsTriedAt s c.args.task.now.settle (logs_of after.rows.items) log c.args.hart.0) c.args.choices.now i asked.Exec c.loop-choice-test.true
           (all_stay s c.args.task.now.settle before after log c.args.hart.0 (take i c.args.choices.now) c.in_ok-try_one.ensures.more inv.tried) c.in_ok-try_one.ensures.tried;
-      ends = λ found. c.in_ok-try_one.ensures.ends (inv.ends found);
+      ends = λ found. c.in_ok-try_one.ensures.ends (λ is. absurd cc) (inv.ends found);
     }
 
 pub returns-in_err-try_one-clause-more : goal.returns-in_err-try_one-clause-more
@@ -40,3 +42,7 @@ pub returns-clause-tried : goal.returns-clause-tried
 returns-clause-tried c =
     let all : take c.loop-choice.choice-index c.args.choices.now ≡ c.args.choices.now = take_all c.loop-choice.choice-index c.args.choices.now c.loop-choice-test.false in
     subst (All (IsTriedAt (setting_for c.args.task.now) c.args.task.now.settle (logs_of c.loop-choice.self.visited.rows.items) c.args.from.now.log.items c.args.hart.0)) all c.loop-choice.invariant.tried
+
+pub returns-in_err-try_one-clause-ends : goal.returns-in_err-try_one-clause-ends
+returns-in_err-try_one-clause-ends c = λ not found.
+    c.in_err-try_one.ensures.ends (λ is. not (passed_on c.from_residual.result c.in_err-try_one.field-0.0 Memory c.from_residual.ensures.1 is)) (c.loop-choice.invariant.ends found)

@@ -29,6 +29,10 @@ try_choice-requires c =
 pub returns-then-not-is_left-clause-more : goal.returns-then-not-is_left-clause-more
 returns-then-not-is_left-clause-more c = equal_more c.args.self.now.visited c.return_to.new.self.visited c.in_ok-return_to.ensures.visited
 
+pub returns-then-not-is_left-clause-ends : goal.returns-then-not-is_left-clause-ends
+returns-then-not-is_left-clause-ends c = λ not ends.
+    subst (λ (v : Visited). AreEndsFound (setting_for c.args.task.now) v) (sym c.in_ok-return_to.ensures.visited) ends
+
 pub settle-requires-clause-there : goal.settle-requires-clause-there
 settle-requires-clause-there c =
     let s = setting_for c.args.task.now in
@@ -95,7 +99,7 @@ returns-in_ok-entries-in-Ok-clause-ends c =
     let entries = c.in_ok-entries-in-Ok.entries.items in
     let there = subst (λ (l : List Entry). IsStandingAt s l entries made.parts) c.deref.ensures.value c.in_ok-entries-in-Ok.ensures.there in
     let may = may_visit c.args.task.now x c.args.from.now entries made c.requires.task c.in_ok-return_to.ensures.open there c.in_ok-entries-in-Ok.ensures.start c.in_ok-entries-in-Ok.ensures.total in
-    on_ok_weaker c.visit.result (λ found ends. found s may (subst (λ (v : Visited). AreEndsFound s v) (sym c.in_ok-return_to.ensures.visited) ends)) c.visit.ensures.ends
+    λ not ends. c.visit.ensures.ends not s may (subst (λ (v : Visited). AreEndsFound s v) (sym c.in_ok-return_to.ensures.visited) ends)
 
 pub returns-in-Err-clause-more : goal.returns-in-Err-clause-more
 returns-in-Err-clause-more c = equal_more c.args.self.now.visited c.return_to.new.self.visited c.in_ok-return_to.ensures.visited
@@ -109,5 +113,5 @@ returns-in-Err-clause-tried c =
     tried_refused s c.args.task.now.settle (logs_of x.visited.rows.items) log c.args.hart.0 c.args.choice _ (c.in-Err.ensures.carried s log at) (c.in-Err.ensures.refused s log at)
 
 pub returns-in-Err-clause-ends : goal.returns-in-Err-clause-ends
-returns-in-Err-clause-ends c = λ ends.
+returns-in-Err-clause-ends c = λ not ends.
     subst (λ (v : Visited). AreEndsFound (setting_for c.args.task.now) v) (sym c.in_ok-return_to.ensures.visited) ends

@@ -64,7 +64,7 @@ returns-clause-back c = λ s may.
     c.note.new.self c.deref-5.result.now (c.deref-5.ensures.value ∙ entries) c.in_ok-note.ensures.ok
 
 pub returns-clause-ends : goal.returns-clause-ends
-returns-clause-ends c = λ s may.
+returns-clause-ends c = λ not s may.
     let from = c.args.from.now.log.items in
     let entries : c.in_ok-log.log.items ≡ log_of c.args.from.now c.args.entries.items = c.in_ok-log.ensures ∙ ap (λ (l : List Entry). l ++ c.deref-3.result.now) c.deref-2.ensures.value ∙ ap (λ (l : List Entry). from ++ l) c.deref-3.ensures.value in
     let size : length c.in_ok-log.log.items ≡ length from + length c.args.entries.items = ap (λ (l : List Entry). length l) entries ∙ length-append from c.args.entries.items in
