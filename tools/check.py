@@ -15,7 +15,7 @@ import sys
 
 TOOLS = pathlib.Path(__file__).resolve().parent
 PYTHON = '/usr/bin/python3' if pathlib.Path('/usr/bin/python3').exists() else sys.executable
-PARTS = ('lens', 'sweep', 'litmus', 'guests', 'compilers', 'musl', 'prove', 'docs')
+PARTS = ('lens', 'sweep', 'litmus', 'reductions', 'guests', 'compilers', 'musl', 'prove', 'docs')
 CLANG = 'clang'
 PACKAGES = {
     'compilers': {'riscv64-unknown-elf-gcc': ('gcc-riscv64-unknown-elf',), CLANG: ('clang', 'lld')},

@@ -149,4 +149,5 @@ def command() -> int:
     return 0
 
 
-sys.exit(end('build.py', command))
+if __name__ == '__main__':
+    sys.exit(end('build.py', command))

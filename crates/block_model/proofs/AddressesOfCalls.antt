@@ -1,6 +1,6 @@
 -- What each call of the table leaves, whether its thread runs or not: files whose pc is below 2^64 and handlers that lie there where
 -- it was so before, an end that isn't the end of a script, and a live thread where it didn't end the process.
-use Rattle.block_model.proofs.Common.{◌≡◌, ℕ, ◌+◌, ◌<◌, ◌≤◌, List, [], ◌∷◌, length, map, filter, refl, sym, ◌∙◌, subst, Bool, true, false, not, cond, eqb, None, arith, AllByRecursion, CallDone, Here, IsSound, Kernel, Ready, Saved, Thread, Waiting, Write, answered_wait, argument, called, clear_of, cleared, clears, clone_child_cleartid, had_child, has_flag, is_thread, left, length-map, nat_tests, new_thread, next_number, numbers, restricted, rows_changed, signalled, state_if, sum_64, waited, wake, woken, woken_at_exit}
+use Rattle.block_model.proofs.Common.{◌≡◌, ℕ, ◌+◌, ◌<◌, ◌≤◌, List, [], ◌∷◌, length, map, filter, refl, sym, ◌∙◌, subst, Bool, true, false, not, cond, eqb, None, arith, AllByRecursion, CallDone, Here, IsSound, Kernel, Ready, Saved, Thread, Waiting, Write, answered_wait, argument, called, clear_of, cleared, clears, clone_child_cleartid, had_child, has_flag, is_thread, left, length-map, nat_tests, new_thread, next_number, numbers, requeue, requeued, restricted, rows_changed, signalled, state_if, sum_64, waited, wake, woken, woken_at_exit}
 use Rattle.std.specs.List.Sorted.{IsStrictlyIncreasing}
 use Rattle.std.proofs.lemmas.List.{length_push}
 use Rattle.mach_types.specs.Kernel.Threads.{clear_if}
@@ -8,7 +8,7 @@ use Rattle.block_model.proofs.Images.{frame_small}
 use Rattle.block_model.proofs.CallEffects.{Answers, Bears, Breaks, CallDeed, ChangesRows, Ends, Exits, Leaves, MovesOff, Resumes, Signalled, TableStep, Waits, Wakes}
 pub use Rattle.block_model.proofs.CallEffects.{AllStand, NotOpen}
 use Rattle.block_model.proofs.CallEffects.EachCall.{deed_called}
-use Rattle.block_model.proofs.Invariants.Calls.Futexes.{kept_wake, wake_keeps}
+use Rattle.block_model.proofs.Invariants.Calls.Futexes.{kept_requeue, requeue_keeps}
 use Rattle.block_model.proofs.Pcs.{StandsIn, in_word}
 use Rattle.block_model.proofs.SignalTables.{HandlersStand}
 
@@ -49,15 +49,21 @@ rows_lives f k = length-map k.threads.live f
 child_lives : (t : ℕ) (k : Kernel) → lives (had_child t k) ≡ lives k + 1
 child_lives t k = length_push k.threads.live (new_thread (k.threads.given + 1))
 
-wake_lives : (n at : ℕ) (k : Kernel) → lives (wake n at k).kernel ≡ lives k
-wake_lives = wake_keeps (λ a b. lives b ≡ lives a) (λ k. refl) (λ u k after waiting rest. rest ∙ woken_lives u k)
+requeued_lives : (t at : ℕ) (k : Kernel) → lives (requeued t at k) ≡ lives k
+requeued_lives t at k = waited_lives t at (woken t k) ∙ woken_lives t k
 
--- waking changes no signals
-wake_signals : (n at : ℕ) (k : Kernel) → (wake n at k).kernel.signals ≡ k.signals
-wake_signals = wake_keeps (λ a b. b.signals ≡ a.signals) (λ k. refl) (λ u k after waiting rest. rest)
+requeue_lives : (n more at to : ℕ) (k : Kernel) → lives (requeue n more at to k).kernel ≡ lives k
+requeue_lives =
+    requeue_keeps (λ a b. lives b ≡ lives a) (λ k. refl) (λ u k after waiting rest. rest ∙ woken_lives u k)
+    (λ u to k after waiting rest. rest ∙ requeued_lives u to k)
 
-wake_stand : (n at : ℕ) (k : Kernel) → HandlersStand k.signals → HandlersStand (wake n at k).kernel.signals
-wake_stand n at k stand = subst HandlersStand (sym (wake_signals n at k)) stand
+-- neither changes signals
+requeue_signals : (n more at to : ℕ) (k : Kernel) → (requeue n more at to k).kernel.signals ≡ k.signals
+requeue_signals =
+    requeue_keeps (λ a b. b.signals ≡ a.signals) (λ k. refl) (λ u k after waiting rest. rest) (λ u to k after waiting rest. rest)
+
+requeue_stand : (n more at to : ℕ) (k : Kernel) → HandlersStand k.signals → HandlersStand (requeue n more at to k).kernel.signals
+requeue_stand n more at to k stand = subst HandlersStand (sym (requeue_signals n more at to k)) stand
 
 -- a woken thread stays where it stands
 woken_stand : (here : Here) (us : List ℕ) → AllStand here → FilesStand (map (answered_wait here) us)
@@ -124,22 +130,23 @@ module _ (here : Here) (t number : ℕ) where
   proper_deed (Answers n entered k no_error writes step) =
       let same = lives_step step in
       proper_going _ (λ all. (pc_past, tt)) (stand_step step) refl (omega arith)
-  proper_deed (Wakes n at small) =
-      let same = wake_lives n at here.kernel in
-      proper_going _ (λ all. (pc_past, woken_stand here (wake n at here.kernel).threads all)) (λ all. wake_stand n at here.kernel all.handlers) refl (omega arith)
+  proper_deed (Wakes n more at to small) =
+      let same = requeue_lives n more at to here.kernel in
+      proper_going _ (λ all. (pc_past, woken_stand here (requeue n more at to here.kernel).threads all))
+      (λ all. requeue_stand n more at to here.kernel all.handlers) refl (omega arith)
   proper_deed (Breaks u g waiting keeps stand heeds calm) =
       let same = woken_lives u (signalled g here.kernel) in
       proper_going _ (λ all. (pc_past, (all.threads u, tt))) stand refl (omega arith)
   proper_deed (Exits more) =
       let n : ℕ = cond (clears here t) 1 0 in
       let at = clear_of t here.kernel.threads in
-      let same = wake_lives n at here.kernel in
+      let same = requeue_lives n 0 at 0 here.kernel in
       record {
         files = λ all. woken_stand here (woken_at_exit here t).threads all;
-        handlers = λ all. wake_stand n at here.kernel all.handlers;
+        handlers = λ all. requeue_stand n 0 at 0 here.kernel all.handlers;
         ended = not_ended;
         live = λ sound some goes.
-            let rising = (kept_wake here.setting n at here.kernel sound).sound.tables.threads.rising in
+            let rising = (kept_requeue here.setting n 0 at 0 here.kernel sound).sound.tables.threads.rising in
             some_stay t (wake n at here.kernel).kernel.threads.live rising (omega arith);
       }
   proper_deed (Bears entered writes free its_number) =

@@ -3,7 +3,7 @@ use Rattle.block_model.proofs.Common.{◌≡◌, ◌≢◌, ℕ, cond, [], None,
 use Rattle.block_model.proofs.CallEffects.{Answers, Bears, CallDeed, Exits, Registers, TableStep, Unregisters, Wakes}
 use Rattle.block_model.proofs.CallEffects.EachCall.{deed_called}
 use Rattle.block_model.proofs.EventEffects.{Calls, EventDeed, deed_of}
-use Rattle.block_model.proofs.OwnEvents.{areas_cleared, areas_woken}
+use Rattle.block_model.proofs.OwnEvents.{areas_cleared, areas_requeued}
 use Rattle.block_model.proofs.Runs.{choice_in}
 
 module _ (here : Here) (beside : here.beside ≢ None) (none : here.kernel.areas ≡ []) where
@@ -15,10 +15,10 @@ module _ (here : Here) (beside : here.beside ≢ None) (none : here.kernel.areas
 
     none_called : {c : CallDone} → CallDeed here t number c → c.kernel.areas ≡ []
     none_called (Answers n entered k no_error writes step) = none_stepped step
-    none_called (Wakes n at small) = areas_woken n at here.kernel ∙ none
+    none_called (Wakes n more at to small) = areas_requeued n more at to here.kernel ∙ none
     none_called (Exits more) =
         let n : ℕ = cond (clears here t) 1 0 in
-        ap (without_area t) (areas_woken n (clear_of t here.kernel.threads) here.kernel ∙ none)
+        ap (without_area t) (areas_requeued n 0 (clear_of t here.kernel.threads) 0 here.kernel ∙ none)
     none_called (Bears entered writes free its_number) =
         let asked = has_flag (argument here t 0) clone_child_cleartid in
         areas_cleared asked (next_number here.kernel) (argument here t 4) (had_child t here.kernel) ∙ none

@@ -1,10 +1,11 @@
 -- What a call's deed can be. Each call of the table is one of these (CallEffects/EachCall.antt); a law of all
 -- calls goes over them, and names no call.
-use Rattle.block_model.proofs.Common.{◌≡◌, ◌≢◌, ℕ, ◌+◌, ◌≤◌, ◌<◌, ◌^◌, List, [], ◌∷◌, length, map, refl, Bool, true, false, cond, Option, Some, None, arith, Area, CONSOLE_ROOM, CallDone, End, Here, IsError, IsGoodHere, KeepsRows, Kernel, Pages, Registered, Signalling, Thread, Write, answered_wait, area_here, broken_wait, child_file, for_barriers, frame_read, id_of, is_full, is_writable, killed_in_call, left, memory, next_for, next_number, paged, printed, register, registered, restricted, resumed, returned, rows_changed, said, signalled, taken_by, unregistered, waited, waits, wake, with_new_child, woken, words_on, words_written}
+use Rattle.block_model.proofs.Common.{◌≡◌, ◌≢◌, ℕ, ◌+◌, ◌≤◌, ◌<◌, ◌^◌, List, [], ◌∷◌, length, refl, Bool, true, false, cond, Option, Some, None, arith, Area, CONSOLE_ROOM, CallDone, End, Here, IsError, IsGoodHere, KeepsRows, Kernel, Pages, Registered, Signalling, Thread, Write, area_here, broken_wait, child_file, for_barriers, frame_read, id_of, is_full, is_writable, killed_in_call, left, memory, next_for, next_number, paged, printed, register, registered, restricted, resumed, returned, rows_changed, said, signalled, taken_by, unregistered, waited, waits, with_new_child, woken, words_on, words_written}
 use Rattle.mach_types.specs.declared.limits.End.TheVariants as over
 use Rattle.block_model.specs.Calls.Answers.{Errors, unless}
 use Rattle.block_model.specs.Calls.Barriers.{begins}
 use Rattle.block_model.specs.Calls.Ending.{one_exits}
+use Rattle.block_model.specs.Calls.Futexes.{counted, requeue}
 use Rattle.block_model.proofs.Barriers.Events.{IsAtOthers}
 use Rattle.block_model.proofs.Invariants.Calls.Conditions.{StaysWritable}
 use Rattle.block_model.proofs.IgnoredSignals.{AllHeeded}
@@ -18,10 +19,13 @@ mod Cloning
 mod Console
 pub mod Ending
 mod Futexes
+mod Limits
 mod Memory
 mod Numbers
+mod Policies
 mod Sequences
 mod Signals
+mod Terminal
 pub mod EachCall
 
 -- few numbers were given, also to the thread
@@ -73,22 +77,15 @@ pub data TableStep (here : Here) (t number : ℕ) (entered : List Write) : Kerne
       → TableStep here t number entered (paged pages here.kernel)
 
 -- it only answers, perhaps with an error; it answers, writes and makes a step of the record; it wakes those
--- who wait at an address; it breaks the wait of a thread; its thread is gone; it has a child; it begins a
+-- who wait at an address, or lets them wait at another one; it breaks the wait of a thread; its thread is gone; it has a child; it begins a
 -- barrier; it goes on from a frame of memory; or the process ends
 pub data CallDeed (here : Here) (t number : ℕ) : CallDone → Type 0 where
   Says : (n : ℕ) → CallDeed here t number (said here t n)
   Answers : (n : ℕ) (entered : List Write) (k : Kernel) → IsAnswer here t n → AllWritable (is_writable here) entered
       → TableStep here t number entered k
       → CallDeed here t number (record (said here t n) { entered = entered; kernel = k })
-  Wakes : (n at : ℕ) → n < 2 ^ 32
-      → CallDeed here t number (record {
-        files = (t, returned (length (wake n at here.kernel).threads) (here.file t)) ∷ map
-            (answered_wait here) (wake n at here.kernel).threads;
-        entered = [];
-        kernel = (wake n at here.kernel).kernel;
-        barrier = None;
-        ended = None;
-      })
+  Wakes : (n more at to : ℕ) → n + more < 2 ^ 32
+      → CallDeed here t number (counted here t (requeue n more at to here.kernel))
   Breaks : (u : ℕ) (g : Signalling) → waits here.kernel.threads u → KeepsThreads here.kernel.signals g
       → (AllStand here → HandlersStand g) → (AllHeeded here.kernel.signals → AllHeeded g)
       → ((w : ℕ) → w ≢ u → next_for w here.kernel.signals ≡ None → next_for w g ≡ None)

@@ -5,7 +5,7 @@ pub use Rattle.block_model.specs.Calls.{called}
 pub use Rattle.block_model.specs.Calls.Answers.{CallDone, are_writable, argument, call_number, double_written, int_argument, killed_in_call, negative, returned, said, word_written}
 pub use Rattle.block_model.specs.Calls.Cloning.{child_file, clone_child_cleartid, has_flag, with_new_child}
 pub use Rattle.block_model.specs.Calls.Ending.{clears, woken_at_exit}
-pub use Rattle.block_model.specs.Calls.Futexes.{answered_wait, wake}
+pub use Rattle.block_model.specs.Calls.Futexes.{answered_wait, requeue, wake}
 pub use Rattle.block_model.specs.Calls.Memory.{lies_waiting_on, taken_by}
 pub use Rattle.block_model.specs.Calls.Signals.{broken_wait, resumed}
 pub use Rattle.block_model.specs.Choosing.{Luck, is_choice, luck, luck_after, pick_with, sight_with}
@@ -24,7 +24,7 @@ pub use Rattle.block_model.specs.Here.{Barrier, Done, Here, is_storable, is_writ
 pub use Rattle.block_model.specs.History.{Event, History, awaits, byte, can_be_written, drains, ended, events, file, file_among, here_in_history, is_of_hart, kernel, lost_after, ran, requests, restart, running, stores, waiting}
 pub use Rattle.block_model.specs.Ids.{AreIdsApart, IsLeastFree, held_ids, id_of, is_id_of, is_taken, next_id, without_id}
 pub use Rattle.block_model.specs.Instruction.{fault_by, fetched, instruction_of}
-pub use Rattle.block_model.specs.Kernel.{cleared, first_kernel, for_barriers, gone, had_child, left, next_number, paged, printed, registered, restricted, rows_changed, signalled, unregistered, waited, woken}
+pub use Rattle.block_model.specs.Kernel.{cleared, first_kernel, for_barriers, gone, had_child, left, next_number, paged, printed, registered, requeued, restricted, rows_changed, signalled, unregistered, waited, woken}
 pub use Rattle.block_model.specs.Plain.{Plain, apply, here_in_plain, here_of, plain_decide, plain_end, plain_next, plain_over, plain_solo_choice, plain_start}
 pub use Rattle.block_model.specs.Record.{Kernel}
 pub use Rattle.block_model.specs.Replay.{AllAnswer, Ask, checked, extended, is_as_said, play_line, script_of}

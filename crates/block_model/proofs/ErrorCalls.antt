@@ -1,10 +1,10 @@
 -- Each call of the table is refused, or gives no error at its own entry; and an event of a block run that gives an error changes nothing
 -- else.
-use Rattle.block_model.proofs.Common.{◌≡◌, ◌≢◌, refl, ℕ, ◌<◌, ◌≤◌, ◌^◌, ◌⊎◌, inl, inr, List, [], ◌∷◌, length, map, set, get_or, sym, ap, ◌∙◌, subst, true, false, cond, Option, Some, None, is_some, arith, zero, suc, ◌-◌, ◌++◌, Bool, CallDone, Choice, Done, Entry, GivesError, Here, History, IsAllowedLog, IsError, IsRunHistory, Kernel, Killed, SIGSEGV, Saved, Setting, Thread, Write, answered_wait, broken_wait, by_call, by_effect, byte, call_number, called, called_here, child_file, choice_of, done, done_exec_by, done_of, eqb_same, event, false≢true, fault_by, fetched, file, file_among, filtered_same, fold, gone, here_in_history, history, is_inside_here, is_live, is_writable, kernel, killed_in_call, memory, ne_eqb, negative, next_number, number_of, refusal_exec, refusal_exec_by, refusal_of, register, returned, runs, said, signalled, sum_64, thread_in, wake, with_new_child, woken, woken_at_exit, written}
+use Rattle.block_model.proofs.Common.{◌≡◌, ◌≢◌, refl, ℕ, ◌<◌, ◌≤◌, ◌^◌, ◌⊎◌, inl, inr, List, [], ◌∷◌, length, map, set, get_or, sym, ap, ◌∙◌, subst, true, false, cond, Option, Some, None, is_some, arith, zero, suc, ◌-◌, ◌++◌, Bool, CallDone, Choice, Done, Entry, GivesError, Here, History, IsAllowedLog, IsError, IsRunHistory, Kernel, Killed, SIGSEGV, Saved, Setting, Thread, Write, answered_wait, broken_wait, by_call, by_effect, byte, call_number, called, called_here, child_file, choice_of, done, done_exec_by, done_of, eqb_same, event, false≢true, fault_by, fetched, file, file_among, filtered_same, fold, gone, here_in_history, history, is_inside_here, is_live, is_writable, kernel, killed_in_call, memory, ne_eqb, negative, next_number, number_of, refusal_exec, refusal_exec_by, refusal_of, register, requeue, returned, runs, said, signalled, sum_64, thread_in, wake, with_new_child, woken, woken_at_exit, written}
 use Rattle.block_model.specs.ErrorCalls.{GivesErrorAlone, IsCall, up_to}
 use Rattle.block_model.proofs.CallEffects.{Answers, AreFew, Bears, Begins, Breaks, CallDeed, Ends, Exits, Resumes, Says, Wakes, small_no_error}
 use Rattle.block_model.proofs.CallEffects.EachCall.{deed_called}
-use Rattle.block_model.proofs.Invariants.Calls.Futexes.{wake_by}
+use Rattle.block_model.proofs.Invariants.Calls.Futexes.{requeue_few}
 use Rattle.mach_types.specs.declared.events.Choice.TheVariants as asked
 use Rattle.block_model.proofs.Runs.{IsAllowed, allowed_at, run_before, settled}
 use Rattle.block_model.proofs.Entries.{given_below, thread_given}
@@ -41,10 +41,6 @@ not_gone : (t : ℕ) (k : Kernel) → is_live t (gone t k).threads ≡ false
 not_gone t k =
     ap (λ (o : Option Thread). is_some o) (filtered_same (λ (th : Thread). th.tid) t k.threads.live)
 
--- no more are woken than asked
-woken_few : (n at : ℕ) (k : Kernel) → length (wake n at k).threads ≤ n
-woken_few = wake_by (λ n k done. length done.threads ≤ n) (λ n k. omega arith) (λ u n k rest waiting few. omega arith)
-
 module _ (here : Here) (t : ℕ) where
   -- what is told of a0 where an answer was put there: it is the answer
   told : (n : ℕ) (rest : List (ℕ × Saved)) → (e : IsError (register (file_among ((t, returned n (here.file t)) ∷ rest) t (here.file t)).file 10))
@@ -69,9 +65,9 @@ module _ (here : Here) (t : ℕ) where
   tells_deed number other few (Says n) =
       λ goes lives e. record { errno = e.errno; least = e.least; most = e.most; is = ap (said here t) (told n [] e) }
   tells_deed number other few (Answers n entered k no_error writes step) = tells_answer n [] entered k (no_error few)
-  tells_deed number other few (Wakes n at small) =
-      let done = wake n at here.kernel in
-      let most = woken_few n at here.kernel in
+  tells_deed number other few (Wakes n more at to small) =
+      let done = requeue n more at to here.kernel in
+      let most = requeue_few n more at to here.kernel in
       tells_answer (length done.threads) (map (answered_wait here) done.threads) [] done.kernel (small_no_error (length done.threads) (omega arith))
   tells_deed number other few (Breaks u g waiting keeps stand heeds calm) =
       tells_answer 0 (broken_wait here u ∷ []) [] (woken u (signalled g here.kernel)) (small_no_error 0 (omega arith))

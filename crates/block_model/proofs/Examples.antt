@@ -7,6 +7,7 @@ use Rattle.mach_types.specs.declared.limits.End.TheVariants as over
 use Rattle.mach_types.specs.declared.threads.ThreadState.TheVariants as state
 use Rattle.rv_inst.specs.declared.effects.Effect.TheVariants as effect
 use Rattle.chooser.proofs.Sights.{idle}
+use Rattle.block_model.specs.Calls.Limits.{limit_of}
 use Rattle.block_model.specs.History.{reservation}
 use Rattle.block_model.specs.Instruction.{next_fault}
 use Rattle.block_model.specs.Sights.{effect_here}
@@ -254,6 +255,24 @@ write_calls :
     × (answered (called (asks 65536 64 1 0x10078 1) 3) ≡ (3, negative 28, 0x10084) ∷ [])  -- no room
     × (answered (called (asks 65530 64 1 0x10078 10) 3) ≡ (3, 6, 0x10084) ∷ [])  -- cut to room
 write_calls = (refl, refl, refl, refl, refl, refl, refl, refl, refl, refl)
+
+-- what calls that only ask do: the size of the window is written, to a page of the stack; what `ioctl` tests, in order; the numbers of
+-- the parent and the user; priorities of policies; limits, and that none can be changed
+asking_calls :
+    (answered (called (asks 0 29 1 0x5413 0x3FFFF00000) 3) ≡ (3, 0, 0x10084) ∷ [])  -- window answered
+    × ((called (asks 0 29 1 0x5413 0x3FFFF00000) 3).entered ≡ Stored (record { at = 0x3FFFF00000; size = 8; value = 0x500019 }) ∷ [])  -- window written
+    × (answered (called (asks 0 29 3 0x5401 0) 3) ≡ (3, negative 9, 0x10084) ∷ [])  -- bad descriptor
+    × (answered (called (asks 0 29 2 0x5401 0) 3) ≡ (3, negative 25, 0x10084) ∷ [])  -- another request
+    × (answered (called (asks 0 29 0 0x5413 0x10078) 3) ≡ (3, negative 14, 0x10084) ∷ [])  -- bad address
+    × (answered (called (asks 0 173 5 0 0) 3) ≡ (3, 1, 0x10084) ∷ [])  -- parent
+    × (answered (called (asks 0 174 5 0 0) 3) ≡ (3, 0, 0x10084) ∷ [])  -- user
+    × (answered (called (asks 0 125 1 0 0) 3) ≡ (3, 99, 0x10084) ∷ [])  -- highest priority
+    × (answered (called (asks 0 126 4 0 0) 3) ≡ (3, negative 22, 0x10084) ∷ [])  -- no policy
+    × (answered (called (asks 0 261 1 16 0x10078) 3) ≡ (3, negative 22, 0x10084) ∷ [])  -- no resource
+    × (answered (called (asks 0 261 1 3 0x10078) 3) ≡ (3, negative 1, 0x10084) ∷ [])  -- a new limit
+    × (limit_of 3 ≡ 262144)  -- stack
+    × (limit_of 7 ≡ 2 ^ 64 - 1)  -- open files
+asking_calls = (refl, refl, refl, refl, refl, refl, refl, refl, refl, refl, refl, refl, refl)
 
 -- an exit's code is its low 8 bits; it sets no file
 exit_calls :

@@ -1,6 +1,6 @@
 -- Who sets the file of a thread: the thread by its instruction or its call, an interruption, the handler of a
 -- signal, whoever ends its wait, or its parent.
-use Rattle.block_model.proofs.Common.{CallDone, Done, EINTR, Effect, End, Event, Here, History, IsRunHistory, Kind, Outcome, Saved, Setting, answered_wait, child_file, done, eqb-true, file, file_among, files_interrupted, here_in_history, interruption_here, is_call, negative, next_number, outcome_of, runs, wake, with_register, woken_at_exit, ◌≡◌, ℕ, [], ◌∷◌, List, map, refl, sym, ap, ◌∙◌, subst, Bool, true, false, cond, eqb, Some, None}
+use Rattle.block_model.proofs.Common.{CallDone, Done, EINTR, Effect, End, Event, Here, History, IsRunHistory, Kind, Outcome, Saved, Setting, answered_wait, child_file, done, eqb-true, file, file_among, files_interrupted, here_in_history, interruption_here, is_call, negative, next_number, outcome_of, requeue, runs, with_register, woken_at_exit, ◌≡◌, ℕ, [], ◌∷◌, List, map, refl, sym, ap, ◌∙◌, subst, Bool, true, false, cond, eqb, Some, None}
 use Rattle.mach_types.specs.declared.events.Kind.TheVariants as kind
 use Rattle.mach_types.specs.declared.sequences.Outcome.TheVariants as comes_to
 use Rattle.block_model.proofs.CallEffects.{Bears, Breaks, CallDeed, Ends, Exits, Wakes}
@@ -73,8 +73,8 @@ module _ (here : Here) (tid u : ℕ) where
 
     step_called : {number : ℕ} {c : CallDone} → CallDeed here t number c
         → Is kind.Exec (file_among c.files u (here.file u))
-    step_called (Wakes n at small) =
-        either kind.Exec t _ _ (own _) (woken kind.Exec (wake n at here.kernel).threads)
+    step_called (Wakes n more at to small) =
+        either kind.Exec t _ _ (own _) (woken kind.Exec (requeue n more at to here.kernel).threads)
     step_called (Breaks v g waiting keeps stand heeds calm) =
         either kind.Exec t _ _ (own _)
         (either kind.Exec v _ (here.file u) (answered kind.Exec v (negative EINTR.0)) FileStays)

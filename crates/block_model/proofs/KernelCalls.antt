@@ -1,6 +1,6 @@
 -- What holds of the threads of a process and of their scheduling together holds after each call that changes them (clone(2), futex(2), exit(2), sched_setaffinity(2)).
-use Rattle.block_model.proofs.Common.{ℕ, ◌+◌, ◌≡◌, ◌≢◌, Bool, true, false, not, ◌||◌, cond, eqb, List, [], ◌∷◌, ◌++◌, length, map, filter, Option, Some, None, is_some, refl, sym, ap, ◌∙◌, inl, inr, arith, Decides-eqb, IsTables, Ready, Running, Scheduling, Thread, Threads, Waiting, affinity_of, eqb_tells, forget, is_full, is_of, is_ready, list_any, map_filters, map_push, map_stays, new_thread, next_is_new, numbers, on, option_map, running_on, same_numbers, set_if, state_of, state_of-with_child_other, state_of-with_child_same, state_of-with_state_other, state_of-without_other, state_of-without_same, times, waits, with_affinity, with_child, with_ready, with_waiter, without, Hart}
-use Rattle.mach_types.proofs.Laws.{IsThreads-child, IsThreads-without, IsThreads-woken, IsThreads-waiter}
+use Rattle.block_model.proofs.Common.{ℕ, ◌+◌, ◌≡◌, ◌≢◌, Bool, true, false, not, ◌||◌, cond, eqb, List, [], ◌∷◌, ◌++◌, length, map, filter, Option, Some, None, is_some, refl, sym, ap, ◌∙◌, inl, inr, arith, subst, Decides-eqb, IsTables, IsThreads, Ready, Running, Scheduling, Thread, ThreadState, Threads, Waiting, affinity_of, eqb_tells, forget, is_full, is_of, is_ready, is_waiting_state, list_any, map_filters, map_push, map_stays, new_thread, next_is_new, numbers, on, option_map, option_map_or, running_on, same_numbers, set_if, state_if, state_of, state_of-with_child_other, state_of-with_child_same, state_of-with_state_other, state_of-without_other, state_of-without_same, times, waits, with_affinity, with_child, with_ready, with_state, with_waiter, without, Hart}
+use Rattle.mach_types.proofs.Laws.{IsThreads-child, IsThreads-with_state, IsThreads-without, IsThreads-woken, IsThreads-waiter}
 use Rattle.block_model.proofs.KernelTables.{once, its_ready, held_from_alike, joined, running_is, stopped_idle, stopped_others, runs_once, not_running, state_now, tables_stopped}
 use Rattle.mach_types.specs.Kernel.Threads.{with_woken}
 use Rattle.mach_types.specs.Kernel.Scheduling.{with_thread}
@@ -103,6 +103,57 @@ module _ (harts t : ℕ) (ts : Threads) (sc : Scheduling) (holds : IsTables hart
   pub woken_same : (k : ℕ) → running_on k (with_woken t ts) ≡ running_on k ts
   woken_same k =
       stopped_others harts t ts (with_woken t ts) sc (with_ready t sc) holds tables_woken woken_forth woken_back k
+      (λ p. let states : Some (on k) ≡ Some (Waiting waiting.0) = sym p ∙ waiting.1 in cc)
+
+-- a state after another one: the later counts
+pub state_over : (t : ℕ) (a b : ThreadState) (live : List Thread) → map (state_if t a) (map (state_if t b) live) ≡ map (state_if t a) live
+state_over t a b [] = refl
+state_over t a b (th ∷ live) = λ i. over_one (eqb th.tid t) refl i ∷ state_over t a b live i
+  where
+    over_one : (c : Bool) → eqb th.tid t ≡ c → state_if t a (cond c (record th { state = b }) th) ≡ cond c (record th { state = a }) th
+    over_one true is = ap (λ d. cond d (record th { state = a }) (record th { state = b })) is
+    over_one false is = ap (λ d. cond d (record th { state = a }) th) is
+
+-- futex(2), requeue: a thread that waits does so at another address, behind all that wait
+module _ (harts t at : ℕ) (ts : Threads) (sc : Scheduling) (holds : IsTables harts ts sc) (waiting : waits ts t) where
+  -- as if it ran in between
+  threads_requeued : IsThreads (with_waiter t at (with_woken t ts))
+  threads_requeued =
+      let woke = with_woken t ts in
+      let ready : state_of t woke ≡ Some Ready = state_now t Ready (Waiting waiting.0) ts waiting.1 in
+      let ran = IsThreads-with_state t (on 0) woke (IsThreads-woken t ts holds.threads) refl (ap (λ (o : Option ThreadState). option_map_or is_waiting_state o false) ready) in
+      let waits = IsThreads-waiter t at (with_state t (on 0) woke) (record { 0 = 0 }) ran (state_now t (on 0) Ready woke ready) in
+      subst (λ (live : List Thread). IsThreads (record { live = live; given = ts.given; waiters = woke.waiters ++ t ∷ [] })) (state_over t (Waiting at) (on 0) woke.live) waits
+
+  requeued_back : (u : ℕ) (k : Hart) → state_of u (with_waiter t at (with_woken t ts)) ≡ Some (Running k) → (u ≢ t) × (state_of u ts ≡ Some (Running k))
+  requeued_back u k e =
+      let there = not_running t u (Waiting at) k (with_woken t ts) refl e in
+      (there.0, sym (state_of-with_state_other t u there.0 Ready ts) ∙ there.1)
+
+  requeued_forth : (u : ℕ) → u ≢ t → state_of u (with_waiter t at (with_woken t ts)) ≡ state_of u ts
+  requeued_forth u other = state_of-with_state_other t u other (Waiting at) (with_woken t ts) ∙ state_of-with_state_other t u other Ready ts
+
+  pub requeued_waits : state_of t (with_waiter t at (with_woken t ts)) ≡ Some (Waiting at)
+  requeued_waits = state_now t (Waiting at) Ready (with_woken t ts) (state_now t Ready (Waiting waiting.0) ts waiting.1)
+
+  requeued_ready : (u : ℕ) → is_ready u (with_waiter t at (with_woken t ts)) ≡ is_ready u ts
+  requeued_ready u =
+      elim (eqb_tells u t) [
+        | inl p ↦
+            ap (λ n. is_ready n (with_waiter t at (with_woken t ts))) p.1 ∙ ap its_ready requeued_waits ∙ sym (ap its_ready waiting.1)
+            ∙ sym (ap (λ n. is_ready n ts) p.1)
+        | inr q ↦ ap its_ready (requeued_forth u q.1)
+      ]
+
+  pub tables_requeued : IsTables harts (with_waiter t at (with_woken t ts)) sc
+  tables_requeued =
+      tables_stopped harts t ts (with_waiter t at (with_woken t ts)) sc sc holds threads_requeued requeued_back
+      (λ u. holds.ready u ∙ sym (ap once (requeued_ready u)))
+      (holds.alike ∙ sym (same_numbers t (Waiting at) (with_woken t ts).live ∙ same_numbers t Ready ts.live))
+
+  pub requeued_same : (k : ℕ) → running_on k (with_waiter t at (with_woken t ts)) ≡ running_on k ts
+  requeued_same k =
+      stopped_others harts t ts (with_waiter t at (with_woken t ts)) sc sc holds tables_requeued requeued_forth requeued_back k
       (λ p. let states : Some (on k) ≡ Some (Waiting waiting.0) = sym p ∙ waiting.1 in cc)
 
 -- exit(2): a thread that runs is gone

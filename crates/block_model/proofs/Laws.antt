@@ -43,7 +43,7 @@ pub use Rattle.block_model.proofs.EventNeeds.{has_thread, leaving_does, leaving_
 pub use Rattle.block_model.proofs.KernelWrites.{call_writes, event_writes}
 pub use Rattle.block_model.proofs.WritableBytes.{AllWritable, IsWritable, first_writable, none_passes}
 pub use Rattle.block_model.proofs.HartSets.{some_hart, with_hart-itself, with_hart-or, with_hart-other, without_hart-and, without_hart-has, without_hart-itself, without_hart-other}
-pub use Rattle.block_model.proofs.KernelCalls.{child_not_held, child_same, ended_idle, order_has, tables_allowed, tables_child, tables_ended, tables_waited, tables_woken, waited_idle, woken_same, order_has as ready_listed}
+pub use Rattle.block_model.proofs.KernelCalls.{child_not_held, child_same, ended_idle, order_has, requeued_same, state_over, tables_allowed, tables_child, tables_ended, tables_requeued, tables_waited, tables_woken, waited_idle, woken_same, order_has as ready_listed}
 pub use Rattle.block_model.proofs.IdsOnHarts.{IsHeldOnHart, is_held_below, is_held_by}
 pub use Rattle.block_model.proofs.Runs.{allowed_at, good_of, history-append, history-nil, length-history, decided_is}
 pub use Rattle.block_model.proofs.OwnEvents.{IsAreaAfter, new_area, no_area, own_area, ran_before, stays_area}
@@ -56,7 +56,7 @@ pub use Rattle.block_model.proofs.Standing.{HasFreeId, SameSegment, stand_aside,
 pub use Rattle.block_model.proofs.Sequences.{Begins, Elsewhere, IsOf, Own, SequenceStep, TakesIn, sequence_step}
 pub use Rattle.block_model.proofs.Stretches.{HasStayed, HasSteps, IsLent, Steps, is_lent, stays, steps_of, worked_keeps}
 pub use Rattle.block_model.proofs.ThreadRecords.{areas_changed, areas_fit, live_changed, registered_areas, signals_stay}
-pub use Rattle.block_model.proofs.Invariants.Calls.Futexes.{longest_waits, wake_by, wake_keeps}
+pub use Rattle.block_model.proofs.Invariants.Calls.Futexes.{longest_waits, requeue_by, requeue_keeps}
 pub use Rattle.block_model.proofs.KernelTables.{any_live, its_ready, left_idle, running_idle, running_is, running_there, waits_elsewhere, state_now, tables_left, tables_ran, tables_start, ran_runs}
 pub use Rattle.block_model.proofs.Barriers.OutsideSequences.{in_no_barrier}
 pub use Rattle.block_model.proofs.Pcs.{StandsIn}

@@ -1,5 +1,5 @@
 -- Each thread has 32 registers at every place of a run.
-use Rattle.block_model.proofs.Common.{AllByRecursion, CallDone, Done, Effect, Event, Here, History, IsRunHistory, Kind, Regs, Saved, Setting, answered_wait, argument, child_file, cond_both, done, file, file_among, files_interrupted, frame_read, has_flag, here_in_history, interruption_here, is_reserved, length-take, memory, outcome, view_of_all, wake, with_register, woken_at_exit, word_at, word_before, words_at, ◌≡◌, ℕ, zero, suc, ◌+◌, List, [], ◌∷◌, length, map, drop, set, length-set, refl, sym, ap, ◌∙◌, arith, subst, Bool, true, false, cond, not, eqb, Option, Some, length-drop}
+use Rattle.block_model.proofs.Common.{AllByRecursion, CallDone, Done, Effect, Event, Here, History, IsRunHistory, Kind, Regs, Saved, Setting, answered_wait, argument, child_file, cond_both, done, file, file_among, files_interrupted, frame_read, has_flag, here_in_history, interruption_here, is_reserved, length-take, memory, outcome, requeue, view_of_all, with_register, woken_at_exit, word_at, word_before, words_at, ◌≡◌, ℕ, zero, suc, ◌+◌, List, [], ◌∷◌, length, map, drop, set, length-set, refl, sym, ap, ◌∙◌, arith, subst, Bool, true, false, cond, not, eqb, Option, Some, length-drop}
 use Rattle.mach_types.specs.Kernel.SignalFrames.{restored}
 use Rattle.mach_types.specs.declared.address_space.TheConstants.{HANDLER_RETURN}
 use Rattle.mach_types.specs.declared.sequences.Outcome as interruptions
@@ -88,8 +88,8 @@ module _ (here : Here) (all : (t : ℕ) → HasRegisters (here.file t)) where
   call_has : {t number : ℕ} {c : CallDone} → CallDeed here t number c → HaveRegisters c.files
   call_has {t = t} (Says n) = (as_many (here.file t).file 10 n ∙ all t, tt)
   call_has {t = t} (Answers n entered k no_error writes step) = (as_many (here.file t).file 10 n ∙ all t, tt)
-  call_has {t = t} (Wakes n at small) =
-      let us = (wake n at here.kernel).threads in
+  call_has {t = t} (Wakes n more at to small) =
+      let us = (requeue n more at to here.kernel).threads in
       (as_many (here.file t).file 10 (length us) ∙ all t, woken_have here us all)
   call_has {t = t} (Breaks u g waiting keeps stand heeds calm) =
       (as_many (here.file t).file 10 0 ∙ all t, (as_many (here.file u).file 10 _ ∙ all u, tt))

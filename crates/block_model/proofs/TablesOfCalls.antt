@@ -1,12 +1,12 @@
 -- Whatever else holds at a place, each call leaves tables that agree: where the threads, the scheduling, the areas and the signals
 -- agreed before it, they agree after it.
-use Rattle.block_model.proofs.Common.{◌≡◌, ℕ, List, Bool, true, false, cond, Some, is_some, refl, ap, ◌∙◌, arith, Option, AreOfLive, AreSignalsOfLive, CallDone, Here, IsHeld, IsTables, KeepsRows, Kernel, Thread, ThreadState, Write, argument, call_number, called, clear_if, clear_of, cleared, clears, clone_child_cleartid, gone, had_child, has_flag, keeps_clear, left, next_number, restricted, rows_changed, running_on, runs, signalled, waits, wake, woken}
+use Rattle.block_model.proofs.Common.{◌≡◌, ℕ, List, Bool, true, false, cond, Some, is_some, refl, ap, ◌∙◌, arith, Option, AreOfLive, AreSignalsOfLive, CallDone, Here, IsHeld, IsTables, KeepsRows, Kernel, Thread, ThreadState, Write, argument, call_number, called, clear_if, clear_of, cleared, clears, clone_child_cleartid, gone, had_child, has_flag, keeps_clear, left, next_number, requeue, requeued, restricted, rows_changed, running_on, runs, signalled, waits, wake, woken}
 use Rattle.mach_types.specs.Kernel.SignalFrames as frame
 use Rattle.block_model.proofs.CallEffects.{Answers, Bears, Breaks, CallDeed, ChangesRows, Exits, Leaves, MovesOff, Registers, Resumes, Signalled, Stays, TableStep, Unregisters, Waits, Wakes}
 use Rattle.block_model.proofs.CallEffects.EachCall.{deed_called}
-use Rattle.block_model.proofs.Invariants.Calls.Futexes.{wake_keeps}
-use Rattle.block_model.proofs.ThreadRecords.{has_state, held_beside, held_child, held_gone, held_left, held_registered, held_rows, held_signalled, held_unregistered, held_waited, held_woken}
-use Rattle.block_model.proofs.KernelCalls.{tables_allowed, tables_child, tables_ended, tables_waited, tables_woken, woken_same}
+use Rattle.block_model.proofs.Invariants.Calls.Futexes.{requeue_keeps}
+use Rattle.block_model.proofs.ThreadRecords.{has_state, held_beside, held_child, held_gone, held_left, held_registered, held_requeued, held_rows, held_signalled, held_unregistered, held_waited, held_woken}
+use Rattle.block_model.proofs.KernelCalls.{tables_allowed, requeued_same, tables_child, tables_ended, tables_requeued, tables_waited, tables_woken, woken_same}
 use Rattle.block_model.proofs.KernelTables.{running_is, tables_left, tables_rows}
 use Rattle.block_model.proofs.SignalTables.{returned_keeps}
 
@@ -28,6 +28,11 @@ agreed_woken : (harts t : ℕ) (k : Kernel) → waits k.threads t → IsAgreed h
 agreed_woken harts t k waiting is =
     agreed_of harts (woken t k) (tables_woken harts t k.threads k.scheduling is.tables waiting) (held_woken 9 t k waiting (held_of harts k is))
 
+agreed_requeued : (harts t at : ℕ) (k : Kernel) → waits k.threads t → IsAgreed harts k → IsAgreed harts (requeued t at k)
+agreed_requeued harts t at k waiting is =
+    agreed_of harts (requeued t at k) (tables_requeued harts t at k.threads k.scheduling is.tables waiting)
+    (held_requeued 9 t at k waiting (held_of harts k is))
+
 agreed_left : (harts h t : ℕ) (k : Kernel) → running_on h k.threads ≡ Some t → IsAgreed harts k → IsAgreed harts (left t k)
 agreed_left harts h t k at is =
     agreed_of harts (left t k) (tables_left harts h t k.threads k.scheduling is.tables at) (held_left 9 t k (held_of harts k is))
@@ -48,18 +53,21 @@ cleared_if : (harts t at : ℕ) (k : Kernel) (b : Bool) → IsAgreed harts k →
 cleared_if harts t at k true is = agreed_rows harts (clear_if t at) (keeps_clear t at) k is
 cleared_if harts t at k false is = is
 
--- many that waited are woken, and who runs goes on running
-record IsWake (harts : ℕ) (k after : Kernel) : Type 0 where
+-- many that waited are woken or wait at another address, and who runs goes on running
+record IsRequeue (harts : ℕ) (k after : Kernel) : Type 0 where
   agreed : IsAgreed harts after
   running : (h : ℕ) → running_on h after.threads ≡ running_on h k.threads
 
-agreed_wake : (harts n at : ℕ) (k : Kernel) → IsAgreed harts k → IsWake harts k (wake n at k).kernel
-agreed_wake harts n at k is =
-    wake_keeps (λ a b. IsAgreed harts a → IsWake harts a b) (λ a its. record { agreed = its; running = λ h. refl })
+agreed_requeue : (harts n more at to : ℕ) (k : Kernel) → IsAgreed harts k → IsRequeue harts k (requeue n more at to k).kernel
+agreed_requeue harts n more at to k is =
+    requeue_keeps (λ a b. IsAgreed harts a → IsRequeue harts a b) (λ a its. record { agreed = its; running = λ h. refl })
     (λ u a after waiting rest its.
     let done = rest (agreed_woken harts u a waiting its) in
     record { agreed = done.agreed; running = λ h. done.running h ∙ woken_same harts u a.threads a.scheduling its.tables waiting h })
-    n at k is
+    (λ u to a after waiting rest its.
+    let done = rest (agreed_requeued harts u to a waiting its) in
+    record { agreed = done.agreed; running = λ h. done.running h ∙ requeued_same harts u to a.threads a.scheduling its.tables waiting h })
+    n more at to k is
 
 -- a call of the thread that runs on the hart
 module _ (here : Here) (t number harts : ℕ) (at : runs here ≡ Some t) (is : IsAgreed harts here.kernel) where
@@ -86,12 +94,12 @@ module _ (here : Here) (t number harts : ℕ) (at : runs here ≡ Some t) (is : 
 
   agreed_deed : {c : CallDone} → CallDeed here t number c → IsAgreed harts c.kernel
   agreed_deed (Answers n entered k no_error writes step) = agreed_step step
-  agreed_deed (Wakes n p small) = (agreed_wake harts n p now is).agreed
+  agreed_deed (Wakes n more p to small) = (agreed_requeue harts n more p to now is).agreed
   agreed_deed (Breaks u g waiting keeps stand heeds calm) =
       agreed_woken harts u (signalled g now) waiting (agreed_of harts _ is.tables (held_signalled 9 g now keeps held))
   agreed_deed (Exits more) =
       let n : ℕ = cond (clears here t) 1 0 in
-      let woke = agreed_wake harts n (clear_of t now.threads) now is in
+      let woke = agreed_requeue harts n 0 (clear_of t now.threads) 0 now is in
       agreed_gone harts here.hart t (wake n (clear_of t now.threads) now).kernel (woke.running here.hart ∙ at) woke.agreed
   agreed_deed (Bears entered writes free its_number) =
       cleared_if harts (next_number now) (argument here t 4) (had_child t now) (has_flag (argument here t 0) clone_child_cleartid)

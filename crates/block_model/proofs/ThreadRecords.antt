@@ -1,9 +1,10 @@
 -- What the kernel's record holds for threads: ids for those that run, and areas and signals for live ones alone. It stays so after
 -- each step.
-use Rattle.block_model.proofs.Common.{ℕ, ◌+◌, ◌<◌, ◌≤◌, ◌≡◌, ◌≢◌, ◌||◌, ◌⊎◌, Bool, true, false, not, cond, eqb, List, [], ◌∷◌, ◌++◌, length, map, filter, find, Option, Some, None, is_some, refl, sym, ap, ◌∙◌, inl, inr, arith, AreIdsApart, AreOfLive, AreSignalsOfLive, Area, IsHeld, IsThreads, KeepsRows, Kernel, Ready, Setting, Signalling, Thread, ThreadSignals, ThreadState, Threads, Waiting, area_of, cases_lt, eqb-true, eqb_tells, false≢true, first_kernel, gone, had_child, is_area_of, is_live, is_running_state, left, length-map, list_any, map_filters, map_push, mask_of, new_thread, next_is_new, next_number, numbers, numbers-with_rows, on, option_map, or_cases, or_right, registered, rows_changed, same_numbers, signalled, state_of, state_of-with_child_other, state_of-with_child_same, state_of-with_rows, state_of-with_state_other, state_of-with_state_same, state_of-without_other, state_of-without_same, thread_of, times, times_cons, times_push, unregistered, waited, waits, with_child, with_state, without, without_area, woken}
+use Rattle.block_model.proofs.Common.{ℕ, ◌+◌, ◌<◌, ◌≤◌, ◌≡◌, ◌≢◌, ◌||◌, ◌⊎◌, Bool, true, false, not, cond, eqb, List, [], ◌∷◌, ◌++◌, length, map, filter, find, Option, Some, None, is_some, refl, sym, ap, ◌∙◌, inl, inr, arith, AreIdsApart, AreOfLive, AreSignalsOfLive, Area, IsHeld, IsThreads, KeepsRows, Kernel, Ready, Setting, Signalling, Thread, ThreadSignals, ThreadState, Threads, Waiting, area_of, cases_lt, eqb-true, eqb_tells, false≢true, first_kernel, gone, had_child, is_area_of, is_live, is_running_state, left, length-map, list_any, map_filters, map_push, mask_of, new_thread, next_is_new, next_number, numbers, numbers-with_rows, on, option_map, or_cases, or_right, registered, requeued, rows_changed, same_numbers, signalled, state_of, state_of-with_child_other, state_of-with_child_same, state_of-with_rows, state_of-with_state_other, state_of-with_state_same, state_of-without_other, state_of-without_same, thread_of, times, times_cons, times_push, unregistered, waited, waits, with_child, with_state, without, without_area, woken}
 use Rattle.mach_types.specs.Kernel.Areas.{with_area}
 use Rattle.mach_types.specs.Kernel.Signals as signals
 use Rattle.block_model.specs.Kernel.{ran}
+use Rattle.mach_types.specs.Kernel.Threads.{with_woken}
 use Rattle.block_model.proofs.KernelTables.{once, any_of}
 use Rattle.block_model.proofs.SignalTables.{KeepsThreads}
 use Rattle.block_model.proofs.Ids.{filtered_less, ids_ran, ids_same, ids_start, ids_stopped, is_run, its_run, fits, numbered}
@@ -117,6 +118,23 @@ held_woken harts t k waiting is = record {
   areas = areas_stay k.threads (woken t k).threads k.areas (state_follows t Ready k.threads) is.areas;
   signals = signals_stay t Ready k.threads k.signals is.signals;
 }
+
+-- one that waits does so at another address
+pub held_requeued : (harts : ℕ) → (t at : ℕ) (k : Kernel) → waits k.threads t → IsHeld harts k → IsHeld harts (requeued t at k)
+held_requeued harts t at k waiting is = record {
+  ids = λ small. ids_same k.threads (requeued t at k).threads k.ids requeued_runs (is.ids small);
+  areas = areas_stay k.threads (requeued t at k).threads k.areas
+      (λ u live. state_follows t (Waiting at) (with_woken t k.threads) u (state_follows t Ready k.threads u live)) is.areas;
+  signals = signals_stay t (Waiting at) (with_woken t k.threads) k.signals (signals_stay t Ready k.threads k.signals is.signals);
+}
+  where
+    requeued_runs : (u : ℕ) → is_run u (requeued t at k).threads ≡ is_run u k.threads
+    requeued_runs u = elim (eqb_tells u t) [
+      | inl p ↦
+          ap (λ n. is_run n (requeued t at k).threads) p.1 ∙ run_stops t (Waiting at) (with_woken t k.threads) refl ∙ sym (ap its_run waiting.1)
+          ∙ sym (ap (λ n. is_run n k.threads) p.1)
+      | inr q ↦ run_stays t u (Waiting at) (with_woken t k.threads) q.1 ∙ run_stays t u Ready k.threads q.1
+    ]
 
 -- a change of rows that keeps numbers and states
 pub held_rows : (harts : ℕ) (f : Thread → Thread) → KeepsRows f → (k : Kernel) → IsHeld harts k → IsHeld harts (rows_changed f k)

@@ -10,9 +10,12 @@ use Rattle.block_model.specs.Calls.Cloning.{clone}
 use Rattle.block_model.specs.Calls.Console.{write, writev}
 use Rattle.block_model.specs.Calls.Ending.{exit, exit_group}
 use Rattle.block_model.specs.Calls.Futexes.{futex}
+use Rattle.block_model.specs.Calls.Limits.{prlimit64}
 use Rattle.block_model.specs.Calls.Memory.{brk, mmap, mprotect, munmap}
-use Rattle.block_model.specs.Calls.Numbers.{getpid, gettid, set_tid_address}
-use Rattle.block_model.specs.Calls.Signals.{rt_sigaction, rt_sigprocmask, rt_sigreturn, tgkill, tkill}
+use Rattle.block_model.specs.Calls.Numbers.{getegid, geteuid, getgid, getpid, getppid, gettid, getuid, set_tid_address}
+use Rattle.block_model.specs.Calls.Policies.{sched_get_priority_max, sched_get_priority_min, sched_getparam, sched_getscheduler}
+use Rattle.block_model.specs.Calls.Signals.{rt_sigaction, rt_sigpending, rt_sigprocmask, rt_sigreturn, tgkill, tkill}
+use Rattle.block_model.specs.Calls.Terminal.{ioctl}
 pub mod Affinity
 pub mod Answers
 pub mod Barriers
@@ -21,12 +24,33 @@ pub mod Cloning
 pub mod Console
 pub mod Ending
 pub mod Futexes
+pub mod Limits
 pub mod Memory
 pub mod Numbers
+pub mod Policies
 pub mod Sequences
 pub mod Signals
+pub mod Terminal
 
--- the call of this number, of those that hang on the state of no other process; one that isn't there answers ENOSYS
+-- the call of this number, of those that only ask: they answer, perhaps write to memory, and change nothing else; one that isn't there
+-- answers ENOSYS
+abbrev pub asking_call_of : ℕ → Here → ℕ → CallDone
+asking_call_of number here t =
+    if number == 29 then ioctl here t
+    else if number == 120 then sched_getscheduler here t
+    else if number == 121 then sched_getparam here t
+    else if number == 125 then sched_get_priority_max here t
+    else if number == 126 then sched_get_priority_min here t
+    else if number == 136 then rt_sigpending here t
+    else if number == 173 then getppid here t
+    else if number == 174 then getuid here t
+    else if number == 175 then geteuid here t
+    else if number == 176 then getgid here t
+    else if number == 177 then getegid here t
+    else if number == 261 then prlimit64 here t
+    else refused here t ENOSYS
+
+-- the call of this number, of those that hang on the state of no other process
 abbrev pub own_call_of : ℕ → Here → ℕ → CallDone
 own_call_of number here t =
     if number == 64 then write here t
@@ -51,7 +75,7 @@ own_call_of number here t =
     else if number == 220 then clone here t
     else if number == 222 then mmap here t
     else if number == 226 then mprotect here t
-    else refused here t ENOSYS
+    else asking_call_of number here t
 
 -- the call of this number; membarrier(2) and rseq(2) are others where a process is beside their own
 abbrev pub call_of : ℕ → Here → ℕ → CallDone

@@ -58,6 +58,10 @@ waited t at k = record k { threads = with_waiter t at k.threads; ids = without_i
 abbrev pub woken : ℕ → Kernel → Kernel
 woken t k = record k { threads = with_woken t k.threads; scheduling = with_ready t k.scheduling }
 
+-- a waiting thread waits at another address from now on, behind all that wait
+abbrev pub requeued : ℕ → ℕ → Kernel → Kernel
+requeued t at k = record k { threads = with_waiter t at (with_woken t k.threads) }
+
 -- a running thread is gone, and with it its signals and its area
 abbrev pub gone : ℕ → Kernel → Kernel
 gone t k = record k {

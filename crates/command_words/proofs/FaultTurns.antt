@@ -6,7 +6,7 @@ use Rattle.std.proofs.lemmas.Bool.{and_parts}
 use Rattle.std.specs.Option.{is_some}
 use Rattle.step_log.specs.Script.{◌>>=◌}
 use Rattle.command_words.specs.Grammar.{Arguments, Item, Name, Given, asked_by, suits}
-use Rattle.command_words.specs.Options.{OptionName, Harts, Frames, Steps, Seed, Policy, Calm, After, RunCount, Until, By, Jobs, From, To, Memory, Expect, Places, Deep, Scripts}
+use Rattle.command_words.specs.Options.{OptionName, Harts, Frames, Steps, Seed, Policy, Calm, After, RunCount, Until, By, Jobs, From, To, Memory, Expect, Places, Deep, Scripts, Without}
 use Rattle.command_words.specs.Takes.{OptionSet, Takes, has, takes_of}
 use Rattle.command_words.specs.Takes.{with_option as with_one}
 use Rattle.command_words.specs.WordFaults.{SoFar, kind_at}
@@ -41,6 +41,7 @@ given_options given = record {
   places = is_some (given.values Places);
   deep = is_some (given.values Deep);
   scripts = is_some (given.values Scripts);
+  without = is_some (given.values Without);
 }
 
 -- how far the words are read that give so many names and these options, or these arguments
@@ -72,6 +73,7 @@ has_given Expect given = refl
 has_given Places given = refl
 has_given Deep given = refl
 has_given Scripts given = refl
+has_given Without given = refl
 
 -- with a value more the names stay
 pub names_same : (option : OptionName) (text : List ℕ) (given : Arguments)
@@ -99,6 +101,7 @@ options_after Expect text given = refl
 options_after Places text given = refl
 options_after Deep text given = refl
 options_after Scripts text given = refl
+options_after Without text given = refl
 
 -- with this value
 pub own_value : (option : OptionName) (text : List ℕ) (given : Arguments)

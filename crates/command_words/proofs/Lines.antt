@@ -17,7 +17,7 @@ use Rattle.command_words.specs.Commands.{Command}
 use Rattle.command_words.specs.Grammar.{Arguments, AreWritten, Given, IsCommandLine, IsLine}
 use Rattle.command_words.specs.Grammar.{IsWritten, Item, Name, arguments_in, asked_by, names_in}
 use Rattle.command_words.specs.Grammar.{values_in, begins_with_dash, command_in, is_option}
-use Rattle.command_words.specs.Options.{OptionName, Harts, Frames, Steps, Seed, Policy, Calm, After, RunCount, Until, By, Jobs, From, To, Memory, Expect, Places, Deep, Scripts, all_options, option_named}
+use Rattle.command_words.specs.Options.{OptionName, Harts, Frames, Steps, Seed, Policy, Calm, After, RunCount, Until, By, Jobs, From, To, Memory, Expect, Places, Deep, Scripts, Without, all_options, option_named}
 use Rattle.command_words.specs.Options.{option_word}
 use Rattle.command_words.specs.Words.{Reading, Options, Value, Names, arguments_of, behind_equals, command_of}
 use Rattle.command_words.specs.Words.{few_arguments, is_equals, items, option_read, word_read}
@@ -348,6 +348,12 @@ joined_read Scripts text =
       longer_than 9 (codes "--scripts=") text
           (omega arith),
     )
+joined_read Without text =
+    simp (
+      longer_than 1 (codes "--without=") text (omega arith),
+      longer_than 9 (codes "--without=") text
+          (omega arith),
+    )
 
 option_alone : (option : OptionName) → word_read Options (option_word option) ≡ Some (None, Value option)
 option_alone Harts = refl
@@ -368,6 +374,7 @@ option_alone Expect = refl
 option_alone Places = refl
 option_alone Deep = refl
 option_alone Scripts = refl
+option_alone Without = refl
 
 value_read : (option : OptionName) (text : List ℕ) → begins_with_dash text ≡ false
     → word_read (Value option) text ≡ Some (Some (Given option text), Options)

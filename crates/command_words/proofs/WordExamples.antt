@@ -5,6 +5,7 @@ use Rattle.mach_types.specs.declared.limits.Limits.{Limits}
 use Rattle.draw_policies.specs.declared.policies.Policies.{Policies}
 use Rattle.draw_policies.specs.declared.policies.Policies.TheVariants.{All, Only}
 use Rattle.draw_policies.specs.declared.policies.Policy.TheVariants as policy
+use Rattle.search_reductions.specs.Reductions.{all_reductions}
 use Rattle.guest_names.specs.declared.names.Name.TheVariants.{Counter, Migrate}
 use Rattle.command_words.specs.Commands.{Command, Runs, Makes, Tries, Explores, Searches, Pairs, Source, Rule, Script, Workers, Drawn, DrawnAfter}
 use Rattle.command_words.specs.declared.commands.LineSpan.{LineSpan}
@@ -307,7 +308,8 @@ unfolding command_of arguments_of
 no_policies = refl
 
 abbrev searching : Limits → ℕ → Bool → SearchSettings
-searching limits places scripts = record { limits = limits; places = places; scripts = scripts }
+searching limits places scripts =
+    record { limits = limits; places = places; scripts = scripts; reductions = all_reductions }
 
 abbrev settings : ℕ → Option ℕ → OutcomeKey → Option ℕ → Settings
 settings runs until apart jobs = record {
@@ -372,11 +374,19 @@ outcomes_options : command_of
 unfolding command_of arguments_of
 outcomes_options = refl
 
+outcomes_without : command_of (codes "outcomes" ∷ codes "F" ∷ codes "--without" ∷ codes "local-steps" ∷ [])
+    ≡ Some (Searches (codes "F") (record (searching (limits 2 4096 100000) 1000000 true) { reductions = record { local_steps = false } }))
+unfolding command_of arguments_of
+outcomes_without = refl
+
 wrong_outcomes : are_refused (
     codes "outcomes F --places=0" ∷
     codes "outcomes F --places=16000001" ∷
     codes "outcomes F --deep=1000001" ∷
     codes "outcomes F --scripts=maybe" ∷
+    codes "outcomes F --without=steps" ∷
+    codes "outcomes F --without=" ∷
+    codes "explore F --without=local-steps" ∷
     codes "outcomes F --steps=5" ∷
     codes "outcomes F --seed=1" ∷
     codes "explore F --places=5" ∷

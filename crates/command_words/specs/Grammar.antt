@@ -17,6 +17,8 @@ use Rattle.draw_policies.specs.declared.outcome_keys.OutcomeKey.TheVariants.{ByT
 use Rattle.draw_policies.specs.declared.policies.Policies.{Policies}
 use Rattle.draw_policies.specs.declared.policies.Policies.TheVariants.{All}
 use Rattle.guest_names.specs.Guests.{name_of}
+use Rattle.search_reductions.specs.Reductions.{all_reductions, reductions_without}
+use Rattle.search_reductions.specs.declared.reductions.Reductions.{Reductions}
 use Rattle.step_log.specs.Script.{◌>>=◌}
 use Rattle.command_words.specs.declared.commands.Guest.{Guest}
 use Rattle.command_words.specs.declared.commands.LineSpan.{LineSpan}
@@ -30,7 +32,7 @@ use Rattle.command_words.specs.declared.table.SourceKind.{SourceKind}
 use Rattle.command_words.specs.declared.table.SourceKind.TheVariants.{ByRule, ByScript, ByWorkers, ByDraws}
 use Rattle.command_words.specs.Ends.{expected_end}
 use Rattle.command_words.specs.Commands.{Command, PairRun, Run, Runs, Makes, Tries, Explores, Searches, Pairs, Source, Rule, Script, Workers, Drawn, DrawnAfter}
-use Rattle.command_words.specs.Options.{OptionName, Harts, Frames, Steps, Seed, Policy, Calm, After, RunCount, Until, By, Jobs, From, To, Memory, Expect, Places, Deep, Scripts}
+use Rattle.command_words.specs.Options.{OptionName, Harts, Frames, Steps, Seed, Policy, Calm, After, RunCount, Until, By, Jobs, From, To, Memory, Expect, Places, Deep, Scripts, Without}
 use Rattle.command_words.specs.Options.{Range, all_options, is_value}
 use Rattle.command_words.specs.Options.{number_in, number_of, option_word, range_of, same_option, values_of, yes_or_no}
 use Rattle.command_words.specs.Shown.{Shown}
@@ -133,6 +135,10 @@ apart_or_text value = unwrap_or (value >>= key_of_word) ByText
 abbrev pub said_or_yes : Option (List ℕ) → Bool
 said_or_yes value = unwrap_or (value >>= yes_or_no) true
 
+-- which reductions a search makes: all but the one of the name that is given
+abbrev pub reductions_made : Option (List ℕ) → Reductions
+reductions_made value = unwrap_or (value >>= reductions_without) all_reductions
+
 -- what the options come to
 abbrev pub settings_of : (OptionName → Option (List ℕ)) → Settings
 settings_of values = record {
@@ -163,6 +169,7 @@ settings_of values = record {
     };
     places = number_or 1000000 (range_of 1 16000000) (values Places);
     scripts = said_or_yes (values Scripts);
+    reductions = reductions_made (values Without);
   };
 }
 

@@ -4,6 +4,7 @@ use Rattle.std.specs.Option.{is_some}
 use Rattle.std.specs.Str.{bytes_eq}
 use Rattle.draw_policies.specs.OutcomeKeys.{key_of_word}
 use Rattle.draw_policies.specs.Policies.{policies_of_word}
+use Rattle.search_reductions.specs.Reductions.{reductions_without}
 use Rattle.command_words.specs.Spans.{are_spans}
 use Rattle.command_words.specs.Ends.{end_named}
 pub use Rattle.command_words.specs.Decimals.{Range, number_in, number_of, range_of}
@@ -12,8 +13,8 @@ pub use Rattle.command_words.specs.Decimals.{Range, number_in, number_of, range_
 -- the log may have, the seed of what is chosen, which policies draw, from how many events on a run goes on fairly, and the script
 -- behind which events are drawn; how many runs are explored, how many different outcomes are enough, by what they are told apart, and
 -- how many host threads make the runs; from which line and to which line a log is told; which bytes of memory are shown;
--- how all runs of an exploration are expected to end; and of a search how many places are kept, how many events lead to a place at most, and
--- whether the scripts of outcomes are printed
+-- how all runs of an exploration are expected to end; and of a search how many places are kept, how many events lead to a place at most,
+-- whether the scripts of outcomes are printed, and which reduction is left out
 pub data OptionName : Type 0 where
   Harts : OptionName
   Frames : OptionName
@@ -33,9 +34,10 @@ pub data OptionName : Type 0 where
   Places : OptionName
   Deep : OptionName
   Scripts : OptionName
+  Without : OptionName
 
 abbrev pub all_options : List OptionName
-all_options = Harts ∷ Frames ∷ Steps ∷ Seed ∷ Policy ∷ Calm ∷ After ∷ RunCount ∷ Until ∷ By ∷ Jobs ∷ From ∷ To ∷ Memory ∷ Expect ∷ Places ∷ Deep ∷ Scripts ∷ []
+all_options = Harts ∷ Frames ∷ Steps ∷ Seed ∷ Policy ∷ Calm ∷ After ∷ RunCount ∷ Until ∷ By ∷ Jobs ∷ From ∷ To ∷ Memory ∷ Expect ∷ Places ∷ Deep ∷ Scripts ∷ Without ∷ []
 
 -- the name of an option
 abbrev pub long_name : OptionName → List ℕ
@@ -57,6 +59,7 @@ long_name Expect = codes "expect"
 long_name Places = codes "places"
 long_name Deep = codes "deep"
 long_name Scripts = codes "scripts"
+long_name Without = codes "without"
 
 -- the word of an option
 abbrev pub option_word : OptionName → List ℕ
@@ -70,8 +73,8 @@ option_named word = find (λ option. bytes_eq word (option_word option)) all_opt
 abbrev pub same_option : OptionName → OptionName → Bool
 same_option one other = bytes_eq (option_word one) (option_word other)
 
--- the values of an option: numbers, the names of policies, by what outcomes are told apart, the names of files, spans of memory, ends, or
--- `yes` and `no`
+-- the values of an option: numbers, the names of policies, by what outcomes are told apart, the names of files, spans of memory, ends,
+-- `yes` and `no`, or the names of reductions
 pub data Values : Type 0 where
   Numbers : (range : Range) → Values
   PolicyNames : Values
@@ -80,6 +83,7 @@ pub data Values : Type 0 where
   MemorySpans : Values
   EndNames : Values
   YesOrNo : Values
+  ReductionNames : Values
 
 -- what `yes` and `no` say
 abbrev pub yes_or_no : List ℕ → Option Bool
@@ -105,6 +109,7 @@ values_of Expect = EndNames
 values_of Places = Numbers (range_of 1 16000000)
 values_of Deep = Numbers (range_of 1 1000000)
 values_of Scripts = YesOrNo
+values_of Without = ReductionNames
 
 -- whether a text is one of these values. A file's name is any text but `-`, which can't stand alone behind an option
 abbrev pub is_value : Values → List ℕ → Bool
@@ -115,3 +120,4 @@ is_value FileNames text = not (bytes_eq text (codes "-"))
 is_value MemorySpans text = are_spans text
 is_value EndNames text = is_some (end_named text)
 is_value YesOrNo text = is_some (yes_or_no text)
+is_value ReductionNames text = is_some (reductions_without text)

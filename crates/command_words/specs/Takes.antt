@@ -8,7 +8,7 @@ use Rattle.command_words.specs.declared.table.SourceKind.{SourceKind}
 use Rattle.command_words.specs.declared.table.SourceKind.TheVariants.{ByRule, ByScript, ByWorkers, ByDraws}
 use Rattle.command_words.specs.declared.takes.NameKind.{NameKind}
 use Rattle.command_words.specs.declared.takes.NameKind.TheVariants.{Program, SecondProgram, Script, Guest, Size}
-use Rattle.command_words.specs.Options.{OptionName, Harts, Frames, Steps, Seed, Policy, Calm, After, RunCount, Until, By, Jobs, From, To, Memory, Expect, Places, Deep, Scripts}
+use Rattle.command_words.specs.Options.{OptionName, Harts, Frames, Steps, Seed, Policy, Calm, After, RunCount, Until, By, Jobs, From, To, Memory, Expect, Places, Deep, Scripts, Without}
 use Rattle.command_words.specs.Table.{command_kind}
 
 -- some of the options
@@ -31,6 +31,7 @@ pub record OptionSet : Type 0 where
   pub places : Bool
   pub deep : Bool
   pub scripts : Bool
+  pub without : Bool
 
 -- none of them
 abbrev pub no_options : OptionSet
@@ -53,6 +54,7 @@ no_options = record {
   places = false;
   deep = false;
   scripts = false;
+  without = false;
 }
 
 -- whether an option is among them
@@ -75,6 +77,7 @@ has options Expect = options.expect
 has options Places = options.places
 has options Deep = options.deep
 has options Scripts = options.scripts
+has options Without = options.without
 
 -- these and one more
 abbrev pub with_option : OptionSet → OptionName → OptionSet
@@ -96,6 +99,7 @@ with_option options Expect = record options { expect = true }
 with_option options Places = record options { places = true }
 with_option options Deep = record options { deep = true }
 with_option options Scripts = record options { scripts = true }
+with_option options Without = record options { without = true }
 
 -- what a command takes: these names in this order, and these options in any
 pub record Takes : Type 0 where
@@ -147,7 +151,7 @@ abbrev pub taken_by_search : Takes
 taken_by_search =
     record {
       names = Program ∷ [];
-      options = record no_options { harts = true; frames = true; places = true; deep = true; scripts = true };
+      options = record no_options { harts = true; frames = true; places = true; deep = true; scripts = true; without = true };
     }
 
 -- what the making of a guest takes

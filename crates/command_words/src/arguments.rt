@@ -65,6 +65,8 @@ pub(crate) struct Arguments<'a> {
     pub(crate) deep: Option<&'a str>,
     /// The value of `--scripts`.
     pub(crate) scripts: Option<&'a str>,
+    /// The value of `--without`.
+    pub(crate) without: Option<&'a str>,
 }
 
 /// An option of this name, which takes a value.
@@ -106,7 +108,8 @@ fn options<'a>(alloc: Global) -> Result<Parser<'a>, AllocError>
         .arg(option(alloc, "expect"))?
         .arg(option(alloc, "places"))?
         .arg(option(alloc, "deep"))?
-        .arg(option(alloc, "scripts"))
+        .arg(option(alloc, "scripts"))?
+        .arg(option(alloc, "without"))
 }
 
 /// A parser of what may stand behind a command.
@@ -164,6 +167,7 @@ fn arguments_in<'a>(matches: &ArgMatches<'a>) -> Arguments<'a>
         places: matches.get_str("places"),
         deep: matches.get_str("deep"),
         scripts: matches.get_str("scripts"),
+        without: matches.get_str("without"),
     }
 }
 

@@ -7,7 +7,7 @@ ghost use Rattle.command_words.specs.Commands.{AreInRange, AreSearchable, HasHar
 ghost use Rattle.command_words.specs.Kept.{named, names_kept, pair_said, range, run_said, said, shown_said, source_said, spans_kept, stated, takes_kept};
 ghost use Rattle.command_words.specs.Grammar.{all_suit, apart_or_text, asked_by, asked_for, command_for, drawn_source, files_for, guest_for, guest_named};
 ghost use Rattle.command_words.specs.Grammar.{harts_for, one_name, policies_or_all, run_for, settings_of, shown_for, suits, trial_of};
-ghost use Rattle.command_words.specs.Grammar.{number_given, pair_for, program_for, said_or_yes, two_names};
+ghost use Rattle.command_words.specs.Grammar.{number_given, pair_for, program_for, reductions_made, said_or_yes, two_names};
 ghost use Rattle.command_words.specs.Options.{After, Memory};
 ghost use Rattle.command_words.specs.Words.{command_of, texts};
 
@@ -23,6 +23,7 @@ use crate::takes::Takes;
 use draw_policies::{OutcomeKey, Policies};
 use guest_names::Name;
 use mach_types::{End, Limits};
+use search_reductions::{ALL_REDUCTIONS, Reductions};
 use std::alloc::{AllocError, Global};
 
 /// How the events of runs are drawn from their seeds.
@@ -137,6 +138,8 @@ pub struct SearchSettings {
     pub places: u32,
     /// Whether the script of each outcome is printed.
     pub scripts: bool,
+    /// Which reductions the search makes.
+    pub reductions: Reductions,
 }
 
 /// What the options of a command come to.
@@ -231,7 +234,7 @@ impl Trial {
 /// commands on a script, with `--harts` too, `inspect` with `--memory` besides, and `trace` with `--from` and `--to`;
 /// `run FILE`, with `--harts` and `--seed` too; `draw FILE`, with `--policy`, `--calm` and `--after` besides; `explore FILE`,
 /// with `--policy`, `--calm`, `--runs`, `--until`, `--by`, `--jobs` and `--expect`; `outcomes FILE`, with `--harts`,
-/// `--frames`, `--places`, `--deep` and `--scripts`; `make NAME N`, with no option; `trial NAME N`, with
+/// `--frames`, `--places`, `--deep`, `--scripts` and `--without`; `make NAME N`, with no option; `trial NAME N`, with
 /// `--harts`, `--steps` and `--seed`; or `pair FILE1 FILE2 SCRIPT`, with the options of `play`. Each limit is in its range.
 #[tactic(auto, unfolding(crate::specs::Words::command_of))]
 pub(crate) fn command_of<'a>(
@@ -285,6 +288,7 @@ impl<'a> Arguments<'a> {
             OptionName::Places => self.places,
             OptionName::Deep => self.deep,
             OptionName::Scripts => self.scripts,
+            OptionName::Without => self.without,
         }
     }
 
@@ -358,6 +362,7 @@ impl<'a> Arguments<'a> {
             },
             places: PLACES.number_or(1_000_000, self.places) as u32,
             scripts: said_or_yes(self.scripts),
+            reductions: reductions_made(self.without),
         }
     }
 
@@ -417,6 +422,16 @@ fn said_or_yes(word: Option<&str>) -> bool
     match word {
         Some(word) => yes_or_no(word).unwrap_or(true),
         None => true,
+    }
+}
+
+/// Which reductions a search makes: all but the one of the name that is given.
+fn reductions_made(name: Option<&str>) -> Reductions
+    ensures { result ≡ reductions_made (option_copied name.entry) }
+{
+    match name {
+        Some(name) => Reductions::all_but(name).unwrap_or(ALL_REDUCTIONS),
+        None => ALL_REDUCTIONS,
     }
 }
 

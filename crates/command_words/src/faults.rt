@@ -44,6 +44,8 @@ pub enum WordsFault {
     NoEnd(usize),
     /// The value in this word is neither `yes` nor `no`.
     NeitherYesNorNo(usize),
+    /// The value in this word names no reduction of a search.
+    UnknownReduction(usize),
     /// This word is a name too many.
     OneNameTooMany(usize),
     /// This word is to name a guest, and names none.

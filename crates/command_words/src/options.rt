@@ -10,6 +10,7 @@ ghost use Rattle.command_words.specs.Options.{is_value, number_in, number_of, op
 use crate::ends::end_of_text;
 use crate::spans::are_spans;
 use draw_policies::{OutcomeKey, Policies};
+use search_reductions::Reductions;
 
 /// The options that commands have.
 #[derive(Clone, Copy, Drop)]
@@ -50,10 +51,12 @@ pub(crate) enum OptionName {
     Deep,
     /// Whether the scripts of outcomes are printed.
     Scripts,
+    /// Which reduction a search leaves out.
+    Without,
 }
 
 /// All options.
-pub(crate) const ALL_OPTIONS: [OptionName; 18] = [
+pub(crate) const ALL_OPTIONS: [OptionName; 19] = [
     OptionName::Harts,
     OptionName::Frames,
     OptionName::Steps,
@@ -72,6 +75,7 @@ pub(crate) const ALL_OPTIONS: [OptionName; 18] = [
     OptionName::Places,
     OptionName::Deep,
     OptionName::Scripts,
+    OptionName::Without,
 ];
 
 /// Some numbers.
@@ -168,6 +172,8 @@ pub(crate) enum Values {
     EndNames,
     /// `yes` and `no`.
     YesOrNo,
+    /// The names of reductions.
+    ReductionNames,
 }
 
 impl OptionName {
@@ -194,6 +200,7 @@ impl OptionName {
             "--places" => Some(OptionName::Places),
             "--deep" => Some(OptionName::Deep),
             "--scripts" => Some(OptionName::Scripts),
+            "--without" => Some(OptionName::Without),
             _ => None,
         }
     }
@@ -221,6 +228,7 @@ impl OptionName {
             OptionName::Places => Values::Numbers(PLACES),
             OptionName::Deep => Values::Numbers(DEPTHS),
             OptionName::Scripts => Values::YesOrNo,
+            OptionName::Without => Values::ReductionNames,
         }
     }
 }
@@ -238,6 +246,7 @@ impl Values {
             Values::MemorySpans => are_spans(text),
             Values::EndNames => end_of_text(text).is_some(),
             Values::YesOrNo => yes_or_no(text).is_some(),
+            Values::ReductionNames => Reductions::all_but(text).is_some(),
         }
     }
 }

@@ -77,6 +77,7 @@ impl Values {
             Values::MemorySpans => WordsFault::NoSpans(word),
             Values::EndNames => WordsFault::NoEnd(word),
             Values::YesOrNo => WordsFault::NeitherYesNorNo(word),
+            Values::ReductionNames => WordsFault::UnknownReduction(word),
         }
     }
 }

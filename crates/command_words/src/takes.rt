@@ -30,6 +30,7 @@ pub(crate) struct OptionSet {
     places: bool,
     deep: bool,
     scripts: bool,
+    without: bool,
 }
 
 impl OptionSet {
@@ -63,6 +64,7 @@ impl OptionSet {
             OptionName::Places => self.places,
             OptionName::Deep => self.deep,
             OptionName::Scripts => self.scripts,
+            OptionName::Without => self.without,
         }
     }
 
@@ -90,6 +92,7 @@ impl OptionSet {
             OptionName::Places => all.places = true,
             OptionName::Deep => all.deep = true,
             OptionName::Scripts => all.scripts = true,
+            OptionName::Without => all.without = true,
         }
         all
     }
@@ -115,6 +118,7 @@ const NO_OPTIONS: OptionSet = OptionSet {
     places: false,
     deep: false,
     scripts: false,
+    without: false,
 };
 
 /// The options of a command that runs on one hart: it chooses nothing.
@@ -179,6 +183,7 @@ const OF_A_SEARCH: OptionSet = OptionSet {
     places: true,
     deep: true,
     scripts: true,
+    without: true,
     ..NO_OPTIONS
 };
 

@@ -12,7 +12,7 @@ use Rattle.mach_types.specs.declared.errors.Errno.{Errno}
 use Rattle.mach_types.specs.declared.errors.TheConstants.{EINVAL}
 use Rattle.mach_types.specs.declared.sequences.Area.{Area}
 use Rattle.block_model.specs.Beside.{Neighbour}
-use Rattle.block_model.specs.Calls.{call_of, called, own_call_of}
+use Rattle.block_model.specs.Calls.{asking_call_of, call_of, called, own_call_of}
 use Rattle.block_model.specs.Calls.Affinity.{getaffinity_errors, getcpu, getcpu_errors, sched_getaffinity, sched_setaffinity, setaffinity_errors}
 use Rattle.block_model.specs.Calls.Answers.{CallDone, Errors, argument, call_number, int_argument, killed_in_call, said, unless}
 use Rattle.block_model.specs.Calls.Barriers.{answers}
@@ -20,10 +20,13 @@ use Rattle.block_model.specs.Calls.Beside.{barrier_call, sequence_call}
 use Rattle.block_model.specs.Calls.Cloning.{clone, clone_errors}
 use Rattle.block_model.specs.Calls.Console.{Span, span_errors, spans_at, total, write, write_errors, write_spans, writev, writev_errors}
 use Rattle.block_model.specs.Calls.Ending.{exit, is_last}
-use Rattle.block_model.specs.Calls.Futexes.{futex, futex_errors, operation, wait_errors}
+use Rattle.block_model.specs.Calls.Futexes.{futex, futex_errors, is_wait, is_wake, operation, requeue_errors, wait_errors}
+use Rattle.block_model.specs.Calls.Limits.{prlimit_errors}
 use Rattle.block_model.specs.Calls.Memory.{changed_unless, mapped_or_refused, mmap, mmap_errors, mprotect, munmap, permission_here}
+use Rattle.block_model.specs.Calls.Policies.{getparam_errors, getscheduler_errors, priority_errors}
 use Rattle.block_model.specs.Calls.Sequences.{registers_or_refused, rseq, unregisters, unregisters_or_refused}
-use Rattle.block_model.specs.Calls.Signals.{post, refuses_signal, resumed, rt_sigaction, rt_sigprocmask, send, sigaction_errors, sigprocmask_errors, tgkill, tgkill_errors, tkill, tkill_errors, waits_in_vain, with_posted}
+use Rattle.block_model.specs.Calls.Signals.{post, refuses_signal, resumed, rt_sigaction, rt_sigprocmask, send, sigaction_errors, sigpending_errors, sigprocmask_errors, tgkill, tgkill_errors, tkill, tkill_errors, waits_in_vain, with_posted}
+use Rattle.block_model.specs.Calls.Terminal.{ioctl_errors}
 use Rattle.block_model.specs.Here.{Here, is_writable, memory}
 use Rattle.block_model.specs.Ids.{id_of}
 use Rattle.block_model.specs.Kernel.{registered}
@@ -61,7 +64,8 @@ module _ (here : Here) (t : ℕ) where
   calm_futex : IsCalm (futex here t)
   calm_futex =
       calm_unless (futex_errors here t) _
-      (calm_if (eqb (operation (int_argument here t 1)) 0) _ _ (calm_unless (wait_errors here t) _ refl) refl)
+      (calm_if (is_wait (operation (int_argument here t 1))) _ _ (calm_unless (wait_errors here t) _ refl)
+      (calm_if (is_wake (operation (int_argument here t 1))) _ _ refl (calm_unless (requeue_errors here t) _ refl)))
 
   calm_post : (u sig : ℕ) → IsCalm (post here t u sig)
   calm_post u sig = calm_if (waits_in_vain u (with_posted here u sig)) _ _ refl refl
@@ -96,6 +100,23 @@ module _ (here : Here) (t : ℕ) where
   calm_barrier : (o : Option Neighbour) → IsCalm (barrier_call o here t)
   calm_barrier None = calm_answers _
   calm_barrier (Some other) = calm_answers _
+
+  -- those that only ask, by their numbers
+  calm_asking : (number : ℕ) → IsCalm (asking_call_of number here t)
+  calm_asking number =
+      calm_if (eqb number 29) _ _ (calm_unless (ioctl_errors here t) _ refl)
+      (calm_if (eqb number 120) _ _ (calm_unless (getscheduler_errors here t) _ refl)
+      (calm_if (eqb number 121) _ _ (calm_unless (getparam_errors here t) _ refl)
+      (calm_if (eqb number 125) _ _ (calm_unless (priority_errors here t) _ refl)
+      (calm_if (eqb number 126) _ _ (calm_unless (priority_errors here t) _ refl)
+      (calm_if (eqb number 136) _ _ (calm_unless (sigpending_errors here t) _ refl)
+      (calm_if (eqb number 173) _ _ refl
+      (calm_if (eqb number 174) _ _ refl
+      (calm_if (eqb number 175) _ _ refl
+      (calm_if (eqb number 176) _ _ refl
+      (calm_if (eqb number 177) _ _ refl
+      (calm_if (eqb number 261) _ _ (calm_unless (prlimit_errors here t) _ refl)
+      refl)))))))))))
 
   -- THE TWO THAT KILL
 
@@ -176,7 +197,7 @@ module _ (here : Here) (t : ℕ) where
       at_number number 220 _ _ (calm_unless (clone_errors here t) _ refl) (λ _.
       at_number number 222 _ _ calm_mmap (λ _.
       at_number number 226 _ _ (calm_changed _ _) (λ _.
-      sym (none_told number other another)))))))))))))))))))))))
+      calm_asking number ∙ sym (none_told number other another)))))))))))))))))))))))
 
   told_call : (number : ℕ) → IsTold number (call_of number here t)
   told_call number =

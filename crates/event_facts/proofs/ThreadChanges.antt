@@ -1,5 +1,6 @@
 -- What an event made of threads: by the states that were kept before it; and nothing, where the threads are the same.
 use Rattle.std.proofs.Common.{◌≡◌, ℕ, ◌+◌, ◌-◌, List, [], ◌++◌, Option, Some, None, refl, ap, ◌∙◌, arith}
+use Rattle.std.proofs.lemmas.Bool.{eq-eqb}
 use Rattle.std.specs.List.{flat_map, range_with_len}
 use Rattle.mach_types.specs.Kernel.Threads.{Threads}
 use Rattle.mach_types.specs.declared.threads.ThreadState.{ThreadState}
@@ -33,7 +34,7 @@ unchanged : (o : Option ThreadState) (t : ℕ) → change_facts t o o ≡ []
 unchanged None t = refl
 unchanged (Some Ready) t = refl
 unchanged (Some (Running h)) t = refl
-unchanged (Some (Waiting at)) t = refl
+unchanged (Some (Waiting at)) t = rw (eq-eqb at at refl) refl
 
 pub none_changes : (ts : Threads) → thread_facts ts ts ≡ []
 unfolding thread_facts

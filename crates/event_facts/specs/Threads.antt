@@ -1,6 +1,6 @@
 -- The facts of threads (clone(2), exit(2), futex(2)): which thread was created, ended, began to run or to wait, was woken, or became ready.
 -- They are read off the threads before an event and after it. Threads have numbers from 1 on, which aren't used again.
-use Rattle.std.specs.Prelude.{ℕ, ◌≡◌, ◌+◌, ◌-◌, List, [], ◌∷◌, ◌++◌, map, slice_get, unwrap_or, Option, Some, None}
+use Rattle.std.specs.Prelude.{ℕ, ◌≡◌, ◌+◌, ◌-◌, ◌==◌, List, [], ◌∷◌, ◌++◌, map, if◌then◌else◌, slice_get, unwrap_or, Option, Some, None}
 use Rattle.std.specs.List.{flat_map, range_with_len}
 use Rattle.std.specs.Option.{option_map, option_to_list}
 use Rattle.mach_types.specs.Kernel.Threads.{Threads, state_of}
@@ -29,7 +29,7 @@ runs_from (Waiting at) = Some Runs
 abbrev pub waits_from : ℕ → ThreadState → Option ThreadChange
 waits_from at Ready = Some (Sleeps at)
 waits_from at (Running h) = Some (Sleeps at)
-waits_from at (Waiting b) = None
+waits_from at (Waiting b) = if b == at then None else Some (Sleeps at)
 
 -- of one that was in this state, and is in that one or gone
 abbrev pub changed_from : ThreadState → Option ThreadState → Option ThreadChange

@@ -23,7 +23,7 @@ pub enum ThreadChange {
     Runs,
     /// It left its hart, and is ready.
     MadeReady,
-    /// It left its hart, and waits at this address (futex(2)).
+    /// It waits at this address (futex(2)): it left its hart, or waited at another one.
     Sleeps(u64),
     /// It waits no longer, and is ready.
     Woken,
@@ -87,7 +87,13 @@ fn waits_from(at: u64, before: ThreadState) -> Option<ThreadChange>
     ensures { result ≡ spec.waits_from at before }
 {
     match before {
-        ThreadState::Waiting(_) => None,
+        ThreadState::Waiting(earlier) => {
+            if earlier == at {
+                None
+            } else {
+                Some(ThreadChange::Sleeps(at))
+            }
+        }
         ThreadState::Ready | ThreadState::Running(_) => Some(ThreadChange::Sleeps(at)),
     }
 }

@@ -1,6 +1,6 @@
 -- The line of a fact (own): fields, one space apart, behind two spaces. The numbers of lines, harts, threads, sizes, lengths, registers and
 -- signals are decimal; addresses, values and arguments are 16 lower-case hexadecimal digits.
-use Rattle.std.specs.Prelude.{ℕ, ◌==◌, List, [], ◌∷◌, ◌++◌, length, take, Bool, if◌then◌else◌, codes}
+use Rattle.std.specs.Prelude.{ℕ, ◌==◌, List, [], ◌∷◌, ◌++◌, length, slice_index, take, Bool, if◌then◌else◌, codes}
 use Rattle.std.specs.Fmt.{decimal}
 use Rattle.std.specs.List.{flat_map}
 use Rattle.mach_types.specs.declared.user_memory.Store.{Store}
@@ -19,7 +19,7 @@ use Rattle.event_facts.specs.declared.killing.KillWhy.{KillWhy}
 use Rattle.event_facts.specs.declared.killing.KillWhy.TheVariants.{Bad, AreaWords, NoHandler, Masked, FrameNotWritable, FrameNotReadable, CallInside}
 use Rattle.event_facts.specs.declared.threads.ThreadChange.{ThreadChange}
 use Rattle.event_facts.specs.declared.threads.ThreadChange.TheVariants as becomes
-use Rattle.fact_text.specs.CallNames.{argument_count, call_name, errno_name}
+use Rattle.fact_text.specs.CallNames.{call_name, errno_name, told_count}
 use Rattle.place_text.specs.Fields.{behind, harts_fields, line, value_or_none, value_text, yes_or_no}
 use Rattle.place_text.specs.Registers.{register_name}
 use Rattle.place_text.specs.Sequences.{bad_word}
@@ -110,7 +110,7 @@ arguments_text arguments = flat_map argument_text arguments
 abbrev pub call_line : SystemCall → List ℕ
 call_line c =
     codes "  call" ++ space ∷ name_or_number (call_name c.number) c.number
-    ++ arguments_text (take (argument_count c.number) c.arguments) ++ newline ∷ []
+    ++ arguments_text (take (told_count c.number (slice_index c.arguments 1)) c.arguments) ++ newline ∷ []
 
 -- `error NAME`, or `error NUMBER`
 abbrev pub error_line : ℕ → List ℕ

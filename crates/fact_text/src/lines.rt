@@ -6,7 +6,7 @@ ghost use Rattle.step_log.specs.Text.{space};
 ghost use Rattle.fact_text.specs.Lines as spec;
 ghost use Rattle.place_text.specs.Fields.{behind, value_text};
 
-use crate::call_names::{argument_count, call_name, errno_name};
+use crate::call_names::{call_name, errno_name, told_count};
 use event_facts::{
     AreaField, Fact, FaultWhy, Interruption, KillWhy, Source, SystemCall, ThreadChange, WrongWord,
 };
@@ -231,7 +231,7 @@ fn push_arguments(text: &mut Vec<u8>, arguments: &[u64]) -> Result<(), AllocErro
 fn push_call(text: &mut Vec<u8>, call: &SystemCall) -> Result<(), AllocError>
     ensures { OnOk result (text.new.items ≡ text.old.items ++ spec.call_line call.now) }
 {
-    let count = argument_count(call.number);
+    let count = told_count(call.number, call.arguments[1]);
     text.extend_from_slice(b"  call")?;
     push_name_or_number(text, call_name(call.number), call.number)?;
     push_arguments(text, &call.arguments[..usize::from(count)])?;

@@ -14,7 +14,7 @@ use Rattle.mach_types.specs.Events.{begun_by as named_by, choice_of, kind_of}
 use Rattle.mach_types.specs.Kernel.Threads.{Thread, Threads, clear_of, is_live, is_ready, is_thread, numbers}
 use Rattle.mach_types.specs.Kernel.Threads.{is_ready_state, is_waiting_state, state_of, thread_of, with_child}
 use Rattle.mach_types.specs.Kernel.Threads.{clear_if, with_rows}
-use Rattle.mach_types.specs.Kernel.Threads.{with_state, with_waiter, with_woken, without}
+use Rattle.mach_types.specs.Kernel.Threads.{waits, with_state, with_waiter, with_woken, without}
 use Rattle.mach_types.specs.Registers.{register}
 use Rattle.mach_types.specs.declared.events.Choice.{Choice}
 use Rattle.mach_types.specs.declared.events.Choice.TheVariants as asked
@@ -36,14 +36,14 @@ use Rattle.block_model.specs.Calls.Cloning.{child_file, clone_child_cleartid}
 use Rattle.block_model.specs.Calls.Cloning.{has_flag, with_new_child}
 use Rattle.block_model.specs.Calls.Ending.{clears}
 use Rattle.block_model.specs.Calls.Futexes.{answered_wait}
-use Rattle.block_model.specs.Calls.Futexes.{wake}
+use Rattle.block_model.specs.Calls.Futexes.{requeue, wake}
 use Rattle.block_model.specs.Calls.Signals.{broken_wait}
 use Rattle.block_model.specs.Events.{done_of, refusal_of}
 use Rattle.block_model.specs.Events.Exec.{by_call}
 use Rattle.block_model.specs.Events.Exec.{next_effect}
 use Rattle.block_model.specs.Here.{Done, Here, runs}
 use Rattle.block_model.specs.History.{Event, History, file, file_among, here_in_history, kernel, running}
-use Rattle.block_model.specs.Kernel.{cleared, gone, had_child, left, next_number, waited, woken}
+use Rattle.block_model.specs.Kernel.{cleared, gone, had_child, left, next_number, requeued, waited, woken}
 use Rattle.block_model.specs.Record.{Kernel}
 use Rattle.block_model.specs.Run.{IsRunHistory}
 use Rattle.block_model.specs.Sequences.{files_interrupted, interruption_here}
@@ -54,7 +54,7 @@ use Rattle.block_model.proofs.CallEffects.{Leaves, MovesOff, Resumes, Says, Tabl
 use Rattle.block_model.proofs.CallEffects.EachCall.{deed_called}
 use Rattle.block_model.proofs.EventEffects.{Calls, EventDeed, Executes, Handles, IsNext, Preempts, Restarts}
 use Rattle.block_model.proofs.EventEffects.{Returns, RunKills, Runs, SignalKills, begun_by, deed_chosen}
-use Rattle.block_model.proofs.Laws.{IsStep, run_ready, running_is, step_of, wake_keeps}
+use Rattle.block_model.proofs.Laws.{IsStep, run_ready, running_is, requeue_keeps, step_of}
 
 -- STATES
 
@@ -142,10 +142,33 @@ module _ (u : ℕ) where
   calm_woken : (t : ℕ) (ts : Threads) → IsCalm ts (with_woken t ts)
   calm_woken t ts = record { given = same_le ts.given; state = (calm_state t Ready ts refl).state }
 
-  calm_wake : (n at : ℕ) (k : Kernel) → IsCalm k.threads (wake n at k).kernel.threads
-  calm_wake = wake_keeps (λ a b. IsCalm a.threads b.threads) (λ k. calm_alike k.threads k.threads refl)
+  -- one that waits does so at another address
+  abbrev moved : ℕ → ℕ → Threads → Threads
+  moved v to ts = with_waiter v to (with_woken v ts)
+
+  calm_requeued : (v to : ℕ) (ts : Threads) → waits ts v → IsCalm ts (moved v to ts)
+  calm_requeued v to ts waiting = record { given = same_le ts.given; state = by_same (cases_eq u v) }
+    where
+      now : state_of v (moved v to ts) ≡ Some (Waiting to)
+      now =
+          state_of-with_state_same v (Waiting to) (with_woken v ts)
+          ∙ ap (λ (o : Option ThreadState). option_map (λ old. Waiting to) o)
+          (state_of-with_state_same v Ready ts ∙ ap (λ (o : Option ThreadState). option_map (λ old. Ready) o) waiting.1)
+
+      by_same : (u ≡ v) ⊎ (u ≢ v) → is_calm (state_of u (moved v to ts)) (state_of u ts) ≡ true
+      by_same (inl same) =
+          ap (λ n. is_calm (state_of n (moved v to ts)) (state_of n ts)) same
+          ∙ ap (λ (o : Option ThreadState). is_calm o (state_of v ts)) now
+          ∙ ap (λ (o : Option ThreadState). is_calm (Some (Waiting to)) o) waiting.1
+      by_same (inr other) = as_was ts (moved v to ts)
+          (state_of-with_state_other v u other (Waiting to) (with_woken v ts) ∙ state_of-with_state_other v u other Ready ts)
+
+  calm_requeue : (n more at to : ℕ) (k : Kernel) → IsCalm k.threads (requeue n more at to k).kernel.threads
+  calm_requeue = requeue_keeps (λ a b. IsCalm a.threads b.threads) (λ k. calm_alike k.threads k.threads refl)
       (λ v k after waiting rest. calm_then k.threads (woken v k).threads after.threads
       (calm_woken v k.threads) rest)
+      (λ v to k after waiting rest. calm_then k.threads (requeued v to k).threads after.threads
+      (calm_requeued v to k.threads waiting) rest)
 
 -- CALLS
 
@@ -284,9 +307,9 @@ module _ (here : Here) (t u number : ℕ) where
   step_call : {c : CallDone} → CallDeed here t number c → CallStep c
   step_call (Says n) = plain _ refl refl
   step_call (Answers n entered k answer writes step) = step_said n entered step
-  step_call (Wakes n at small) = StaysCalm (calm_wake u n at here.kernel)
-      (λ other. past_own _ (map (answered_wait here) (wake n at here.kernel).threads) other
-      ∙ answered_pc (wake n at here.kernel).threads)
+  step_call (Wakes n more at to small) = StaysCalm (calm_requeue u n more at to here.kernel)
+      (λ other. past_own _ (map (answered_wait here) (requeue n more at to here.kernel).threads) other
+      ∙ answered_pc (requeue n more at to here.kernel).threads)
   step_call (Breaks v g waiting keeps stand heeded others) = StaysCalm (calm_woken u v here.kernel.threads)
       (λ other. past_own _ (broken_wait here v ∷ []) other ∙ broken_pc v (eqb v u) refl)
   step_call (Exits more) =
@@ -294,7 +317,7 @@ module _ (here : Here) (t u number : ℕ) where
       let at = clear_of t here.kernel.threads in
       let then = (wake n at here.kernel).kernel in
       StaysCalm (calm_then u here.kernel.threads then.threads (without t then.threads)
-      (calm_wake u n at here.kernel) (calm_gone u t then.threads))
+      (calm_requeue u n 0 at 0 here.kernel) (calm_gone u t then.threads))
       (λ other. answered_pc (wake n at here.kernel).threads)
   step_call (Bears entered writes free is) = step_born is entered
   step_call (Begins targets restart others no_error is) = plain _ refl refl

@@ -6,6 +6,7 @@ use Rattle.block_model.specs.Run.{IsBlockRun}
 use Rattle.block_model.specs.Setting.{Setting}
 use Rattle.found_outcomes.specs.Complete.{IsComplete}
 use Rattle.found_outcomes.specs.Found.{AreDifferent, IsEndFound, IsShown}
+use Rattle.found_outcomes.specs.Hopeless.{AreHopeless}
 use Rattle.found_outcomes.specs.declared.findings.Closing.TheVariants.{Complete, Deep, Memory, Places}
 use Rattle.found_outcomes.specs.declared.findings.Findings.{Findings}
 use Rattle.found_outcomes.specs.declared.findings.OutcomeFound.{OutcomeFound}
@@ -32,7 +33,8 @@ pub record HasVisited (s : Setting) (found : Findings) (logs : List (List Entry)
 
 -- each outcome is that of a run, and no two are alike; at `Complete` there is no other. So many logs were
 -- visited, as many as were allowed at `Places`; and at `Deep` one of them goes on at the step limit. Unless
--- memory was short, each of them that is over ends as one of the outcomes says
+-- memory was short, each of them that is over ends as one of the outcomes says. At `Complete` it is known
+-- which of them are hopeless; and what is given as the nearest of these is one of the logs in any case
 pub record IsSearchOf (s : Setting) (most : ℕ) (found : Findings) : Type 0 where
   pub shown : All (IsShown s) found.outcomes.items
   pub different : AreDifferent found.outcomes.items
@@ -42,4 +44,7 @@ pub record IsSearchOf (s : Setting) (most : ℕ) (found : Findings) : Type 0 whe
   pub noted : found.closing ≢ Memory → All (IsEndFound s found.outcomes.items) logs
   pub allowed : found.places ≤ most
   pub all_places : found.closing ≡ Places → found.places ≡ most
+  pub nearest : Contains logs found.hopeless.nearest.items
+  pub hopeless : found.closing ≡ Complete
+      → AreHopeless s logs found.hopeless.number found.hopeless.nearest.items
   pub at_limit : found.closing ≡ Deep → (log : List Entry) × Contains logs log × IsAtLimit s log

@@ -1,7 +1,10 @@
 //! The outcomes that a search found, and why it ended.
 
+ghost use Rattle.std.specs.Prelude.{◌≡◌, []};
+
 use crate::console::ConsoleBytes;
 use mach_types::{End, Entry};
+use std::alloc::Global;
 
 /// An outcome that was found: how a run ends, and what it leaves on the console.
 #[derive(Drop)]
@@ -27,6 +30,29 @@ pub enum Closing {
     Memory,
 }
 
+/// The hopeless places among those that a search visited: from such a place no end can be reached, however a
+/// run goes on there. A run that is stuck has ended, so its place is none.
+#[derive(Drop)]
+pub struct HopelessPlaces {
+    /// How many there are.
+    pub number: u32,
+    /// A log that leads to the first of them that was visited; where there is none, the empty log.
+    pub nearest: Vec<Entry>,
+}
+
+impl HopelessPlaces {
+    /// None.
+    pub fn none(alloc: Global) -> HopelessPlaces
+        ensures number { result.number ≡ 0 }
+        ensures nearest { result.nearest.items ≡ [] }
+    {
+        HopelessPlaces {
+            number: 0,
+            nearest: Vec::new(alloc),
+        }
+    }
+}
+
 /// What a search found.
 #[derive(Drop)]
 pub struct Findings {
@@ -36,6 +62,8 @@ pub struct Findings {
     pub places: u32,
     /// How many entries the longest log has that was visited.
     pub deepest: u32,
+    /// The places from which no end can be reached. It says something at `Complete` alone.
+    pub hopeless: HopelessPlaces,
     /// Why the search ended.
     pub closing: Closing,
 }

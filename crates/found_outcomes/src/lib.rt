@@ -9,5 +9,5 @@ mod findings;
 mod theorems;
 
 pub use console::ConsoleBytes;
-pub use findings::{Closing, Findings, OutcomeFound};
+pub use findings::{Closing, Findings, HopelessPlaces, OutcomeFound};
 pub use theorems::complete_searches_agree;

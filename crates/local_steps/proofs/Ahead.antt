@@ -6,12 +6,20 @@ use Rattle.mach_types.specs.declared.events.Kind.TheVariants as kind
 use Rattle.rv_inst.specs.declared.effects.Effect.TheVariants as effect
 use Rattle.mach_types.specs.Bytes.{joined, overlay}
 use Rattle.mach_types.specs.declared.signals.TheConstants.{SIGSEGV}
-use Rattle.rv_inst.specs.Execution.{is_readable, seen_byte, word_seen}
+use Rattle.mach_types.specs.declared.events.Why.{Why}
+use Rattle.mach_types.specs.declared.events.Why.TheVariants.{FullBuffer, Waiting}
+use Rattle.mach_types.specs.declared.user_memory.TheConstants.{STORE_BUFFER_CAPACITY}
+use Rattle.rv_inst.specs.Class.{wants_empty}
+use Rattle.rv_inst.specs.Execution.{instruction_gate, is_readable, seen_byte, word_seen}
 use Rattle.rv_inst.specs.Memory.{loaded}
 use Rattle.rv_inst.specs.Words.{sum_64}
-use Rattle.std.proofs.Common.{◌+◌, is_some, zero, suc}
+use Rattle.std.proofs.Common.{◌<◌, ◌+◌, arith, is_some, leb, length, ltb, zero, suc}
+use Rattle.std.proofs.lemmas.Bool.{lt-ltb}
 use Rattle.mach_types.specs.Registers.{with_register}
+use Rattle.block_model.specs.Events.Exec.{is_held, others_gate, refusal_exec_by}
+use Rattle.block_model.specs.Events.Preempt.{unless_in_barrier}
 use Rattle.block_model.specs.Here.{view_of_all}
+use Rattle.block_model.specs.Instruction.{next_effect}
 use Rattle.local_steps.specs.LocalSteps.{IsLoadStep, IsStepAt, local_after, seen_by, seen_in}
 use Rattle.local_steps.proofs.Notions.{IsAhead, IsCalm, moved, with_file}
 use Rattle.local_steps.specs.Runs.{AreAlike, MayCome, next_of, uncounted}
@@ -58,12 +66,67 @@ word_readable : (ws : List Store) (byte : ℕ → Option ℕ) (at n : ℕ) → i
 word_readable ws byte at zero = refl
 word_readable ws byte at (suc n) = joined_some _ _ _ _ (seen_some ws at (byte at)) (word_readable ws byte (at + 1) n)
 
+-- a thread runs on one hart
+one_place : (s : Setting) (m : Plain) (t k h : ℕ) → IsGood s m → running_on k m.kernel.threads ≡ Some t → running_on h m.kernel.threads ≡ Some t → k ≡ h
+one_place s m t k h good there at =
+    let ts = m.kernel.threads in
+    let tables = good.kernel.tables in
+    let states : Some (on k) ≡ Some (on h) =
+    sym (running_is s.limits.harts k t ts m.kernel.scheduling tables there) ∙ running_is s.limits.harts h t ts m.kernel.scheduling tables at in
+    let same : on k ≡ on h = cc in
+    let harts : let x : Hart = record { 0 = k } in x ≡ record { 0 = h } = cc in
+    ap (λ (x : Hart). x.0) harts
+
+-- WHAT A LOCAL STEP WAITS FOR
+
+-- where it was allowed that wants none to wait, no store waits
+shut : (some faults wants : Bool) (rest : Option Why) → some ≡ true → wants ≡ true → cond (some && (faults || wants)) (Some Waiting) rest ≡ None → ⊥
+shut true true wants rest waits is free = absurd cc
+shut true false true rest waits is free = absurd cc
+shut true false false rest waits is free = absurd cc
+shut false faults wants rest waits is free = absurd cc
+
+none_waiting : (ws : List Store) (faults : Bool) (e : Effect) → wants_empty e ≡ true → instruction_gate (length ws) (Some e) faults ≡ None → ws ≡ []
+none_waiting [] faults e is free = refl
+none_waiting (w ∷ ws) faults e is free = absurd (shut (ltb 0 (length (w ∷ ws))) faults (wants_empty e) _ (lt-ltb 0 (length (w ∷ ws)) (omega arith)) is free)
+
+gate_passed : (awaits : Option ℕ) (gate others : Option Why) → unless_in_barrier awaits (option_or gate others) ≡ None → gate ≡ None
+gate_passed None None others free = refl
+gate_passed None (Some why) others free = absurd cc
+gate_passed (Some left) gate others free = absurd cc
+
+-- and where none waits that has to, it is allowed
+opened : (some full wants : Bool) → (wants ≡ true → some ≡ false) → cond (some && wants) (Some Waiting) (cond (full && false) (Some FullBuffer) None) ≡ None
+opened true true false clear = refl
+opened true false false clear = refl
+opened false true wants clear = refl
+opened false false wants clear = refl
+opened true full true clear = let bad : true ≡ false = clear refl in absurd cc
+
+drop_none : {A : Type 0} (n : ℕ) → drop n (let xs : List A = [] in xs) ≡ []
+drop_none zero = refl
+drop_none (suc n) = refl
+
+-- an event that is no instruction executes no store
+executes_none : (here : Here) (tid : ℕ) {k : Kind} {x : Done} → EventDeed here tid k x → k ≢ kind.Exec → x.executed ≡ []
+executes_none here tid Skips other = absurd (other refl)
+executes_none here tid (Faults u signal its handler) other = absurd (other refl)
+executes_none here tid (FaultKills u signal its) other = absurd (other refl)
+executes_none here tid (CallKills u e next calls) other = absurd (other refl)
+executes_none here tid (Calls u e next calls outside) other = absurd (other refl)
+executes_none here tid (Executes u e next) other = absurd (other refl)
+executes_none here tid deed other = refl
+
 -- THREAD t
 
 module _ (s : Setting) (private : ℕ → ℕ → Bool) (t : ℕ) (g : Saved) where
-  -- it is ready, or runs on a hart and waits in no barrier
+  -- no store waits on hart k that its next instruction has to wait for
+  abbrev pub IsClear : Plain → ℕ → Type 0
+  IsClear m k = (e : Effect) → next_effect s.program.pages (m.file t) ≡ Some e → wants_empty e ≡ true → m.waiting k ≡ []
+
+  -- it is ready, or runs on a hart, waits in no barrier, and its next instruction for no store
   abbrev pub IsFree : Plain → Type 0
-  IsFree m = (is_ready t m.kernel.threads ≡ true) ⊎ ((k : ℕ) × (running_on k m.kernel.threads ≡ Some t) × (m.awaits k ≡ None))
+  IsFree m = (is_ready t m.kernel.threads ≡ true) ⊎ ((k : ℕ) × (running_on k m.kernel.threads ≡ Some t) × (m.awaits k ≡ None) × IsClear m k)
 
   -- the machine is good, thread t is free there, and its next instruction is a local step
   pub record IsBehind (m : Plain) : Type 0 where
@@ -83,6 +146,21 @@ module _ (s : Setting) (private : ℕ → ℕ → Bool) (t : ℕ) (g : Saved) wh
   -- and where its next instruction is still such a step, t is behind
   pub behind_next : (m : Plain) (a : ℕ × Choice) → IsPassedTo m a → IsStepAt s private t g (next_of s m a) → IsBehind (next_of s m a)
   behind_next m a x local = record { good = x.good; free = x.free; local = local }
+
+  module _ (m : Plain) (behind : IsBehind m) where
+    awake : IsAwake t m.kernel
+    awake waiting = elim behind.free [
+      | inl ready ↦ ready_not_waiting t t m.kernel.threads ready waiting refl
+      | inr on ↦ waits_elsewhere s.limits.harts on.0 t t m.kernel.threads m.kernel.scheduling behind.good.kernel.tables on.1 waiting refl
+    ]
+
+    agree : AgreeBut t m.file (with_file t g m.file)
+    agree u ne = ap (λ b. cond b g (m.file u)) (sym (ne_eqb t u (λ e. ne (sym e))))
+
+    -- an event of another thread is refused alike where t is ahead
+    pub other_refused : (h : ℕ) (c : Choice) → ((u : ℕ) → thread_in c (here_in_plain s m h) ≡ Some u → u ≢ t)
+        → refusal_of c (here_in_plain s m h) ≡ refusal_of c (here_in_plain s (moved t g m) h)
+    other_refused h c apart = (of_other (here_in_plain s m h) t m.file (with_file t g m.file) agree c apart awake).refusal
 
   module _ (m : Plain) (a : ℕ × Choice) (behind : IsBehind m) (may : MayCome s m a) where
     abbrev here : Here
@@ -112,15 +190,6 @@ module _ (s : Setting) (private : ℕ → ℕ → Bool) (t : ℕ) (g : Saved) wh
       file = none (m.file t);
     }
 
-    awake : IsAwake t m.kernel
-    awake waiting = elim behind.free [
-      | inl ready ↦ ready_not_waiting t t m.kernel.threads ready waiting refl
-      | inr on ↦ waits_elsewhere s.limits.harts on.0 t t m.kernel.threads m.kernel.scheduling good.kernel.tables on.1 waiting refl
-    ]
-
-    agree : AgreeBut t m.file (with_file t g m.file)
-    agree u ne = ap (λ b. cond b g (m.file u)) (sym (ne_eqb t u (λ e. ne (sym e))))
-
     -- AN EVENT OF ANOTHER THREAD
 
     module _ (apart : (u : ℕ) → thread_in a.1 here ≡ Some u → u ≢ t) where
@@ -143,14 +212,21 @@ module _ (s : Setting) (private : ℕ → ℕ → Bool) (t : ℕ) (g : Saved) wh
       none_awaits : (k : ℕ) → k ≢ a.0 → m.awaits k ≡ None → awaits_after k a.0 d (m.awaits k) ≡ None
       none_awaits k ne none = rw (ne_eqb a.0 k (λ e. ne (sym e)), none) (either_same d.took None)
 
+      -- and so is what waits there
+      clear_elsewhere : (k : ℕ) → k ≢ a.0 → ((x : Saved) → file_among d.files t x ≡ x) → IsClear m k → IsClear (next_of s m a) k
+      clear_elsewhere k ne none clear e is wants =
+          ap (λ b. cond b (drop d.drained (m.waiting k ++ d.executed)) (m.waiting k)) (ne_eqb a.0 k (λ e. ne (sym e)))
+          ∙ clear e (ap (λ (f : Saved). next_effect s.program.pages f) (sym (none (m.file t))) ∙ is) wants
+
       pub other_passes : IsPassedTo m a
       other_passes =
-          let alike = of_other here t m.file (with_file t g m.file) agree a.1 apart awake in
+          let alike = of_other here t m.file (with_file t g m.file) (agree m behind) a.1 apart (awake m behind) in
           elim behind.free [
             | inl ready ↦ passes alike (kept_ready ready).file (inl (kept_ready ready).ready)
             | inr on ↦
                 let ne = elsewhere_by a.1 may.free apart on.0 on.1 in
-                passes alike (λ x. fit.apart on.0 t x ne on.1) (inr (on.0, fit.others on.0 ne ∙ on.1, none_awaits on.0 ne on.2))
+                let none = λ (x : Saved). fit.apart on.0 t x ne on.1 in
+                passes alike none (inr (on.0, fit.others on.0 ne ∙ on.1, none_awaits on.0 ne on.2, clear_elsewhere on.0 ne none on.3))
           ]
 
     -- AN EVENT OF THREAD t THAT IS NO INSTRUCTION
@@ -204,14 +280,7 @@ module _ (s : Setting) (private : ℕ → ℕ → Bool) (t : ℕ) (g : Saved) wh
 
       -- it waits in no barrier
       same_hart : (k : ℕ) → running_on k m.kernel.threads ≡ Some t → runs here ≡ Some t → k ≡ a.0
-      same_hart k there at =
-          let ts = m.kernel.threads in
-          let tables = good.kernel.tables in
-          let states : Some (on k) ≡ Some (on a.0) =
-          sym (running_is s.limits.harts k t ts m.kernel.scheduling tables there) ∙ running_is s.limits.harts a.0 t ts m.kernel.scheduling tables at in
-          let same : on k ≡ on a.0 = cc in
-          let harts : let x : Hart = record { 0 = k } in x ≡ record { 0 = a.0 } = cc in
-          ap (λ (h : Hart). h.0) harts
+      same_hart k there at = one_place s m t k a.0 behind.good there at
 
       idle_awaits : (o : Option ℕ) → m.awaits a.0 ≡ o → runs here ≡ None → o ≡ None
       idle_awaits None is idle = refl
@@ -237,16 +306,47 @@ module _ (s : Setting) (private : ℕ → ℕ → Bool) (t : ℕ) (g : Saved) wh
           ∙ ap (λ (x : Option Barrier). cond d.returned None (option_or (option_map (λ (b : Barrier). b.targets) x) None)) there.1
           ∙ either_same d.returned None
 
+      -- and no store waits there that its next instruction has to wait for
+      running_clear : runs here ≡ Some t → IsClear m a.0
+      running_clear at = elim behind.free [
+        | inl ready ↦ absurd (ready_apart s.limits.harts t a.0 t m.kernel.threads m.kernel.scheduling good.kernel.tables ready at refl)
+        | inr on ↦ λ e is wants. ap m.waiting (sym (same_hart on.0 on.1 at)) ∙ on.3 e is wants
+      ]
+
+      none_waits : IsClear m a.0
+      none_waits = by_choice a.1 may.free its
+        where
+          by_choice : (c : Choice) → refusal_of c here ≡ None → thread_in c here ≡ Some t → IsClear m a.0
+          by_choice (asked.Run u) free its = λ e is wants. behind.good.idle a.0 (run_ready here u.0 free).0
+          by_choice c free its = running_clear its
+
+      clear_still : d.files ≡ [] → IsClear (next_of s m a) a.0
+      clear_still files e is wants =
+          let waits = none_waits e (ap (λ (fs : List (ℕ × Saved)). next_effect s.program.pages (file_among fs t (m.file t))) (sym files) ∙ is) wants in
+          ap (λ b. cond b (drop d.drained (m.waiting a.0 ++ d.executed)) (m.waiting a.0)) (eqb_same a.0)
+          ∙ ap (λ (ws : List Store). drop d.drained (ws ++ d.executed)) waits
+          ∙ ap (λ (ws : List Store). drop d.drained ws) (executes_none here (begun_by a.1) (deed_chosen here a.1) (kind_apart a.1 no_exec))
+          ∙ drop_none d.drained
+
       pub own_passes : IsPassedTo m a
       own_passes =
           let x = of_own here t m.file g a.1 its no_exec none_awaited may.free calm in
           passes x.alike (λ f. ap (λ (fs : List (ℕ × Saved)). file_among fs t f) x.files)
           (elim there.0 [
             | inl ready ↦ inl ready
-            | inr on ↦ inr (a.0, on, awaits_still)
+            | inr on ↦ inr (a.0, on, awaits_still, clear_still x.files)
           ])
 
   -- THE LOCAL STEP
+
+  -- what a thread that runs sees and can read
+  module _ (m : Plain) (h : ℕ) (at : running_on h m.kernel.threads ≡ Some t) (good : IsGood s m) where
+    seen_here : seen_by t m ≡ view_of_all (here_in_plain s m h)
+    seen_here = ap (λ o. seen_in m o) (running_is s.limits.harts h t m.kernel.threads m.kernel.scheduling good.kernel.tables at)
+
+    load_readable : (x : IsLoadStep s private t g m) → is_readable (reached (here_in_plain s m h)) x.at x.size ≡ true
+    load_readable x =
+        sym (word_readable (m.waiting h) (reached (here_in_plain s m h)) x.at x.size) ∙ ap (λ (byte : ℕ → Option ℕ). is_readable byte x.at x.size) (sym seen_here) ∙ x.can_read
 
   module _ (m : Plain) (h : ℕ) (at : running_on h m.kernel.threads ≡ Some t) (good : IsGood s m) (step_at : IsStepAt s private t g m) where
     abbrev there_here : Here
@@ -268,17 +368,12 @@ module _ (s : Setting) (private : ℕ → ℕ → Bool) (t : ℕ) (g : Saved) wh
     abbrev f : Saved
     f = m.file t
 
-    seen_here : seen_by t m ≡ view_of_all there_here
-    seen_here = ap (λ o. seen_in m o) (running_is s.limits.harts h t m.kernel.threads m.kernel.scheduling good.kernel.tables at)
-
     loads : (x : IsLoadStep s private t g m) → by_effect there_here t (fault_by (reached there_here) (is_storable there_here) f.pc (fetched s.program.pages f.pc) (Some (effect.Load x.at x.size x.is_signed x.rd))) (Some (effect.Load x.at x.size x.is_signed x.rd)) ≡ step
     loads x =
-        let readable : is_readable (reached there_here) x.at x.size ≡ true =
-        sym (word_readable (m.waiting h) (reached there_here) x.at x.size) ∙ ap (λ (byte : ℕ → Option ℕ). is_readable byte x.at x.size) (sym seen_here) ∙ x.can_read in
-        ap (λ b. by_effect there_here t (cond b None (Some SIGSEGV)) (Some (effect.Load x.at x.size x.is_signed x.rd))) readable
+        ap (λ b. by_effect there_here t (cond b None (Some SIGSEGV)) (Some (effect.Load x.at x.size x.is_signed x.rd))) (load_readable m h at good x)
         ∙ ap (λ (byte : ℕ → Option ℕ). let d : Done = record (one_instruction there_here) {
           files = (t, record { file = with_register f.file x.rd (loaded (word_seen byte x.at x.size) x.size x.is_signed); pc = sum_64 f.pc 4 }) ∷ [];
-        } in d) (sym seen_here)
+        } in d) (sym (seen_here m h at good))
         ∙ ap (λ (y : Saved). let d : Done = record (one_instruction there_here) { files = (t, y) ∷ [] } in d) (sym x.leaves)
 
     step_is : done_of asked.Exec there_here ≡ step
@@ -317,6 +412,63 @@ module _ (s : Setting) (private : ℕ → ℕ → Bool) (t : ℕ) (g : Saved) wh
       file = with_file t g m.file;
     })
 
-  -- the thread runs on a hart and its next instruction may be executed there
-  pub behind_at : (m : Plain) (h : ℕ) → IsGood s m → running_on h m.kernel.threads ≡ Some t → MayCome s m (h, asked.Exec) → IsStepAt s private t g m → IsBehind m
-  behind_at m h good at may local = record { good = good; free = inr (h, at, waits_in_none asked.Exec (here_in_plain s m h) may.free refl); local = local }
+  -- WHERE THE STEP MAY COME
+
+  module _ (m : Plain) (h : ℕ) (at : running_on h m.kernel.threads ≡ Some t) where
+    abbrev place : Here
+    place = here_in_plain s m h
+
+    abbrev fault_of : Option Effect → Option ℕ
+    fault_of o = fault_by (reached place) (is_storable place) (m.file t).pc (fetched s.program.pages (m.file t).pc) o
+
+    abbrev step_refused : Option Effect → Option Why
+    step_refused o = option_or (instruction_gate (length (m.waiting h)) o (is_some (fault_of o))) (others_gate (is_held place t) o)
+
+    clear_at : MayCome s m (h, asked.Exec) → IsClear m h
+    clear_at may e is wants =
+        let own : Option Effect = next_effect s.program.pages (m.file t) in
+        let faults = is_some (fault_of own) in
+        let gate =
+        gate_passed place.awaits (instruction_gate (length (m.waiting h)) own faults) (others_gate (is_held place t) own) (ap (refusal_exec_by place) (sym at) ∙ may.free) in
+        none_waiting (m.waiting h) faults e wants (sym (ap (λ (o : Option Effect). instruction_gate (length (m.waiting h)) o faults) is) ∙ gate)
+
+    -- its next instruction may be executed there
+    pub behind_at : IsGood s m → MayCome s m (h, asked.Exec) → IsStepAt s private t g m → IsBehind m
+    behind_at good may local = record { good = good; free = inr (h, at, waits_in_none asked.Exec place may.free refl, clear_at may); local = local }
+
+    module _ (behind : IsBehind m) where
+      can_go : (m.awaits h ≡ None) × IsClear m h
+      can_go = elim behind.free [
+        | inl ready ↦ absurd (ready_apart s.limits.harts t h t m.kernel.threads m.kernel.scheduling behind.good.kernel.tables ready at refl)
+        | inr there ↦
+            let same = one_place s m t there.0 h behind.good there.1 at in
+            (ap m.awaits (sym same) ∙ there.2, λ e is wants. ap m.waiting (sym same) ∙ there.3 e is wants)
+      ]
+
+      some_waits : (e : Effect) → next_effect s.program.pages (m.file t) ≡ Some e → wants_empty e ≡ true → ltb 0 (length (m.waiting h)) ≡ false
+      some_waits e is wants = ap (λ (ws : List Store). ltb 0 (length ws)) (can_go.1 e is wants)
+
+      gate_none : (wants : Bool) → (wants ≡ true → ltb 0 (length (m.waiting h)) ≡ false)
+          → option_or (cond (ltb 0 (length (m.waiting h)) && wants) (Some Waiting) (cond (leb STORE_BUFFER_CAPACITY (length (m.waiting h)) && false) (Some FullBuffer) None)) None ≡ None
+      gate_none wants clear = ap (λ (o : Option Why). option_or o None) (opened (ltb 0 (length (m.waiting h))) (leb STORE_BUFFER_CAPACITY (length (m.waiting h))) wants clear)
+
+      local_free : (e : Effect) → next_effect s.program.pages (m.file t) ≡ Some e → local_after e (m.file t) ≡ Some g → step_refused (Some e) ≡ None
+      local_free (effect.Next rd value to) is leaves = gate_none false (λ bad. absurd (false≢true bad))
+      local_free (effect.Fence full) is leaves = gate_none full (some_waits (effect.Fence full) is)
+      local_free effect.FenceI is leaves = gate_none true (some_waits effect.FenceI is)
+      local_free e is leaves = absurd cc
+
+      load_free : (x : IsLoadStep s private t g m) → step_refused (Some (effect.Load x.at x.size x.is_signed x.rd)) ≡ None
+      load_free x =
+          ap (λ b. option_or (instruction_gate (length (m.waiting h)) (Some (effect.Load x.at x.size x.is_signed x.rd)) (is_some (cond b None (Some SIGSEGV)))) None) (load_readable m h at behind.good x)
+          ∙ gate_none false (λ bad. absurd (false≢true bad))
+
+      step_free : refusal_exec_by place (Some t) ≡ None
+      step_free = ap (λ (w : Option ℕ). unless_in_barrier w (step_refused (next_effect s.program.pages (m.file t)))) can_go.0 ∙ elim behind.local [
+        | inl local ↦ ap step_refused local.is ∙ local_free local.effect local.is local.leaves
+        | inr x ↦ ap step_refused x.is ∙ load_free x
+      ]
+
+      -- where it runs its step may come
+      pub may_step : plain_over m ≡ None → h < s.limits.harts → MayCome s m (h, asked.Exec)
+      may_step goes lt = record { goes = goes; lt = lt; free = ap (refusal_exec_by place) at ∙ step_free }

@@ -63,3 +63,8 @@ Goes s m (a ∷ log) = MayCome s m a × Goes s (next_of s m a) log
 abbrev pub EndsSo : Setting → Plain → List (ℕ × Choice) → End → List ℕ → Type 0
 EndsSo s m [] e console = (plain_over m ≡ Some e) × (m.kernel.console ≡ console)
 EndsSo s m (a ∷ log) e console = MayCome s m a × EndsSo s (next_of s m a) log e console
+
+-- where these choices lead
+abbrev pub gone : Setting → Plain → List (ℕ × Choice) → Plain
+gone s m [] = m
+gone s m (a ∷ log) = gone s (next_of s m a) log

@@ -2,13 +2,16 @@
 -- wait, sets that one's too.
 use Rattle.local_steps.proofs.Common.{◌≡◌, ◌≢◌, ◌⊎◌, inl, inr, ℕ, List, [], ◌∷◌, map, length, refl, sym, ap, ◌∙◌, subst, Bool, false, eqb_tells, Option, Some, None, CallDone, Done, Effect, Here, Kernel, Saved, answered_wait, argument, broken_wait, by_call, by_outcome, call_number, called, done_exec_by, int_argument, is_call, is_inside_here, is_waiting_state, killed_in_call, next_effect, next_fault, one_instruction, outcome_of, refusal_exec_by, returned, said, state_of, wake, waits, woken}
 use Rattle.std.specs.Prelude.{◌==◌, if◌then◌else◌}
-use Rattle.block_model.specs.Calls.Futexes.{futex, futex_errors, futex_wait, operation}
-use Rattle.block_model.proofs.Laws.{wake_by}
+use Rattle.block_model.specs.Calls.Futexes.{Woken, futex, futex_errors, futex_wait, is_wait, is_wake, operation, requeue, requeue_errors}
+use Rattle.block_model.specs.Kernel.{requeued}
+use Rattle.mach_types.specs.Kernel.Threads.{with_woken}
+use Rattle.block_model.proofs.Laws.{requeue_by}
 use Rattle.mach_types.proofs.Laws.{state_of-with_state_other}
 use Rattle.mach_types.specs.declared.threads.ThreadState.TheVariants.{Ready, Waiting}
 use Rattle.mach_types.specs.declared.threads.ThreadState.{ThreadState}
 use Rattle.std.specs.Option.{option_map_or}
-use Rattle.block_model.specs.Calls.Answers.{unless, refused}
+use Rattle.block_model.specs.Calls.{asking_call_of}
+use Rattle.block_model.specs.Calls.Answers.{unless}
 use Rattle.block_model.specs.Calls.Affinity.{getcpu, sched_getaffinity, sched_setaffinity, sched_yield}
 use Rattle.block_model.specs.Beside.{Neighbour}
 use Rattle.block_model.specs.Calls.Beside.{barrier_call, sequence_call}
@@ -19,7 +22,7 @@ use Rattle.block_model.specs.Calls.Memory.{brk, mmap, mprotect, munmap}
 use Rattle.block_model.specs.Calls.Numbers.{getpid, gettid, set_tid_address}
 use Rattle.block_model.specs.Calls.Signals.{refuses_signal, rt_sigaction, rt_sigprocmask, rt_sigreturn, tgkill, tgkill_errors, tkill, tkill_errors, waits_in_vain, with_posted}
 use Rattle.block_model.specs.Kernel.{gone}
-use Rattle.mach_types.specs.declared.errors.TheConstants.{EINVAL, ENOSYS}
+use Rattle.mach_types.specs.declared.errors.TheConstants.{EINVAL}
 use Rattle.block_model.specs.Events.Exec.{by_fault}
 
 -- files of threads that are the same but for that of thread t
@@ -42,6 +45,11 @@ IsAwake t k = waits k.threads t → ⊥
 awake_woken : (v t : ℕ) (k : Kernel) → v ≢ t → IsAwake t k → IsAwake t (woken v k)
 awake_woken v t k ne awake waiting = awake (waiting.0, sym (state_of-with_state_other v t (λ e. ne (sym e)) Ready k.threads) ∙ waiting.1)
 
+awake_requeued : (v to t : ℕ) (k : Kernel) → v ≢ t → IsAwake t k → IsAwake t (requeued v to k)
+awake_requeued v to t k ne awake waiting =
+    let other : t ≢ v = λ e. ne (sym e) in
+    awake (waiting.0, sym (state_of-with_state_other v t other (Waiting to) (with_woken v k.threads) ∙ state_of-with_state_other v t other Ready k.threads) ∙ waiting.1)
+
 awake_state : (t : ℕ) (k : Kernel) → IsAwake t k → option_map_or is_waiting_state (state_of t k.threads) false ≡ false
 awake_state t k awake = by_state (state_of t k.threads) refl
   where
@@ -50,38 +58,56 @@ awake_state t k awake = by_state (state_of t k.threads) refl
     by_state o is = refl
 
 module _ (here : Here) (t : ℕ) (f g : ℕ → Saved) (agree : AgreeBut t f g) where
-  woken_alike : (n at : ℕ) (k : Kernel) → IsAwake t k
-      → map (answered_wait (with_files f here)) (wake n at k).threads ≡ map (answered_wait (with_files g here)) (wake n at k).threads
+  woken_alike : (n more at to : ℕ) (k : Kernel) → IsAwake t k
+      → map (answered_wait (with_files f here)) (requeue n more at to k).threads ≡ map (answered_wait (with_files g here)) (requeue n more at to k).threads
   woken_alike =
-      wake_by (λ n k done. IsAwake t k → map (answered_wait (with_files f here)) done.threads ≡ map (answered_wait (with_files g here)) done.threads)
-      (λ n k awake. refl)
-      (λ v n k rest waiting is awake.
-      let ne : v ≢ t = λ same. awake (subst (waits k.threads) same waiting) in
+      requeue_by (λ k done. IsAwake t k → map (answered_wait (with_files f here)) done.threads ≡ map (answered_wait (with_files g here)) done.threads)
+      (λ k awake. refl)
+      (λ v k rest waiting is awake.
+      let ne = apart v k waiting awake in
       let p = agree v ne in
       let q = is (awake_woken v t k ne awake) in
       λ i. answered_wait (with_all (p i) here) v ∷ q i)
+      (λ v to k rest waiting is awake.
+      let ne = apart v k waiting awake in
+      let p = agree v ne in
+      let q = is (awake_requeued v to t k ne awake) in
+      λ i. answered_wait (with_all (p i) here) v ∷ q i)
+    where
+      apart : (v : ℕ) (k : Kernel) → waits k.threads v → IsAwake t k → v ≢ t
+      apart v k waiting awake same = awake (subst (waits k.threads) same waiting)
 
-  -- futex(2): with the files of those that are woken
-  abbrev wake_with : Here → ℕ → List (ℕ × Saved) → CallDone
-  wake_with here u files =
-      let done = wake (int_argument here u 2) (argument here u 0) here.kernel in
+  -- futex(2): with the files of those that are woken, and of those that are woken or wait at another word
+  abbrev counted_with : Here → ℕ → Woken → List (ℕ × Saved) → CallDone
+  counted_with here u done files =
       record { files = (u, returned (length done.threads) (here.file u)) ∷ files; entered = []; kernel = done.kernel; barrier = None; ended = None }
 
-  abbrev futex_with : Here → ℕ → List (ℕ × Saved) → CallDone
-  futex_with here u files =
-      unless here u (futex_errors here u)
-      (if operation (int_argument here u 1) == 0 then futex_wait here u else wake_with here u files)
+  abbrev woken_by : Here → ℕ → Woken
+  woken_by here u = wake (int_argument here u 2) (argument here u 0) here.kernel
 
-  abbrev woken_by : Here → ℕ → List ℕ
-  woken_by here u = (wake (int_argument here u 2) (argument here u 0) here.kernel).threads
+  abbrev moved_by : Here → ℕ → Woken
+  moved_by here u = requeue (int_argument here u 2) (int_argument here u 3) (argument here u 0) (argument here u 4) here.kernel
+
+  abbrev futex_with : Here → ℕ → List (ℕ × Saved) → List (ℕ × Saved) → CallDone
+  futex_with here u woken moved =
+      let op = operation (int_argument here u 1) in
+      unless here u (futex_errors here u)
+      (if is_wait op then futex_wait here u
+      else if is_wake op then counted_with here u (woken_by here u) woken
+      else unless here u (requeue_errors here u) (counted_with here u (moved_by here u) moved))
 
   futex_alike : (u : ℕ) → u ≢ t → IsAwake t here.kernel → futex (with_files f here) u ≡ futex (with_files g here) u
   futex_alike u ne awake =
       let p = agree u ne in
-      let first : futex (with_files f here) u ≡ futex_with (with_all (g u) here) u (map (answered_wait (with_files f here)) (woken_by (with_all (g u) here) u)) =
-      ap (λ (x : Saved). futex_with (with_all x here) u (map (answered_wait (with_files f here)) (woken_by (with_all x here) u))) p in
-      let second = woken_alike (int_argument (with_all (g u) here) u 2) (argument (with_all (g u) here) u 0) here.kernel awake in
-      first ∙ ap (futex_with (with_all (g u) here) u) second
+      let at = with_all (g u) here in
+      let first : futex (with_files f here) u
+      ≡ futex_with at u (map (answered_wait (with_files f here)) (woken_by at u).threads) (map (answered_wait (with_files f here)) (moved_by at u).threads) =
+      ap (λ (x : Saved).
+      let own = with_all x here in
+      futex_with own u (map (answered_wait (with_files f here)) (woken_by own u).threads) (map (answered_wait (with_files f here)) (moved_by own u).threads)) p in
+      let woken = woken_alike (int_argument at u 2) 0 (argument at u 0) 0 here.kernel awake in
+      let moved = woken_alike (int_argument at u 2) (int_argument at u 3) (argument at u 0) (argument at u 4) here.kernel awake in
+      first ∙ (λ i. futex_with at u (woken i) (moved i))
 
   -- exit(2)
   abbrev exit_with : Here → ℕ → List (ℕ × Saved) → CallDone
@@ -94,7 +120,7 @@ module _ (here : Here) (t : ℕ) (f g : ℕ → Saved) (agree : AgreeBut t f g) 
       let p = agree u ne in
       let first : exit (with_files f here) u ≡ exit_with (with_all (g u) here) u (map (answered_wait (with_files f here)) (woken_at_exit here u).threads) =
       ap (λ (x : Saved). exit_with (with_all x here) u (map (answered_wait (with_files f here)) (woken_at_exit here u).threads)) p in
-      first ∙ ap (exit_with (with_all (g u) here) u) (woken_alike _ _ here.kernel awake)
+      first ∙ ap (exit_with (with_all (g u) here) u) (woken_alike _ 0 _ 0 here.kernel awake)
 
   -- tkill(2) and tgkill(2): with whether thread v waits in vain, and the file of its broken wait
   abbrev send_with : Here → ℕ → ℕ → ℕ → Bool → ℕ × Saved → CallDone
@@ -189,7 +215,7 @@ module _ (here : Here) (t : ℕ) (f g : ℕ → Saved) (agree : AgreeBut t f g) 
       else if number == 220 then clone at u
       else if number == 222 then mmap at u
       else if number == 226 then mprotect at u
-      else refused at u ENOSYS
+      else asking_call_of number at u
 
   -- INSTRUCTIONS
 

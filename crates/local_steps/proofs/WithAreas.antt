@@ -27,6 +27,7 @@ use Rattle.block_model.proofs.Laws.{run_ready, its_ready, running_is, IsGood}
 use Rattle.local_steps.proofs.Congruence.{IsAlikeFor}
 use Rattle.local_steps.proofs.Ahead.{IsBehind, IsPassedTo, steps_ahead}
 use Rattle.local_steps.proofs.Closed.{closed_is_complete}
+use Rattle.local_steps.proofs.Passing.{LetsPass}
 use Rattle.local_steps.proofs.WithoutArea.{area_stays, outside}
 
 -- WHAT AN INTERRUPTION COMES TO
@@ -207,18 +208,21 @@ module _ (s : Setting) (threads : ℕ → Type 0) (private : ℕ → ℕ → Boo
   step_leaves m h t g good at local =
       ((λ is. absurd cc), λ v area may is other. inl (ap (λ (x : Plain). looked (seen_by v x) area) (steps_ahead s private t g m h at good local)), λ v b may own other. ap (λ (x : Plain). seen_by v x b) (steps_ahead s private t g m h at good local))
 
+  -- what rests outside its area lets calm events pass
+  pub areas_pass : LetsPass s private (RestsOutside threads) (LeavesAreas s threads private)
+  areas_pass = record {
+    calm_alike = λ m n a alike calm. subst (λ (x : Plain). LeavesAreas s threads private x a) alike calm;
+    calm_step = step_leaves;
+    calms = λ t g m a behind may rests calm. record {
+      outside = interrupted_outside s threads private t g m a behind rests may;
+      unhandled = λ is at signal next. calm.0 is t signal rests.may at next;
+    };
+    calm_back = leaves_too;
+    rests_on = λ t g m a behind may other rests x calm. (rests_next s threads private t g m a behind rests may other x calm, still_steps s threads private t g m a behind rests may other x calm);
+  }
+
   module _ (cost : Choice → ℕ) (IsSeen : ℕ → Plain → Type 0) (IsOutcome : End → List ℕ → Type 0) (closed : IsClosed s private (RestsOutside threads) (LeavesAreas s threads private) cost IsSeen IsOutcome)
       (seen_good : (k : ℕ) (m : Plain) → IsSeen k m → IsGood s m) where
     pub complete_with_areas : (k : ℕ) (m n : Plain) (log : List (ℕ × Choice)) (e : End) (console : List ℕ) → IsGood s m → IsSeen k n → SettlesTo s private (RestsOutside threads) m n
         → total cost log ≤ k → EndsSo s m log e console → IsOutcome e console
-    complete_with_areas =
-        closed_is_complete s private (RestsOutside threads) (LeavesAreas s threads private) IsOutcome cost
-        (λ m n a alike calm. subst (λ (x : Plain). LeavesAreas s threads private x a) alike calm)
-        step_leaves
-        (λ t g m a behind may rests calm. record {
-          outside = interrupted_outside s threads private t g m a behind rests may;
-          unhandled = λ is at signal next. calm.0 is t signal rests.may at next;
-        })
-        leaves_too
-        (λ t g m a behind may other rests x calm. (rests_next s threads private t g m a behind rests may other x calm, still_steps s threads private t g m a behind rests may other x calm))
-        IsSeen closed seen_good
+    complete_with_areas = closed_is_complete s private (RestsOutside threads) (LeavesAreas s threads private) cost areas_pass IsSeen IsOutcome closed seen_good

@@ -3,16 +3,16 @@ use Rattle.std.specs.Prelude.{ℕ, ◌≡◌, List}
 use Rattle.elf_load.specs.declared.image.Image.{Image}
 use Rattle.block_model.specs.Setting.{setting_of}
 use Rattle.command_words.specs.declared.commands.SearchSettings.{SearchSettings}
-use Rattle.found_outcomes.specs.Search.{IsSearchOf}
+use Rattle.found_outcomes.specs.Reduced.{IsSearchBy}
 use Rattle.found_outcomes.specs.declared.findings.Findings.{Findings}
 use Rattle.search_text.specs.Text.{findings_text}
 use Rattle.outcomes.specs.Programs.{Files, IsProgram}
 
--- the text of a search of all runs of the program of this name, with so many places at most: what was found. At `Complete` it has the
--- outcome of every run that ends
+-- the text of a search of all runs of the program of this name, with so many places at most, and with these reductions: what was found. At
+-- `Complete` it has the outcome of every run that ends
 pub record IsSearchOutput (files : Files) (program : List ℕ) (settings : SearchSettings) (written : List ℕ) : Type 0 where
   pub image : Image
   pub taken : IsProgram files program settings.limits image
   pub found : Findings
-  pub searched : IsSearchOf (setting_of image settings.limits) settings.places found
+  pub searched : IsSearchBy (setting_of image settings.limits) settings.reductions settings.places found
   pub text : written ≡ findings_text settings.scripts found

@@ -3,3 +3,7 @@
 //! The definitions stand in `specs/`, one subject a file. They speak of words, files and devices, and of logs by
 //! `block_model`; no code runs here.
 #![tactic(auto)]
+
+mod judged;
+
+pub use judged::Judged;

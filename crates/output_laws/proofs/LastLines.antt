@@ -38,7 +38,7 @@ told Memory is = let no : 121 ≡ 101 = is in absurd (omega arith)
 -- what stands before the last line
 abbrev before_last : Bool → Findings → List ℕ
 before_last scripts found =
-    (number_line (codes "outcomes") (length found.outcomes.items) ++ outcomes_text scripts 0 found.outcomes.items) ++ places_text found
+    (number_line (codes "outcomes") (length found.outcomes.items) ++ outcomes_text scripts 0 found.outcomes.items) ++ places_text scripts found
 
 whole : (scripts : Bool) (found : Findings) → findings_text scripts found ≡ before_last scripts found ++ closing_line found.closing
 unfolding findings_text
@@ -54,4 +54,4 @@ pub all_there : (files : Files) (program written before : List ℕ) (settings : 
     → (output : IsSearchOutput files program settings written) → written ≡ before ++ codes "complete\n"
     → IsComplete (setting_of output.image settings.limits) output.found.outcomes.items
 all_there files program written before settings output is =
-    output.searched.complete (last_line settings.scripts output.found before (sym output.text ∙ is))
+    output.searched.search.complete (last_line settings.scripts output.found before (sym output.text ∙ is))

@@ -15,15 +15,24 @@ use Rattle.same_places.specs.Closed.{HasOutcome, after_logs}
 use Rattle.same_places.specs.FreeRuns.{IsFreeRun}
 use Rattle.found_outcomes.specs.Complete.{IsComplete}
 use Rattle.found_outcomes.specs.Found.{AreDifferent, HasBeenFound, IsEndFound, IsShown}
+use Rattle.found_outcomes.specs.Hopeless.{AreHopeless}
 use Rattle.found_outcomes.specs.Search.{IsDepth, IsSearchOf}
 use Rattle.found_outcomes.specs.declared.findings.Closing.{Closing}
 use Rattle.found_outcomes.specs.declared.findings.Closing.TheVariants.{Complete, Deep, Memory, Places}
 use Rattle.found_outcomes.specs.declared.findings.Findings.{Findings}
+use Rattle.found_outcomes.specs.declared.findings.HopelessPlaces.{HopelessPlaces}
 use Rattle.found_outcomes.specs.declared.findings.OutcomeFound.{OutcomeFound}
 use Rattle.place_search.specs.Logs.{logs_of}
 use Rattle.place_search.specs.Visiting.{AreEndsFound, HasVisited}
 use Rattle.place_search.specs.declared.visited.Visited.{Visited}
-use Rattle.place_search.proofs.Logs.{logs_length}
+use Rattle.place_search.specs.Searching.{IsSearching, reductions_of, setting_for}
+use Rattle.place_search.specs.SettlingSteps.{all_or_none, none_private}
+use Rattle.place_search.specs.declared.task.Task.{Task}
+use Rattle.place_search.specs.declared.trying.Searcher.{Searcher}
+use Rattle.settled_places.specs.SettledSearch.{IsSettledSearch}
+use Rattle.found_outcomes.specs.Reduced.{IsSearchBy}
+use Rattle.place_search.proofs.Logs.{has_first, logs_length, single_logs}
+use Rattle.place_search.proofs.Steps.{all_visited}
 
 -- an outcome of the places that were visited was found
 outcome_found : (s : Setting) (logs : List (List Entry)) (os : List OutcomeFound) (e : End) (out : List ℕ) → All (IsEndFound s os) logs → HasOutcome (after_logs s logs) e out → HasBeenFound os e out
@@ -44,33 +53,65 @@ complete_by s logs os ends block free = record {
 }
 
 -- the findings are what was visited
-pub record AreFindings (found : Findings) (v : Visited) (why : Closing) : Type 0 where
+pub record AreFindings (found : Findings) (v : Visited) (lost : HopelessPlaces) (why : Closing) : Type 0 where
   pub outcomes : found.outcomes ≡ v.outcomes
   pub places : found.places ≡ length v.rows.items + 1
   pub deepest : found.deepest ≡ v.deepest
+  pub hopeless : found.hopeless ≡ lost
   pub closing : found.closing ≡ why
 
-pub search_of : (s : Setting) (start : Map) (most : ℕ) (v : Visited) (closing : Closing) (found : Findings) → AreFindings found v closing → HasVisited s start v → length v.rows.items < most
-    → (closing ≡ Complete → IsComplete s v.outcomes.items) → (closing ≡ Places → length v.rows.items + 1 ≡ most) → (closing ≡ Deep → v.deep ≡ true)
-    → (closing ≢ Memory → AreEndsFound s v) → IsSearchOf s most found
-search_of s start most v closing found are h few complete full deep ends =
+-- a search that met this closing, and ends for this why: for want of memory, or as it met
+pub search_of : (s : Setting) (start : Map) (most : ℕ) (v : Visited) (met why : Closing) (lost : HopelessPlaces) (found : Findings) → AreFindings found v lost why → HasVisited s start v
+    → length v.rows.items < most → (why ≢ Memory → why ≡ met) → Contains (logs_of v.rows.items) lost.nearest.items
+    → (why ≡ Complete → met ≡ Complete → AreHopeless s (logs_of v.rows.items) lost.number lost.nearest.items)
+    → (met ≡ Complete → IsComplete s v.outcomes.items) → (met ≡ Places → length v.rows.items + 1 ≡ most) → (met ≡ Deep → v.deep ≡ true)
+    → (met ≢ Memory → AreEndsFound s v) → IsSearchOf s most found
+search_of s start most v met why lost found are h few closed nearest told complete full deep ends =
     let items : v.outcomes.items ≡ found.outcomes.items = sym (ap (λ os. os.items) are.outcomes) in
     let size = logs_length v.rows.items in
     let places = are.places in
+    let logs = logs_of v.rows.items in
+    let as_met : (end : Closing) → end ≢ Memory → found.closing ≡ end → met ≡ end = λ end other is.
+    let is_why : why ≡ end = sym are.closing ∙ is in
+    sym (closed (λ memory. other (sym is_why ∙ memory))) ∙ is_why in
     record {
       shown = subst (All (IsShown s)) items h.shown;
       different = subst (λ (os : List OutcomeFound). AreDifferent os) items h.different;
-      complete = λ is. subst (IsComplete s) items (complete (sym are.closing ∙ is));
-      logs = logs_of v.rows.items;
+      complete = λ is. subst (IsComplete s) items (complete (as_met Complete (λ no. absurd cc) is));
+      logs = logs;
       visited = record {
         runs = h.runs;
         counted = size ∙ sym are.places;
-        within = subst (λ (n : ℕ). All (λ (log : List Entry). length log ≤ n) (logs_of v.rows.items)) (sym are.deepest) h.within;
-        deepest = subst (IsDepth (logs_of v.rows.items)) (sym are.deepest) h.deepest;
-        outcomes = subst (All (λ (o : OutcomeFound). Contains (logs_of v.rows.items) o.log.items)) items h.among;
+        within = subst (λ (n : ℕ). All (λ (log : List Entry). length log ≤ n) logs) (sym are.deepest) h.within;
+        deepest = subst (IsDepth logs) (sym are.deepest) h.deepest;
+        outcomes = subst (All (λ (o : OutcomeFound). Contains logs o.log.items)) items h.among;
       };
-      noted = λ not. subst (λ (os : List OutcomeFound). All (IsEndFound s os) (logs_of v.rows.items)) items (ends (λ is. not (are.closing ∙ is)));
+      noted = λ not. subst (λ (os : List OutcomeFound). All (IsEndFound s os) logs) items
+          (ends (λ is. not (are.closing ∙ (closed (λ memory. not (are.closing ∙ memory)) ∙ is))));
       allowed = omega arith;
-      all_places = λ is. places ∙ full (sym are.closing ∙ is);
-      at_limit = λ is. let was = h.at_limit (deep (sym are.closing ∙ is)) in (was.log, was.visited, was.at_limit);
+      all_places = λ is. places ∙ full (as_met Places (λ no. absurd cc) is);
+      nearest = subst (λ (x : HopelessPlaces). Contains logs x.nearest.items) (sym are.hopeless) nearest;
+      hopeless = λ is.
+          subst (λ (x : HopelessPlaces). AreHopeless s logs x.number x.nearest.items) (sym are.hopeless)
+          (told (sym are.closing ∙ is) (as_met Complete (λ no. absurd cc) is));
+      at_limit = λ is. let was = h.at_limit (deep (as_met Deep (λ no. absurd cc) is)) in (was.log, was.visited, was.at_limit);
+    }
+
+-- and by its reductions
+pub search_by_of : (task : Task) (x : Searcher) (met why : Closing) (lost : HopelessPlaces) (found : Findings) → AreFindings found x.visited lost why → IsSearching task x → (why ≢ Memory → why ≡ met)
+    → Contains (logs_of x.visited.rows.items) lost.nearest.items
+    → (why ≡ Complete → met ≡ Complete → AreHopeless (setting_for task) (logs_of x.visited.rows.items) lost.number lost.nearest.items)
+    → (met ≡ Complete → IsComplete (setting_for task) x.visited.outcomes.items) → (met ≡ Places → length x.visited.rows.items + 1 ≡ task.most) → (met ≡ Deep → x.visited.deep ≡ true)
+    → (met ≢ Memory → AreEndsFound (setting_for task) x.visited)
+    → (met ≡ Complete → IsSettledSearch (setting_for task) (all_or_none task.settle) none_private (logs_of x.visited.rows.items))
+    → IsSearchBy (setting_for task) (reductions_of task) task.most found
+unfolding search_of
+search_by_of task x met why lost found are searching closed nearest told complete full deep ends searched =
+    let rows = x.visited.rows.items in
+    record {
+      search = search_of (setting_for task) x.made.start task.most x.visited met why lost found are searching.visited searching.few closed nearest told complete full deep ends;
+      each_event = λ off. single_logs rows searching.visited.parents (searching.single off);
+      all_places = λ off is.
+          let as_met : met ≡ Complete = sym (closed (λ memory. let bad : Complete ≡ Memory = sym is ∙ are.closing ∙ memory in absurd cc)) ∙ sym are.closing ∙ is in
+          all_visited (setting_for task) task.settle (logs_of rows) off (has_first rows) (searched as_met);
     }

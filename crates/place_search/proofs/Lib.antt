@@ -1,7 +1,9 @@
 mod Edges
 mod Findings
+mod Graphs
 mod Lists
 mod Logs
+mod Marked
 mod MoreSteps
 mod Nexts
 mod Outcomes

@@ -1,9 +1,10 @@
 -- The logs of places, as more are visited.
-use Rattle.std.proofs.Common.{◌≡◌, ℕ, zero, suc, ◌+◌, ◌-◌, reverse, append_assoc, ◌<◌, ◌≤◌, List, [], ◌∷◌, ◌++◌, length, get_or, refl, sym, ap, ◌∙◌, subst, arith, Contains, below_more, length-append, lit<}
-use Rattle.std.proofs.lemmas.List.{get_or-append-add, get_or_append_left, get_or_at, reverse-append}
+use Rattle.std.proofs.Common.{◌≡◌, ℕ, zero, suc, ◌+◌, ◌-◌, reverse, append_assoc, ◌<◌, ◌≤◌, List, [], ◌∷◌, ◌++◌, length, get_or, refl, sym, ap, ◌∙◌, subst, arith, inl, inr, All, Contains, below_more, length-append, lit<}
+use Rattle.std.proofs.lemmas.List.{get_or-append-add, get_or_append_left, get_or_at, get_or_default, reverse-append}
 use Rattle.std.proofs.lemmas.List.Elements.{Contains-append_left, Contains-get_or}
 use Rattle.mach_types.specs.declared.events.Entry.{Entry}
-use Rattle.place_search.specs.Logs.{AreAfterParents, grown, log_at, log_next, logs_of}
+use Rattle.found_outcomes.specs.Reduced.{IsNextOf, IsOneMore}
+use Rattle.place_search.specs.Logs.{AreAfterParents, AreSingle, grown, log_at, log_next, logs_of}
 use Rattle.place_search.specs.declared.row.Row.{Row}
 
 abbrev Logs : Type 0
@@ -82,6 +83,40 @@ stays_at rows more place there =
 
 pub stays_among : (rows more : List Row) (log : List Entry) → Contains (logs_of rows) log → Contains (logs_of (rows ++ more)) log
 stays_among rows more log has = subst (λ (logs : Logs). Contains logs log) (sym (grown_more ([] ∷ []) rows more)) (grown_contains (logs_of rows) more log has)
+
+-- where one entry leads to each place, one event leads to it
+first_of : (rows : List Row) → 0 < length rows → Row
+first_of [] some = absurd (omega arith)
+first_of (r ∷ rows) some = r
+
+one_entry_of : (es : List Entry) → length es ≡ 1 → (e : Entry) × (reverse es ≡ e ∷ [])
+one_entry_of [] is = absurd (omega (arith, is))
+one_entry_of (e ∷ []) is = (e, refl)
+one_entry_of (e ∷ x ∷ more) is = absurd (omega (arith, is))
+
+one_more : (rows : List Row) (i : ℕ) (d : Row) → AreAfterParents rows → AreSingle rows → i < length rows → IsOneMore (logs_of rows) (log_at rows (i + 1))
+one_more rows i d after single there =
+    let row = get_or rows i d in
+    let before : row.parent ≤ i = after i d there in
+    let last = one_entry_of row.entries.items (single i d there) in
+    record {
+      before = log_at rows row.parent;
+      entry = last.0;
+      among = has_log rows row.parent (omega arith);
+      all = log_parent rows i d after there ∙ ap (λ (es : List Entry). log_at rows row.parent ++ es) last.1;
+    }
+
+pub single_logs : (rows : List Row) → AreAfterParents rows → AreSingle rows → All (IsNextOf (logs_of rows)) (logs_of rows)
+single_logs rows after single = go
+  where
+    go : (k : ℕ) (d : List Entry) → k < length (logs_of rows) → IsNextOf (logs_of rows) (get_or (logs_of rows) k d)
+    go zero d lt = inl (get_or_default (logs_of rows) 0 d [] lt ∙ grown_keeps ([] ∷ []) rows 0 [] (lit< tt))
+    go (suc i) d lt =
+        let size = logs_length rows in
+        let there : i < length rows = omega (arith, lt) in
+        let next : i + 1 ≡ suc i = omega arith in
+        let same : log_at rows (i + 1) ≡ get_or (logs_of rows) (suc i) d = ap (log_at rows) next ∙ get_or_default (logs_of rows) (suc i) [] d lt in
+        inr (subst (IsOneMore (logs_of rows)) same (one_more rows i (first_of rows (omega arith)) after single there))
 
 -- one place more
 pub logs_push : (rows : List Row) (row : Row) → logs_of (rows ++ row ∷ []) ≡ logs_of rows ++ log_next (logs_of rows) row ∷ []

@@ -1,6 +1,6 @@
 -- A visit to the place after an event.
-use Rattle.std.proofs.Common.{◌≡◌, ℕ, ◌+◌, ◌≤◌, true, List, [], ◌∷◌, ◌++◌, length, reverse, bytes_eq, Vec, Global, refl, sym, ap, ◌∙◌, subst, All, Contains, length-append}
-use Rattle.std.specs.List.{list_any}
+use Rattle.std.proofs.Common.{◌≡◌, ℕ, ◌+◌, ◌≤◌, Some, List, [], ◌∷◌, ◌++◌, length, reverse, bytes_eq, Vec, Global, refl, sym, ap, ◌∙◌, subst, All, Contains, length-append}
+use Rattle.std.specs.Map.{lookup}
 use Rattle.std.proofs.lemmas.List.Elements.{All-push, All-weaker, Contains-push}
 use Rattle.mach_types.specs.declared.events.Entry.{Entry}
 use Rattle.block_model.specs.Setting.{Setting}
@@ -21,7 +21,8 @@ use Rattle.place_search.specs.declared.row.Row.{Row}
 use Rattle.place_search.specs.declared.visited.Visited.{Visited}
 use Rattle.place_search.specs.declared.visiting.Reached.{Reached}
 use Rattle.place_search.proofs.Lists.{known_has}
-use Rattle.place_search.proofs.Visits.{added_has, added_more, end_at, end_stays, logs_added, more_more, noted_end, noted_has, noted_more}
+use Rattle.place_search.proofs.Logs.{logs_length}
+use Rattle.place_search.proofs.Visits.{added_has, added_more, end_at, end_stays, key_new, logs_added, more_more, noted_end, noted_has, noted_more}
 
 abbrev pub row_of : Reached → Vec Entry Global → Row
 row_of from own = record { parent = from.place; entries = own }
@@ -39,10 +40,10 @@ adds_up s v from entries made may law =
     (subst (AddsUp made.total) (sym started.begins.pages) started.adds_up)
 
 -- a key that is known leads back
-pub known_back : (s : Setting) (v : Visited) (from : Reached) (entries : List Entry) (made : Remade) (key : List ℕ) → MayVisit s v from entries made → key ≡ packed (parts_words made.start made.parts)
-    → list_any (bytes_eq key) v.keys ≡ true → IsKeyOf s made.start (logs_of v.rows.items) (packed (parts_words made.start made.parts))
-known_back s v from entries made key may is known =
-    subst (IsKeyOf s made.start (logs_of v.rows.items)) is (known_has (IsKeyOf s made.start (logs_of v.rows.items)) key v.keys may.visited.keys known)
+pub known_back : (s : Setting) (v : Visited) (from : Reached) (entries : List Entry) (made : Remade) (key : List ℕ) (number : ℕ) → MayVisit s v from entries made → key ≡ packed (parts_words made.start made.parts)
+    → lookup (bytes_eq key) v.keys ≡ Some number → IsKeyOf s made.start (logs_of v.rows.items) (packed (parts_words made.start made.parts), number)
+known_back s v from entries made key number may is known =
+    subst (λ (k : List ℕ). IsKeyOf s made.start (logs_of v.rows.items) (k, number)) is (known_has (IsKeyOf s made.start (logs_of v.rows.items)) key number v.keys may.visited.keys known)
 
 -- a place that is added
 module _ (s : Setting) (v v1 : Visited) (from : Reached) (entries : List Entry) (made : Remade) (key : List ℕ) (depth : ℕ) (may : MayVisit s v from entries made) (key_is : key ≡ packed (parts_words made.start made.parts))
@@ -83,17 +84,13 @@ module _ (s : Setting) (v v1 : Visited) (from : Reached) (entries : List Entry) 
     full_more : IsMore v v2
     full_more = more_more v v1 v2 next_more (noted_more v1 v2 (log_of from entries) made.parts.ended made.parts.kernel.console of_log)
 
-    pub full_back : IsKeyOf s made.start (logs_of v2.rows.items) (packed (parts_words made.start made.parts))
-    full_back = record {
-      log = log_of from entries;
-      visited = subst (λ (rows : List Row). Contains (logs_of rows) (log_of from entries)) (sym noted.rows) next_there;
-      parts = made.parts;
-      stands = may.stands;
-      words = refl;
-    }
-
     full_logs : logs_of v.rows.items ++ log_of from entries ∷ [] ≡ logs_of v2.rows.items
     full_logs = sym (ap (λ (rows : List Row). logs_of rows) noted.rows ∙ next_logs)
+
+    pub full_back : (number : ℕ) → number ≡ length v.rows.items + 1 → IsKeyOf s made.start (logs_of v2.rows.items) (packed (parts_words made.start made.parts), number)
+    full_back number is =
+        subst (λ (logs : List (List Entry)). IsKeyOf s made.start logs (packed (parts_words made.start made.parts), number)) full_logs
+        (key_new s made.start (logs_of v.rows.items) (log_of from entries) (packed (parts_words made.start made.parts)) number made.parts (is ∙ sym (logs_length v.rows.items)) may.stands refl)
 
     pub full_ends : AreEndsFound s v → AreEndsFound s v2
     full_ends ends =

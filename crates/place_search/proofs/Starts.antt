@@ -1,5 +1,5 @@
 -- Where nothing was visited but the first place.
-use Rattle.std.proofs.Common.{◌≡◌, ℕ, ◌≤◌, true, false, List, [], ◌∷◌, length, refl, sym, ◌∙◌, subst, arith, lit<, All, Contains}
+use Rattle.std.proofs.Common.{◌≡◌, ℕ, ◌≤◌, ◌<◌, slice_index_or, true, false, List, [], ◌∷◌, length, refl, sym, ◌∙◌, subst, arith, lit<, All, Contains}
 use Rattle.std.specs.List.Sorted.{IsPermutation}
 use Rattle.std.proofs.lemmas.List.Elements.{All-cons, All-nil}
 use Rattle.std.proofs.lemmas.List.Sorted.{All-permutation}
@@ -63,23 +63,22 @@ module _ (s : Setting) (start : Map) (v v' : Visited) (first : IsFirst v) (run :
       subst (λ (rows : List Row). All (IsEndFound s v'.outcomes.items) (logs_of rows)) rows_first
       (one (IsEndFound s v'.outcomes.items) (noted_end s v v' [] m.ended m.kernel.console noted (end_at s [] m run stands)))
 
-  pub key_first : (key : List ℕ) → key ≡ packed (parts_words start m) → IsKeyOf s start (logs_of v'.rows.items) key
+  pub key_first : (key : List ℕ) → key ≡ packed (parts_words start m) → IsKeyOf s start (logs_of v'.rows.items) (key, 0)
   key_first key is = record {
-    log = [];
-    visited = subst (λ (rows : List Row). Contains (logs_of rows) []) rows_first (0, lit< tt, refl);
+    visited = subst (λ (rows : List Row). 0 < length (logs_of rows)) rows_first (lit< tt);
     parts = m;
-    stands = stands;
+    stands = subst (λ (rows : List Row). StandAfter s (slice_index_or (logs_of rows) 0 []) m) rows_first stands;
     words = sym is;
   }
 
-  pub keyed_first : (key : List ℕ) (keys : List (List ℕ)) → key ≡ packed (parts_words start m) → IsPermutation (key ∷ v'.keys) keys → HasVisited s start (record v' { keys = keys })
+  pub keyed_first : (key : List ℕ) (keys : List (List ℕ × ℕ)) → key ≡ packed (parts_words start m) → IsPermutation ((key, 0) ∷ v'.keys) keys → HasVisited s start (record v' { keys = keys })
   keyed_first key keys is moved =
       let h = noted_first in
       record {
         runs = h.runs;
         short = h.short;
         parents = h.parents;
-        keys = All-permutation (IsKeyOf s start (logs_of v'.rows.items)) (key ∷ v'.keys) keys moved (All-cons (IsKeyOf s start (logs_of v'.rows.items)) key v'.keys (key_first key is) h.keys);
+        keys = All-permutation (IsKeyOf s start (logs_of v'.rows.items)) ((key, 0) ∷ v'.keys) keys moved (All-cons (IsKeyOf s start (logs_of v'.rows.items)) (key, 0) v'.keys (key_first key is) h.keys);
         shown = h.shown;
         among = h.among;
         different = h.different;

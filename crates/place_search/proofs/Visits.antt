@@ -1,6 +1,7 @@
 -- What holds of the places that were visited still does as one more is.
-use Rattle.std.proofs.Common.{◌≡◌, ℕ, ◌≤◌, true, List, [], ◌∷◌, ◌++◌, length, Option, Some, None, refl, sym, ap, ◌∙◌, subst, arith, append-nil, append_assoc, inl, inr, max, All, Contains}
+use Rattle.std.proofs.Common.{◌≡◌, ℕ, ◌+◌, ◌<◌, ◌≤◌, length-append, true, List, [], ◌∷◌, ◌++◌, length, Option, Some, None, refl, sym, ap, ◌∙◌, subst, arith, append-nil, append_assoc, inl, inr, max, All, Contains}
 use Rattle.std.proofs.lemmas.Bool.{cases_lt}
+use Rattle.std.proofs.lemmas.List.{get_or_append_left, get_or_at}
 use Rattle.std.proofs.lemmas.List.Elements.{All-cons, All-push, All-weaker, Contains-append_left, Contains-push}
 use Rattle.std.proofs.lemmas.List.Sorted.{All-permutation}
 use Rattle.mach_types.specs.declared.events.Entry.{Entry}
@@ -17,12 +18,12 @@ use Rattle.place_keys.specs.PartWords.{parts_words}
 use Rattle.found_outcomes.specs.Found.{AreDifferent, HasBeenFound, IsEndFound, IsShown}
 use Rattle.found_outcomes.specs.Search.{IsAtLimit, IsDepth}
 use Rattle.found_outcomes.specs.declared.findings.OutcomeFound.{OutcomeFound}
-use Rattle.place_search.specs.Logs.{AreAfterParents, log_next, logs_of}
+use Rattle.place_search.specs.Logs.{AreAfterParents, AreSingle, log_next, logs_of}
 use Rattle.place_search.specs.Visiting.{HasLimit, HasVisited, IsKeyOf, IsMore}
 use Rattle.place_search.specs.Visits.{IsAdded, IsEndNoted, IsNoted, IsUnchanged}
 use Rattle.place_search.specs.declared.row.Row.{Row}
 use Rattle.place_search.specs.declared.visited.Visited.{Visited}
-use Rattle.place_search.proofs.Logs.{logs_push, parents_push}
+use Rattle.place_search.proofs.Logs.{logs_length, logs_push, parents_push}
 use Rattle.place_search.proofs.Outcomes.{more_found, more_of, noted_all, noted_different, noted_found}
 
 abbrev Logs : Type 0
@@ -69,10 +70,37 @@ more_more a b c first second = record {
   deep = λ was. second.deep (first.deep was);
 }
 
+pub single_stays : (v v' : Visited) → v'.rows.items ≡ v.rows.items → AreSingle v.rows.items → AreSingle v'.rows.items
+single_stays v v' is single = subst (λ (rows : List Row). AreSingle rows) (sym is) single
+
 -- ONE PLACE MORE
 
-key_stays : (s : Setting) (start : Map) (logs more : Logs) (key : List ℕ) → IsKeyOf s start logs key → IsKeyOf s start (logs ++ more) key
-key_stays s start logs more key at = record { log = at.log; visited = Contains-append_left logs more at.log at.visited; parts = at.parts; stands = at.stands; words = at.words }
+pub single_more : (v v' : Visited) (row : Row) (key : List ℕ) (depth : ℕ) → IsAdded row key depth v v' → length row.entries.items ≡ 1 → AreSingle v.rows.items → AreSingle v'.rows.items
+single_more v v' row key depth added one single =
+    subst (λ (rows : List Row). AreSingle rows) (sym added.rows) (All-push (λ (r : Row). length r.entries.items ≡ 1) v.rows.items row single one)
+
+key_stays : (s : Setting) (start : Map) (logs more : Logs) (known : List ℕ × ℕ) → IsKeyOf s start logs known → IsKeyOf s start (logs ++ more) known
+key_stays s start logs more known at =
+    let size = length-append logs more in
+    let there : known.1 < length logs = at.visited in
+    record {
+      visited = omega arith;
+      parts = at.parts;
+      stands = subst (λ (log : List Entry). StandAfter s log at.parts) (sym (get_or_append_left logs more [] known.1 there)) at.stands;
+      words = at.words;
+    }
+
+-- the key of a place that is added has the next number
+pub key_new : (s : Setting) (start : Map) (logs : Logs) (log : List Entry) (key : List ℕ) (number : ℕ) (parts : Parts) → number ≡ length logs → StandAfter s log parts → packed (parts_words start parts) ≡ key
+    → IsKeyOf s start (logs ++ log ∷ []) (key, number)
+key_new s start logs log key number parts is stands words =
+    let size = length-append logs (log ∷ []) in
+    record {
+      visited = omega arith;
+      parts = parts;
+      stands = subst (λ (l : List Entry). StandAfter s l parts) (sym (get_or_at logs log [] [] number (sym is))) stands;
+      words = words;
+    }
 
 depth_next : (logs : Logs) (log : List Entry) (deepest : ℕ) → IsDepth logs deepest → IsDepth (logs ++ log ∷ []) (max deepest (length log))
 depth_next logs log deepest was =
@@ -91,14 +119,15 @@ pub added_has : (s : Setting) (start : Map) (v v' : Visited) (row : Row) (key : 
 added_has s start v v' row key log parts added h parent is short run stands words =
     let logs = logs_of v.rows.items in
     let now : logs ++ log ∷ [] ≡ logs_of v'.rows.items = sym (logs_added v v' row key (length log) log added is) in
+    let number = length v.rows.items + 1 in
     let all : (λ (l : List Entry). length l ≤ max v.deepest (length log)) log = omega arith in
     record {
       runs = subst (All (IsBlockRun s)) now (All-push (IsBlockRun s) logs log h.runs run);
       short = subst (All (λ (l : List Entry). length l ≤ s.limits.steps)) now (All-push (λ (l : List Entry). length l ≤ s.limits.steps) logs log h.short short);
       parents = subst (λ (rows : List Row). AreAfterParents rows) (sym added.rows) (parents_push v.rows.items row h.parents parent);
       keys = subst (λ (l : Logs). All (IsKeyOf s start l) v'.keys) now
-          (All-permutation (IsKeyOf s start (logs ++ log ∷ [])) (key ∷ v.keys) v'.keys added.keys
-          (All-cons (IsKeyOf s start (logs ++ log ∷ [])) key v.keys (record { log = log; visited = Contains-push logs log; parts = parts; stands = stands; words = words })
+          (All-permutation (IsKeyOf s start (logs ++ log ∷ [])) ((key, number) ∷ v.keys) v'.keys added.keys
+          (All-cons (IsKeyOf s start (logs ++ log ∷ [])) (key, number) v.keys (key_new s start logs log key number parts (sym (logs_length v.rows.items)) stands words)
           (All-weaker (IsKeyOf s start logs) (IsKeyOf s start (logs ++ log ∷ [])) (key_stays s start logs (log ∷ [])) v.keys h.keys)));
       shown = subst (All (IsShown s)) (sym added.outcomes) h.shown;
       among = subst (All (λ (o : OutcomeFound). Contains (logs_of v'.rows.items) o.log.items)) (sym added.outcomes)

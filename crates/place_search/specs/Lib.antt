@@ -1,4 +1,5 @@
 pub mod Ends
+pub mod Graphs
 pub mod Logs
 pub mod Searching
 pub mod SettlingSteps

@@ -1,5 +1,5 @@
 -- The logs of the places that were visited, each as the entries that led to it (own).
-use Rattle.std.specs.Prelude.{ℕ, ◌≤◌, ◌<◌, List, [], ◌∷◌, ◌++◌, length, reverse, slice_index_or}
+use Rattle.std.specs.Prelude.{ℕ, ◌≡◌, ◌≤◌, ◌<◌, List, [], ◌∷◌, ◌++◌, length, reverse, slice_index_or, All}
 use Rattle.mach_types.specs.declared.events.Entry.{Entry}
 use Rattle.place_search.specs.declared.row.Row.{Row}
 
@@ -18,6 +18,10 @@ logs_of rows = grown ([] ∷ []) rows
 
 abbrev pub log_at : List Row → ℕ → List Entry
 log_at rows place = slice_index_or (logs_of rows) place []
+
+-- each place was come to by one entry
+abbrev pub AreSingle : List Row → Type 0
+AreSingle rows = All (λ (row : Row). length row.entries.items ≡ 1) rows
 
 -- each place was come to from one with a lower number
 abbrev pub AreAfterParents : List Row → Type 0

@@ -1,5 +1,5 @@
 -- A search on its way (own).
-use Rattle.std.specs.Prelude.{ℕ, ◌≡◌, ◌≤◌, ◌<◌, Bool, false, List, length, None}
+use Rattle.std.specs.Prelude.{ℕ, ◌≡◌, ◌≤◌, ◌<◌, ◌≢◌, Bool, false, List, length, None, Contains}
 use Rattle.mach_types.specs.Limits.{InRange}
 use Rattle.mach_types.specs.declared.events.Choice.{Choice}
 use Rattle.mach_types.specs.declared.events.Entry.{Entry}
@@ -10,15 +10,17 @@ use Rattle.block_model.specs.Setting.{Setting, setting_of}
 use Rattle.same_places.specs.Places.{IsCarried}
 use Rattle.same_places.specs.Replayed.{StandAfter}
 use Rattle.same_places.specs.Searched.{IsOpen}
-use Rattle.place_search.specs.Logs.{log_at}
+use Rattle.place_search.specs.Graphs.{IsTrue, LeadsAlong}
+use Rattle.place_search.specs.Logs.{AreSingle, log_at, logs_of}
+use Rattle.search_reductions.specs.declared.reductions.Reductions.{Reductions}
 use Rattle.local_steps.specs.Resting.{LeavesAreas}
 use Rattle.process.specs.declared.parts.Parts.{Parts}
-use Rattle.settled_places.specs.SettledSearch.{LeadsToStored}
 use Rattle.settled_places.specs.Settling.{settles_of}
 use Rattle.place_search.specs.SettlingSteps.{all_or_none, none_private}
 use Rattle.place_search.specs.Sights.{AreSightsOf}
 use Rattle.place_search.specs.Starting.{IsStarted}
 use Rattle.place_search.specs.Visiting.{HasVisited}
+use Rattle.place_search.specs.declared.graph.Graph.{Graph}
 use Rattle.place_search.specs.declared.task.Task.{Task}
 use Rattle.place_search.specs.declared.trying.Searcher.{Searcher}
 use Rattle.place_search.specs.declared.visiting.Reached.{Reached}
@@ -33,12 +35,19 @@ pub record IsTask (task : Task) : Type 0 where
   pub some : 1 ≤ task.most
   pub most : task.most < 4294967296
 
--- a search of the task, which may visit no more places than are allowed
+-- the reductions of the task
+abbrev pub reductions_of : Task → Reductions
+reductions_of task = record { local_steps = task.settle }
+
+-- a search of the task, which may visit no more places than are allowed. Its edges lead where they say; and where no thread
+-- settles, one entry leads to each place
 pub record IsSearching (task : Task) (x : Searcher) : Type 0 where
   pub visited : HasVisited (setting_for task) x.made.start x.visited
   pub started : IsStarted (setting_for task) x.made.total x.made.start
   pub code : x.made.code ≡ task.image.now.pages.items
+  pub graph : IsTrue (setting_for task) task.settle (logs_of x.visited.rows.items) x.graph
   pub few : length x.visited.rows.items < task.most
+  pub single : task.settle ≡ false → AreSingle x.visited.rows.items
 
 -- the parts stand at a place that was visited
 pub record IsReached (task : Task) (x : Searcher) (from : Reached) : Type 0 where
@@ -65,15 +74,17 @@ pub record IsOpenAt (task : Task) (x : Searcher) (from : Reached) : Type 0 where
   pub stands : x.moved ≡ false → StandAfter (setting_for task) from.log.items x.made.parts
   pub sees : HasSights (setting_for task) from
 
--- the same comes of a choice at each place that is the same. Where it is allowed, it reaches no thread that has settled, and settling
--- steps after it lead back to a place that was visited
-pub record IsTriedAt (s : Setting) (settle : Bool) (logs : List (List Entry)) (log : List Entry) (h : ℕ) (c : Choice) : Type 0 where
+-- the same comes of a choice at each place that is the same. Where it is allowed, it reaches no thread that has settled, and there is an
+-- edge to a place that was visited, to which settling steps after it lead
+pub record IsTriedAt (s : Setting) (settle : Bool) (logs : List (List Entry)) (g : Graph) (place : ℕ) (log : List Entry) (h : ℕ) (c : Choice)
+    : Type 0 where
   pub carried : IsCarried s (plain_after s log) h c
   pub calm : refusal_of c (here_in_plain s (plain_after s log) h) ≡ None
       → LeavesAreas s (settles_of (all_or_none settle)) none_private (plain_after s log) (h, c)
-  pub next : refusal_of c (here_in_plain s (plain_after s log) h) ≡ None → LeadsToStored s (all_or_none settle) none_private logs log h c
+  pub next : refusal_of c (here_in_plain s (plain_after s log) h) ≡ None → LeadsAlong s settle logs g.edges.items place log h c
 
--- the run of the log goes on within the step limit, and each choice that has to be tried was; or it is over
-pub record IsExpanded (s : Setting) (settle : Bool) (logs : List (List Entry)) (log : List Entry) : Type 0 where
+-- the run of the log goes on within the step limit, and each choice that has to be tried was; or it is over, and that is noted
+pub record IsExpanded (s : Setting) (settle : Bool) (logs : List (List Entry)) (g : Graph) (place : ℕ) (log : List Entry) : Type 0 where
   pub room : plain_over (plain_after s log) ≡ None → length log < s.limits.steps
-  pub tried : (h : ℕ) (c : Choice) → IsOpen s logs log h c → IsTriedAt s settle logs log h c
+  pub tried : (h : ℕ) (c : Choice) → IsOpen s logs log h c → IsTriedAt s settle logs g place log h c
+  pub over : plain_over (plain_after s log) ≢ None → Contains g.ended.items place

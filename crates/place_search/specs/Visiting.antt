@@ -1,5 +1,5 @@
 -- What holds of the places that were visited (own).
-use Rattle.std.specs.Prelude.{ℕ, ◌≡◌, ◌≤◌, ◌++◌, true, List, length, All, Contains}
+use Rattle.std.specs.Prelude.{ℕ, ◌≡◌, ◌<◌, ◌≤◌, ◌++◌, true, List, length, All, Contains, slice_index_or, []}
 use Rattle.mach_types.specs.declared.events.Entry.{Entry}
 use Rattle.block_model.specs.Run.{IsBlockRun}
 use Rattle.block_model.specs.Setting.{Setting}
@@ -19,13 +19,12 @@ use Rattle.place_search.specs.declared.row.Row.{Row}
 use Rattle.place_search.specs.declared.visited.Visited.{Visited}
 use Rattle.place_search.specs.declared.visiting.Reached.{Reached}
 
--- the packed words of parts that stand where one of the logs has come to
-pub record IsKeyOf (s : Setting) (start : Map) (logs : List (List Entry)) (key : List ℕ) : Type 0 where
-  pub log : List Entry
-  pub visited : Contains logs log
+-- a key with a number: it is the packed words of parts that stand where the log of this number has come to
+pub record IsKeyOf (s : Setting) (start : Map) (logs : List (List Entry)) (known : List ℕ × ℕ) : Type 0 where
+  pub visited : known.1 < length logs
   pub parts : Parts
-  pub stands : StandAfter s log parts
-  pub words : packed (parts_words start parts) ≡ key
+  pub stands : StandAfter s (slice_index_or logs known.1 []) parts
+  pub words : packed (parts_words start parts) ≡ known.0
 
 -- one of the logs goes on at the step limit
 pub record HasLimit (s : Setting) (logs : List (List Entry)) : Type 0 where
@@ -33,7 +32,7 @@ pub record HasLimit (s : Setting) (logs : List (List Entry)) : Type 0 where
   pub visited : Contains logs log
   pub at_limit : IsAtLimit s log
 
--- the logs are block runs within the step limit, each key is that of one of their places, and each outcome is that of one of them, and of no other
+-- the logs are block runs within the step limit, each key is that of the place of its number, and each outcome is that of one of them, and of no other
 pub record HasVisited (s : Setting) (start : Map) (v : Visited) : Type 0 where
   pub runs : All (IsBlockRun s) (logs_of v.rows.items)
   pub short : All (λ log. length log ≤ s.limits.steps) (logs_of v.rows.items)

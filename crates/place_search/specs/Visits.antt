@@ -1,5 +1,5 @@
 -- What a visit changes (own).
-use Rattle.std.specs.Prelude.{ℕ, false, ◌≡◌, ◌++◌, ◌∷◌, [], List, Option, Some, None, max}
+use Rattle.std.specs.Prelude.{ℕ, false, ◌≡◌, ◌+◌, ◌++◌, ◌∷◌, [], List, Option, Some, None, length, max}
 use Rattle.std.specs.List.Sorted.{IsPermutation}
 use Rattle.mach_types.specs.declared.events.Entry.{Entry}
 use Rattle.mach_types.specs.declared.limits.End.{End}
@@ -23,10 +23,10 @@ pub record IsUnchanged (v v' : Visited) : Type 0 where
   pub deepest : v'.deepest ≡ v.deepest
   pub deep : v'.deep ≡ v.deep
 
--- one place more, whose log has so many entries
+-- one place more, with the next number, whose log has so many entries
 pub record IsAdded (row : Row) (key : List ℕ) (depth : ℕ) (v v' : Visited) : Type 0 where
   pub rows : v'.rows.items ≡ v.rows.items ++ row ∷ []
-  pub keys : IsPermutation (key ∷ v.keys) v'.keys
+  pub keys : IsPermutation ((key, length v.rows.items + 1) ∷ v.keys) v'.keys
   pub outcomes : v'.outcomes.items ≡ v.outcomes.items
   pub deepest : v'.deepest ≡ max v.deepest depth
   pub deep : v'.deep ≡ v.deep

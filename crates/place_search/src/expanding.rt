@@ -1,6 +1,7 @@
 //! A place whose choices are all tried.
 
 ghost use Rattle.std.specs.Prelude.{◌≡◌, ◌≢◌, ◌≤◌, ◌+◌, Err, true, false, length, IfOk, IsErrOf, OnOk};
+ghost use Rattle.place_search.specs.Graphs.{IsWithMore};
 ghost use Rattle.place_search.specs.Logs.{log_at, logs_of};
 ghost use Rattle.place_search.specs.Searching.{IsExpanded, IsReached, IsSearching, IsTask, setting_for};
 ghost use Rattle.place_search.specs.Visiting.{AreEndsFound, IsMore};
@@ -23,6 +24,7 @@ impl Searcher {
         ensures place { IfOk result (λ from. from.place ≡ place) }
         ensures searching { IsSearching task.now self.new }
         ensures visited { self.new.visited ≡ self.old.visited }
+        ensures graph { self.new.graph ≡ self.old.graph }
     {
         let log = log_of(task.alloc, &self.visited.rows, place)?;
         self.moved = true;
@@ -33,15 +35,16 @@ impl Searcher {
     }
 
     /// Tries each choice of each hart at a place that was visited, and visits the places to which their events lead. A place at
-    /// which the run has ended has none; and one whose log is as long as the step limit is left, and that is kept in mind.
+    /// which the run has ended has none, and is noted; and one whose log is as long as the step limit is left, and that is kept in mind.
     pub(crate) fn expand(&mut self, task: &Task, place: u32) -> Result<(), Stop>
         requires task { IsTask task.now }
         requires searching { IsSearching task.now self.old }
         requires place { place ≤ length self.old.visited.rows.items }
         ensures searching { IsSearching task.now self.new }
         ensures more { IsMore self.old.visited self.new.visited }
+        ensures graph { IsWithMore self.old.graph self.new.graph }
         ensures expanded { OnOk result (self.new.visited.deep ≡ false
-            → IsExpanded (setting_for task.now) task.now.settle (logs_of self.new.visited.rows.items)
+            → IsExpanded (setting_for task.now) task.now.settle (logs_of self.new.visited.rows.items) self.new.graph place
             (log_at self.new.visited.rows.items place)) }
         ensures ends { result ≢ Err Stop.Memory → AreEndsFound (setting_for task.now) self.old.visited
             → AreEndsFound (setting_for task.now) self.new.visited }
@@ -50,6 +53,7 @@ impl Searcher {
     {
         let from = self.reach(task, place)?;
         if self.made.parts.ended.is_some() {
+            self.graph.add_end(place)?;
             return Ok(());
         }
         if from.log.len() >= task.limits.steps as usize {

@@ -1,29 +1,29 @@
-//! The keys of the places that were visited.
+//! The keys of the places that were visited, each with the number of its place.
 
-ghost use Rattle.std.specs.Prelude.{◌≡◌, [], ◌∷◌, false, map, bytes_eq, IfOk, OnOk, OnErr};
-ghost use Rattle.std.specs.List.{list_any};
+ghost use Rattle.std.specs.Prelude.{◌≡◌, [], ◌∷◌, bytes_eq, IfOk, OnOk, OnErr, None};
 ghost use Rattle.std.specs.List.Sorted.{IsPermutation};
+ghost use Rattle.std.specs.Map.{lookup};
 ghost use Rattle.place_keys.specs.{MappedPages.AddsUp, Packed.packed, PartWords.parts_words};
 
 use page_map::PageMap;
 use place_keys::{pack, write_place};
 use process::Parts;
 use std::alloc::{AllocError, Global};
-use std::collections::HashSet;
+use std::collections::HashMap;
 use std::marker::Model;
 
-/// The keys of the places that were visited. Whole keys are compared.
+/// The keys of the places that were visited, each with the number of its place. Whole keys are compared.
 #[derive(Drop)]
 pub(crate) struct Keys {
-    known: HashSet<Vec<u8>>,
+    known: HashMap<Vec<u8>, u32>,
 }
 
 impl Model for Keys {
     ghost use Rattle.std.specs.Prelude.{List, ℕ, map};
 
-    ghost Value = { List (List ℕ) };
+    ghost Value = { List (List ℕ × ℕ) };
 
-    ghost view = { λ k. map (λ key. key.items) k.known.keys };
+    ghost view = { λ k. map (λ entry. (entry.0.items, entry.1)) k.known.entries };
 }
 
 /// The key of the place at which these parts stand, the pages against those at the start. The free frames and the mapped pages must
@@ -59,25 +59,25 @@ impl Keys {
         ensures { result ≡ [] }
     {
         Keys {
-            known: HashSet::new(alloc),
+            known: HashMap::new(alloc),
         }
     }
 
-    /// Whether a key is known.
-    pub(crate) fn has(&self, key: &[u8]) -> bool
-        ensures { result ≡ list_any (bytes_eq key.now) self.now }
+    /// The number of the place that has a key.
+    pub(crate) fn find(&self, key: &[u8]) -> Option<u32>
+        ensures { result ≡ lookup (bytes_eq key.now) self.now }
     {
-        self.known.contains(key)
+        self.known.get(key).copied()
     }
 
-    /// Adds a key that isn't known. Where memory is short nothing changes.
-    pub(crate) fn add(&mut self, alloc: Global, key: &[u8]) -> Result<(), AllocError>
-        requires { list_any (bytes_eq key.now) self.old ≡ false }
-        ensures ok { OnOk result (IsPermutation (key.now ∷ self.old) self.new) }
+    /// Adds a key that isn't known, with the number of its place. Where memory is short nothing changes.
+    pub(crate) fn add(&mut self, alloc: Global, key: &[u8], place: u32) -> Result<(), AllocError>
+        requires { lookup (bytes_eq key.now) self.old ≡ None }
+        ensures ok { OnOk result (IsPermutation ((key.now, place) ∷ self.old) self.new) }
         ensures err { OnErr result (self.new ≡ self.old) }
     {
         let key = copy_of(alloc, key)?;
-        let _new = self.known.insert(key)?;
+        let _before = self.known.insert(key, place)?;
         Ok(())
     }
 }

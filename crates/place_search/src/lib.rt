@@ -6,6 +6,8 @@
 
 mod ends;
 mod expanding;
+mod graph;
+mod hopeless;
 mod keys;
 mod paths;
 mod remade;

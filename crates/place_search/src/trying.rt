@@ -2,15 +2,18 @@
 
 ghost use Rattle.std.specs.Prelude.{◌≡◌, ◌≢◌, ◌<◌, ◌+◌, ℕ, Err, true, false, length, All, IsErrOf, OnOk};
 ghost use Rattle.same_places.specs.Replayed.{StandAfter};
+ghost use Rattle.place_search.specs.Graphs.{IsWithMore};
 ghost use Rattle.place_search.specs.Logs.{logs_of};
 ghost use Rattle.place_search.specs.Searching.{IsExpanded, IsOpenAt, IsTask, IsTriedAt, setting_for};
 ghost use Rattle.place_search.specs.Visiting.{AreEndsFound, IsMore};
 
+use crate::graph::Graph;
 use crate::remade::Remade;
 use crate::stop::Stop;
 use crate::task::Task;
 use crate::visited::Visited;
 use crate::visiting::Reached;
+use graph_walks::Edge;
 use mach_types::{Choice, Hart};
 use place_keys::{equal_bytes_are_equal_words, equal_words_are_the_same_place};
 use same_places::{all_choices_are_listed, choices_at, try_choice};
@@ -22,6 +25,8 @@ use std::alloc::AllocError;
 pub(crate) struct Searcher {
     /// What was visited.
     pub(crate) visited: Visited,
+    /// Where the events of places lead.
+    pub(crate) graph: Graph,
     /// The parts with which choices are tried.
     pub(crate) made: Remade,
     /// Whether these may stand elsewhere than at the place whose choices are tried.
@@ -36,6 +41,7 @@ impl Searcher {
         ensures stands { OnOk result (StandAfter (setting_for task.now) from.now.log.items self.new.made.parts) }
         ensures open { IsOpenAt task.now self.new from.now }
         ensures visited { self.new.visited ≡ self.old.visited }
+        ensures graph { self.new.graph ≡ self.old.graph }
         ensures start { self.new.made.start ≡ self.old.made.start }
         ensures total { self.new.made.total ≡ self.old.made.total }
     {
@@ -60,8 +66,9 @@ impl Searcher {
         requires hart { hart.0 < task.now.limits.harts }
         ensures open { IsOpenAt task.now self.new from.now }
         ensures more { IsMore self.old.visited self.new.visited }
+        ensures graph { IsWithMore self.old.graph self.new.graph }
         ensures tried { OnOk result (IsTriedAt (setting_for task.now) task.now.settle (logs_of self.new.visited.rows.items)
-            from.now.log.items hart.0 choice) }
+            self.new.graph from.now.place from.now.log.items hart.0 choice) }
         ensures ends { result ≢ Err Stop.Memory → AreEndsFound (setting_for task.now) self.old.visited
             → AreEndsFound (setting_for task.now) self.new.visited }
         ensures full { IsErrOf result Stop.Places → length self.new.visited.rows.items + 1 ≡ task.now.most }
@@ -79,8 +86,12 @@ impl Searcher {
                     return Err(Stop::Unsettled);
                 }
                 let entries = self.made.settle(task, &from.log, entry)?;
-                self.visited
-                    .visit(task.alloc, task.most, from, entries, &self.made)
+                let to = self
+                    .visited
+                    .visit(task.alloc, task.most, from, entries, &self.made)?;
+                let from = from.place;
+                self.graph.add_edge(Edge { from, to })?;
+                Ok(())
             }
             Err(_) => Ok(()),
         }
@@ -99,8 +110,9 @@ impl Searcher {
         requires hart { hart.0 < task.now.limits.harts }
         ensures open { IsOpenAt task.now self.new from.now }
         ensures more { IsMore self.old.visited self.new.visited }
+        ensures graph { IsWithMore self.old.graph self.new.graph }
         ensures tried { OnOk result (All (IsTriedAt (setting_for task.now) task.now.settle (logs_of self.new.visited.rows.items)
-            from.now.log.items hart.0) choices.now) }
+            self.new.graph from.now.place from.now.log.items hart.0) choices.now) }
         ensures ends { result ≢ Err Stop.Memory → AreEndsFound (setting_for task.now) self.old.visited
             → AreEndsFound (setting_for task.now) self.new.visited }
         ensures full { IsErrOf result Stop.Places → length self.new.visited.rows.items + 1 ≡ task.now.most }
@@ -119,8 +131,9 @@ impl Searcher {
         requires there { self.old.moved ≡ false }
         ensures open { IsOpenAt task.now self.new from.now }
         ensures more { IsMore self.old.visited self.new.visited }
+        ensures graph { IsWithMore self.old.graph self.new.graph }
         ensures expanded { OnOk result (IsExpanded (setting_for task.now) task.now.settle (logs_of self.new.visited.rows.items)
-            from.now.log.items) }
+            self.new.graph from.now.place from.now.log.items) }
         ensures ends { result ≢ Err Stop.Memory → AreEndsFound (setting_for task.now) self.old.visited
             → AreEndsFound (setting_for task.now) self.new.visited }
         ensures full { IsErrOf result Stop.Places → length self.new.visited.rows.items + 1 ≡ task.now.most }

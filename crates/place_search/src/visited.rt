@@ -1,7 +1,7 @@
 //! What was visited.
 
-ghost use Rattle.std.specs.Prelude.{◌≡◌, ◌<◌, ◌-◌, ◌+◌, ◌^◌, false, length, bytes_eq, OnErr, OnOk};
-ghost use Rattle.std.specs.List.{list_any};
+ghost use Rattle.std.specs.Prelude.{◌≡◌, ◌<◌, ◌-◌, ◌+◌, ◌^◌, length, bytes_eq, None, OnErr, OnOk};
+ghost use Rattle.std.specs.Map.{lookup};
 ghost use Rattle.place_search.specs.Visits.{IsAdded, IsFirst, IsNoted, IsUnchanged};
 
 use crate::ends::note_end;
@@ -17,7 +17,7 @@ use std::alloc::{AllocError, Global};
 pub(crate) struct Visited {
     /// The places, but for the first one, in the order in which they were visited.
     pub(crate) rows: Vec<Row>,
-    /// The keys of places that were visited.
+    /// The keys of places that were visited, with their numbers.
     pub(crate) keys: Keys,
     /// Each outcome that was found.
     pub(crate) outcomes: Vec<OutcomeFound>,
@@ -49,7 +49,7 @@ impl Visited {
         self.rows.len() as u32 + 1
     }
 
-    /// Adds a place whose key isn't known, and whose log has so many entries. Where memory is short nothing changes.
+    /// Adds a place whose key isn't known, and whose log has so many entries: it has the next number. Where memory is short nothing changes.
     pub(crate) fn add(
         &mut self,
         alloc: Global,
@@ -57,12 +57,14 @@ impl Visited {
         key: &[u8],
         depth: u32,
     ) -> Result<(), AllocError>
-        requires { list_any (bytes_eq key.now) self.old.keys ≡ false }
+        requires few { length self.old.rows.items < 2 ^ 32 - 1 }
+        requires new { lookup (bytes_eq key.now) self.old.keys ≡ None }
         ensures ok { OnOk result (IsAdded row key.now depth self.old self.new) }
         ensures err { OnErr result (IsUnchanged self.old self.new) }
     {
+        let place = self.places();
         self.rows.push(row)?;
-        match self.keys.add(alloc, key) {
+        match self.keys.add(alloc, key, place) {
             Ok(()) => {
                 self.deepest = self.deepest.max(depth);
                 Ok(())

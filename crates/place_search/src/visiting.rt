@@ -1,9 +1,9 @@
 //! A visit to a place to which an event has led, and settling steps after it.
 
-ghost use Rattle.std.specs.Prelude.{◌≡◌, ◌≢◌, Err, ◌<◌, ◌-◌, ◌+◌, ◌++◌, ◌∷◌, [], ◌^◌, length, IfOk, IsErrOf, OnOk};
+ghost use Rattle.std.specs.Prelude.{◌≡◌, ◌≢◌, Err, ◌<◌, ◌-◌, ◌+◌, ◌++◌, ◌∷◌, [], ◌^◌, length, IfOk, IsErrOf};
 ghost use Rattle.block_model.specs.Setting.{Setting};
 ghost use Rattle.place_keys.specs.{Packed.packed, PartWords.parts_words};
-ghost use Rattle.place_search.specs.Logs.{logs_of};
+ghost use Rattle.place_search.specs.Logs.{AreSingle, logs_of};
 ghost use Rattle.place_search.specs.Visiting.{AreEndsFound, HasVisited, IsKeyOf, IsMore, MayVisit};
 
 use crate::keys::key_of;
@@ -39,8 +39,8 @@ fn longer(alloc: Global, log: &[Entry], more: &[Entry]) -> Result<Vec<Entry>, Al
 }
 
 impl Visited {
-    /// Visits the place at which the parts stand after some entries more, unless it was visited: then nothing changes. Of entries of a
-    /// run that has come from a place that was visited, the key of the place is then that of one that was visited.
+    /// Visits the place at which the parts stand after some entries more, unless it was visited: then nothing changes. Answers the number
+    /// of the place: of entries of a run that has come from a place that was visited, the key of the place is that of the number.
     pub(crate) fn visit(
         &mut self,
         alloc: Global,
@@ -48,26 +48,28 @@ impl Visited {
         from: &Reached,
         mut entries: Vec<Entry>,
         made: &Remade,
-    ) -> Result<(), Stop>
+    ) -> Result<u32, Stop>
         requires few { length self.old.rows.items < most }
         requires log { length from.now.log.items + length entries.items < 2 ^ 32 }
         ensures kept { (s : Setting) → MayVisit s self.old from.now entries.items made.now
             → HasVisited s made.now.start self.new }
         ensures more { IsMore self.old self.new }
         ensures few { length self.new.rows.items < most }
-        ensures back { OnOk result ((s : Setting) → MayVisit s self.old from.now entries.items made.now
-            → IsKeyOf s made.now.start (logs_of self.new.rows.items) (packed (parts_words made.now.start made.now.parts))) }
+        ensures back { IfOk result (λ to. (s : Setting) → MayVisit s self.old from.now entries.items made.now
+            → IsKeyOf s made.now.start (logs_of self.new.rows.items) (packed (parts_words made.now.start made.now.parts), to)) }
         ensures ends { result ≢ Err Stop.Memory → (s : Setting) → MayVisit s self.old from.now entries.items made.now
             → AreEndsFound s self.old → AreEndsFound s self.new }
         ensures full { IsErrOf result Stop.Places → length self.new.rows.items + 1 ≡ most }
         ensures settled { result ≢ Err Stop.Unsettled }
+        ensures single { length entries.items ≡ 1 → AreSingle self.old.rows.items → AreSingle self.new.rows.items }
     {
         pages_add_up();
         let key = key_of(alloc, &made.parts, &made.start, made.total)?;
-        if self.keys.has(&key) {
-            return Ok(());
+        if let Some(known) = self.keys.find(&key) {
+            return Ok(known);
         }
-        if self.places() >= most {
+        let place = self.places();
+        if place >= most {
             return Err(Stop::Places);
         }
         let log = longer(alloc, &from.log, &entries)?;
@@ -78,6 +80,6 @@ impl Visited {
         };
         self.add(alloc, row, &key, log.len() as u32)?;
         self.note(alloc, &made.parts, &log)?;
-        Ok(())
+        Ok(place)
     }
 }

@@ -24,6 +24,7 @@ const OPTIONS: &str = "  --harts N   how many harts there are: 1 to 8 (default 2
   --places N  how many places are visited at most: 1 to 16000000 (default 1000000)
   --deep N    how many events lead to a place at most: 1 to 1000000 (default 100000)
   --scripts W whether a script of each outcome is printed: yes or no (default yes)
+  --without R which reduction is left out: local-steps, and each instruction of each thread leads to a place of its own (default none)
 ";
 
 /// The version (own).
@@ -38,7 +39,7 @@ fn words_behind(kind: CommandKind) -> &'static str {
         CommandKind::Explores =>
             "FILE [--harts N] [--frames N] [--steps N] [--seed N] [--policy P] [--calm N] [--runs N] [--until K] [--by B] [--jobs N] [--expect E]",
         CommandKind::Searches =>
-            "FILE [--harts N] [--frames N] [--places N] [--deep N] [--scripts W]",
+            "FILE [--harts N] [--frames N] [--places N] [--deep N] [--scripts W] [--without R]",
         CommandKind::Pairs => "FILE1 FILE2 SCRIPT [--harts N] [--frames N] [--steps N]",
     }
 }

@@ -1,5 +1,5 @@
 -- A run of any length is a run by choices, and ends as a place that was stored.
-use Rattle.std.proofs.Common.{◌≡◌, ℕ, ◌≤◌, Bool, List, [], ◌∷◌, Some, Ok, fold, refl, ap, ◌∙◌, subst, arith}
+use Rattle.std.proofs.Common.{◌≡◌, ℕ, ◌≤◌, Bool, List, [], ◌∷◌, Some, Ok, Contains, fold, refl, ap, ◌∙◌, subst}
 use Rattle.mach_types.specs.Events.{choice_of}
 use Rattle.mach_types.specs.declared.events.Choice.{Choice}
 use Rattle.mach_types.specs.declared.events.Entry.{Entry}
@@ -14,19 +14,17 @@ unfoldable use Rattle.block_model.specs.Plain.{plain_after}
 use Rattle.local_steps.proofs.Notions.{EndsSo}
 use Rattle.local_steps.specs.Runs.{MayCome, choices, total}
 use Rattle.local_steps.proofs.BlockRuns.{link_from, start_good}
-use Rattle.local_steps.proofs.WithAreas.{complete_with_areas}
 use Rattle.same_places.specs.Closed.{HasOutcome, after_logs}
 use Rattle.same_places.specs.FreeRuns.{IsFreeFrom, IsFreeRun}
 use Rattle.same_places.specs.Places.{alone}
 use Rattle.same_places.proofs.Laws.{allowed}
 use Rattle.block_model.specs.Standing.{IsStanding}
-use Rattle.settled_places.specs.SettledSearch.{IsSettledSearch}
-use Rattle.settled_places.specs.Settling.{settles_of}
-use Rattle.settled_places.proofs.Closed.{closed_by, starts}
+use Rattle.settled_places.specs.Budgets.{IsSettledSearchWithin, spent}
+use Rattle.settled_places.proofs.Closed.{all_stored, ends_in, starts}
 use Rattle.settled_places.proofs.Events.{IsWell}
 
 -- an entry that is decided where no event counts may come
-may_come : (s : Setting) (p : Plain) (h : ℕ) (c : Choice) (e : Entry) → decide_in 0 (plain_over p) c (here_in_plain s p h) ≡ Ok e → MayCome s p (h, c)
+pub may_come : (s : Setting) (p : Plain) (h : ℕ) (c : Choice) (e : Entry) → decide_in 0 (plain_over p) c (here_in_plain s p h) ≡ Ok e → MayCome s p (h, c)
 may_come s p h c e decided =
     let may = allowed 0 (plain_over p) c (here_in_plain s p h) e decided in
     record { goes = may.goes; lt = may.lt; free = may.free }
@@ -37,33 +35,27 @@ ends_from s [] p e free over = (over, refl)
 ends_from s (x ∷ log) p e free over =
     (may_come s p x.hart.0 (choice_of x) x free.0, ends_from s log (plain_next s p x) e free.1 over)
 
-costs_nothing : (log : List (ℕ × Choice)) → total (λ c. 0) log ≤ 0
-costs_nothing [] = omega arith
-costs_nothing (a ∷ log) = let rest = costs_nothing log in omega arith
+pub start_well : (s : Setting) → IsWell s (plain_start s)
+start_well s =
+    let v : Seen = record { setting = s; seed = 0; log = [] } in
+    record { good = start_good s; stands = subst (λ (p : Plain). IsStanding (alone s p)) (start_plain s) (standing v (start_run s)) }
 
-module _ (s : Setting) (threads : ℕ → Bool) (private : ℕ → ℕ → Bool) (logs : List (List Entry)) (found : IsSettledSearch s threads private logs) where
-  start_well : IsWell s (plain_start s)
-  start_well =
-      let v : Seen = record { setting = s; seed = 0; log = [] } in
-      record { good = start_good s; stands = subst (λ (p : Plain). IsStanding (alone s p)) (start_plain s) (standing v (start_run s)) }
-
+module _ (s : Setting) (threads : ℕ → Bool) (private : ℕ → ℕ → Bool) (cost : Choice → ℕ) (k : ℕ) (logs : List (List Entry))
+    (found : IsSettledSearchWithin s threads private cost k logs) where
   -- how a run by choices ends
-  ends : (log : List (ℕ × Choice)) (e : End) (out : List ℕ) → EndsSo s (plain_start s) log e out → HasOutcome (after_logs s logs) e out
-  ends log e out so =
-      let x = starts s threads private logs found start_well in
-      complete_with_areas s (settles_of threads) private (λ c. 0) _ (HasOutcome (after_logs s logs)) (closed_by s threads private logs found) (λ k m there. there.well.good) 0 (plain_start s) x.to log e out
-      (start_good s) x.there x.settles (costs_nothing log) so
+  ends : (log : List (ℕ × Choice)) (e : End) (out : List ℕ) → total cost log ≤ k → EndsSo s (plain_start s) log e out → HasOutcome (after_logs s logs) e out
+  ends = ends_in s threads private cost k (Contains logs) (all_stored s threads private cost k logs found) (plain_start s) (start_good s) (starts s threads private cost k logs found (start_well s))
 
-  pub free_ends : (log : List Entry) (e : End) → IsFreeRun s log → plain_over (plain_after s log) ≡ Some e → HasOutcome (after_logs s logs) e (plain_after s log).kernel.console
+  pub free_ends : (log : List Entry) (e : End) → IsFreeRun s log → spent cost log ≤ k → plain_over (plain_after s log) ≡ Some e → HasOutcome (after_logs s logs) e (plain_after s log).kernel.console
   unfolding plain_after
-  free_ends log e free over = ends (choices log) e (plain_after s log).kernel.console (ends_from s log (plain_start s) e free over)
+  free_ends log e free cheap over = ends (choices log) e (plain_after s log).kernel.console cheap (ends_from s log (plain_start s) e free over)
 
-  pub block_ends : (n : ℕ) (log : List Entry) (e : End) → IsBlockRun (with_steps n s) log → over_at (with_steps n s) (history (with_steps n s) log) ≡ Some e
+  pub block_ends : (n : ℕ) (log : List Entry) (e : End) → IsBlockRun (with_steps n s) log → spent cost log ≤ k → over_at (with_steps n s) (history (with_steps n s) log) ≡ Some e
       → HasOutcome (after_logs s logs) e (console (with_steps n s) (history (with_steps n s) log))
-  block_ends n log e run over =
+  block_ends n log e run cheap over =
       let t = with_steps n s in
       let v : Seen = record { setting = t; seed = 0; log = log } in
       let same = same_state v run in
-      ends (choices log) e (console t (history t log))
+      ends (choices log) e (console t (history t log)) cheap
       (subst (λ (m : Plain). EndsSo s m (choices log) e (console t (history t log))) (start_plain t)
       (link_from s n [] log e (console t (history t log)) run (ap plain_over same ∙ over) (ap (λ (p : Plain). p.kernel.console) same)))

@@ -1,7 +1,7 @@
-//! The law of such searches, as the contract of a function that does nothing.
+//! The laws of such searches, each as the contract of a function that does nothing.
 
-ghost use Rattle.std.specs.Prelude.{◌≡◌, ℕ, Bool, List, Some};
-ghost use Rattle.mach_types.specs.declared.{events.Entry.Entry, limits.End.End};
+ghost use Rattle.std.specs.Prelude.{◌≡◌, ◌≤◌, ℕ, Bool, List, Some};
+ghost use Rattle.mach_types.specs.declared.{events.Choice.Choice, events.Entry.Entry, limits.End.End};
 ghost use Rattle.block_model.specs.Deciding.{history, over_at};
 ghost use Rattle.block_model.specs.History.{console};
 ghost use Rattle.block_model.specs.Plain.{plain_after, plain_over};
@@ -9,6 +9,7 @@ ghost use Rattle.block_model.specs.Run.{IsBlockRun};
 ghost use Rattle.block_model.specs.Setting.{Setting, with_steps};
 ghost use Rattle.same_places.specs.Closed.{HasOutcome, after_logs};
 ghost use Rattle.same_places.specs.FreeRuns.{IsFreeRun};
+ghost use Rattle.settled_places.specs.Budgets.{IsSettledSearchWithin, spent};
 ghost use Rattle.settled_places.specs.SettledSearch.{IsSettledSearch};
 
 /// The places that a finished search stored have the outcome of every run that is over, though it stored none
@@ -26,5 +27,22 @@ pub fn settled_searches_are_complete()
         (logs : List (List Entry)) (log : List Entry) (e : End) → IsSettledSearch s threads private logs
         → IsBlockRun (with_steps n s) log
         → over_at (with_steps n s) (history (with_steps n s) log) ≡ Some e
+        → HasOutcome (after_logs s logs) e (console (with_steps n s) (history (with_steps n s) log)) }
+{}
+
+/// Where choices cost something, the places that a finished search stored whose runs have a budget have the
+/// outcome of every run that is over and whose choices cost no more than that.
+///
+/// Where a `preempt` costs 1 and all else nothing, these are the runs with at most so many preemptions.
+pub fn settled_searches_within_budgets_are_complete()
+    ensures free_runs { (s : Setting) (threads : ℕ → Bool) (private : ℕ → ℕ → Bool) (cost : Choice → ℕ) (k : ℕ)
+        (logs : List (List Entry)) (log : List Entry) (e : End)
+        → IsSettledSearchWithin s threads private cost k logs → IsFreeRun s log → spent cost log ≤ k
+        → plain_over (plain_after s log) ≡ Some e
+        → HasOutcome (after_logs s logs) e (plain_after s log).kernel.console }
+    ensures block_runs { (s : Setting) (threads : ℕ → Bool) (private : ℕ → ℕ → Bool) (cost : Choice → ℕ)
+        (k n : ℕ) (logs : List (List Entry)) (log : List Entry) (e : End)
+        → IsSettledSearchWithin s threads private cost k logs → IsBlockRun (with_steps n s) log
+        → spent cost log ≤ k → over_at (with_steps n s) (history (with_steps n s) log) ≡ Some e
         → HasOutcome (after_logs s logs) e (console (with_steps n s) (history (with_steps n s) log)) }
 {}

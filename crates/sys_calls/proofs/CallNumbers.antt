@@ -1,5 +1,5 @@
 -- The calls by their numbers, and which of them write nothing.
-use Rattle.sys_calls.proofs.Common.{◌≡◌, ◌≢◌, inl, inr, ℕ, Bool, true, false, cond, eqb, List, [], Option, Some, None, refl, sym, ap, ◌∙◌, ◌∷◌, Result, subst, CallDone, CallEnd, Errno, Errors, Here, IsAnswered, IsMade, Kernel, Map, Saved, Write, argument, int_argument, memory, refused, register, said, unless, call_of, called, call_number, moved_off, sched_setaffinity, futex, futex_wait, futex_wake, resumed, waited, frame_read, set_given, setaffinity_errors, operation, futex_errors, wait_errors, rt_sigreturn, IsOwnCall}
+use Rattle.sys_calls.proofs.Common.{◌≡◌, ◌≢◌, inl, inr, ℕ, Bool, true, false, cond, List, [], Option, Some, None, refl, sym, ap, ◌∙◌, ◌∷◌, Result, subst, CallDone, CallEnd, Errno, Errors, Here, IsAnswered, IsMade, Kernel, Map, Saved, Write, argument, int_argument, memory, refused, register, said, unless, call_of, called, call_number, moved_off, sched_setaffinity, futex, futex_requeue, futex_wait, futex_wake, is_wait, is_wake, requeue_errors, resumed, waited, frame_read, set_given, setaffinity_errors, operation, futex_errors, wait_errors, rt_sigreturn, IsOwnCall}
 use Rattle.block_model.specs.Beside.{Neighbour}
 
 -- the call that the number names
@@ -55,9 +55,10 @@ silent_wait h t = silent_unless h t (wait_errors h t) (record (said h t 0) { ker
 
 pub silent_futex : (h : Here) (t : ℕ) → (futex h t).entered ≡ []
 silent_futex h t =
-    let wakes = eqb (operation (int_argument h t 1)) 0 in
-    silent_unless h t (futex_errors h t) (cond wakes (futex_wait h t) (futex_wake h t))
-    (either_silent wakes (futex_wait h t) (futex_wake h t) (silent_wait h t) refl)
+    let op = operation (int_argument h t 1) in
+    silent_unless h t (futex_errors h t) _
+    (either_silent (is_wait op) (futex_wait h t) _ (silent_wait h t)
+    (either_silent (is_wake op) (futex_wake h t) (futex_requeue h t) refl (silent_unless h t (requeue_errors h t) _ refl)))
 
 silent_resumed : (h : Here) (t : ℕ) (words : Option (List ℕ)) → (resumed h t words).entered ≡ []
 silent_resumed h t None = refl

@@ -1,5 +1,5 @@
 -- The words that most proofs of this crate speak of, in one place for their imports.
-pub use Rattle.block_model.proofs.Laws.{IsAgreed, agreed_called, any_live, areas_fit, child_not_held, child_same, ended_idle, left_idle, live_changed, longest_waits, ready_listed, registered_areas, running_is, state_now, tables_allowed, tables_woken, waited_idle, waits_elsewhere, wake_by, wake_keeps, woken_same}
+pub use Rattle.block_model.proofs.Laws.{IsAgreed, agreed_called, any_live, areas_fit, child_not_held, child_same, ended_idle, left_idle, live_changed, longest_waits, ready_listed, registered_areas, running_is, state_now, tables_allowed, tables_woken, waited_idle, waits_elsewhere, requeue_by, requeue_keeps, requeued_same, state_over, tables_requeued, woken_same}
 pub use Rattle.block_model.specs.Calls.{call_of, called}
 pub use Rattle.block_model.specs.Calls.Affinity.{getcpu, is_usable, moved_off, sched_getaffinity, sched_setaffinity, set_at, set_given, setaffinity_errors, written_unless_zero}
 pub use Rattle.block_model.specs.Calls.Answers.{CallDone, Errors, are_readable, are_writable, argument, call_number, double_written, int_argument, killed_in_call, negative, number_at, refused, returned, said, unless, word_written}
@@ -7,14 +7,14 @@ pub use Rattle.block_model.specs.Calls.Barriers.{answers, membarrier, running_ha
 pub use Rattle.block_model.specs.Calls.Cloning.{are_flags, child_file, clone, clone_child_cleartid, clone_child_settid, clone_parent_settid, has_flag, may_write, with_new_child}
 pub use Rattle.block_model.specs.Calls.Console.{Span, all_readable, bytes_from, bytes_of, is_elsewhere, room, spans_at, total, write, write_spans, writev, wrote}
 pub use Rattle.block_model.specs.Calls.Ending.{clearing, clears, ended_with, exit_group, is_last, last_exits, one_exits, woken_at_exit}
-pub use Rattle.block_model.specs.Calls.Futexes.{Woken, answered_wait, futex, futex_errors, futex_wait, futex_wake, operation, wait_errors, wake, woken_first}
+pub use Rattle.block_model.specs.Calls.Futexes.{Woken, answered_wait, counted, futex, futex_errors, futex_requeue, futex_wait, futex_wake, is_wait, is_wake, move, nobody, operation, requeue, requeue_errors, wait_errors, wake, woken_first}
 pub use Rattle.block_model.specs.Calls.Memory.{are_mapping_flags, changed_unless, mapped_or_refused, may_break, mmap, mprotect, permission_here, taken_by, unless_refused, zeros_if_mapped}
 pub use Rattle.block_model.specs.Calls.Sequences.{registers, registers_or_refused, rseq, unregisters, unregisters_or_refused}
 pub use Rattle.block_model.specs.Calls.Signals.{action_given, action_written, broken_wait, is_below_one, masked, post, refuses_signal, resumed, rt_sigaction, rt_sigprocmask, rt_sigreturn, send, tgkill, tkill, waits_in_vain, with_posted}
 pub use Rattle.block_model.specs.Here.{Here, is_writable, memory}
 pub use Rattle.block_model.specs.History.{file_among}
 pub use Rattle.block_model.specs.Ids.{id_of, without_id}
-pub use Rattle.block_model.specs.Kernel.{cleared, first_kernel, for_barriers, gone, had_child, left, next_number, paged, printed, registered, restricted, signalled, unregistered, waited, woken}
+pub use Rattle.block_model.specs.Kernel.{cleared, first_kernel, for_barriers, gone, had_child, left, next_number, paged, printed, registered, requeued, restricted, signalled, unregistered, waited, woken}
 pub use Rattle.block_model.specs.Tables.{AreSignalsOfLive, IsTables, on}
 pub use Rattle.kernel_threads.specs.Table.{IsTable, Table, answering, forget, interrupted, saved_of, with_answer, with_saved, with_start}
 pub use Rattle.mach_types.proofs.Laws.{each_byte-past, each_byte-same, each_byte-split, map_filters, map_stays, next_is_new, same_numbers, state_of-with_child_same, state_of-without_same, zeros_of-at}
@@ -58,7 +58,7 @@ pub use Rattle.sys_calls.specs.Registered.{HoldAreas, area_asked, areas_by_numbe
 pub use Rattle.sys_calls.specs.Remapped.{IsRemapped}
 pub use Rattle.sys_calls.specs.Signalled.{HoldSignals, mask_changed, sigaction_with, sigprocmask_done}
 pub use Rattle.sys_calls.specs.Tables.{HoldsTables}
-pub use Rattle.sys_calls.specs.Woken.{IsOnward, IsWoken, futex_of}
+pub use Rattle.sys_calls.specs.Woken.{IsOnward, IsWoken, compare_errors, futex_of}
 pub use Rattle.sys_calls.specs.declared.calling.CallEnd.{CallEnd}
 pub use Rattle.sys_calls.specs.declared.kernel.Kernel.{Kernel}
 pub use Rattle.sys_calls.specs.declared.rseq_areas.RegisteredArea.{RegisteredArea}

@@ -1,35 +1,69 @@
--- futex(2), wake: one after the other, the longest waiting first.
-use Rattle.sys_calls.proofs.Common.{◌≡◌, ◌≢◌, ℕ, zero, suc, ◌+◌, ◌-◌, ◌<◌, Bool, true, false, cond, eqb, List, [], ◌∷◌, ◌++◌, length, map, Option, Some, None, refl, sym, ap, subst, ◌∙◌, arith, append_assoc, append-nil, length-append, inl, inr, eq-eqb, ne_eqb, option_map, option_map_or, AreSaved, Here, HoldsTables, IsTables, Ready, Saved, Scheduling, file_among, with_ready, Threads, is_live, longest_waiter, running_on, waits, with_woken, Table, answering, saved_of, with_answer, woken, answered_wait, wake, woken_same, IsOnward, IsWoken, cases_eq, set-set, numbers, same_numbers, Woken, woken_first, tables_woken, wake_by, wake_keeps, waits_elsewhere, live_changed}
+-- futex(2), wake and requeue: one after the other, the longest waiting first.
+use Rattle.sys_calls.proofs.Common.{◌≡◌, ◌≢◌, ℕ, zero, suc, ◌+◌, ◌-◌, ◌<◌, ◌≤◌, Bool, true, false, cond, eqb, ltb, List, [], ◌∷◌, ◌++◌, length, map, Option, Some, None, refl, sym, ap, subst, ◌∙◌, arith, append_assoc, append-nil, length-append, inl, inr, eq-eqb, ltb-false, ltb-true, ne_eqb, option_map, option_map_or, AreSaved, Here, HoldsTables, IsTables, Ready, Saved, Scheduling, Waiting, file_among, with_ready, Threads, is_live, longest_waiter, running_on, waits, with_saved, with_state, with_waiter, with_woken, Table, Thread, state_over, answering, saved_of, with_answer, woken, answered_wait, move, nobody, requeue, requeued, requeued_same, woken_same, IsOnward, IsWoken, cases_eq, set-set, numbers, same_numbers, Woken, woken_first, tables_requeued, tables_woken, requeue_by, requeue_keeps, waits_elsewhere, live_changed}
 use Rattle.block_model.specs.Record.{Kernel}
+use Rattle.kernel_threads.specs.Table.{SavedList, saved_if}
+use Rattle.mach_types.specs.declared.threads.ThreadState.{ThreadState}
 use Rattle.kernel_threads.proofs.Laws.{saved_of-answered, saved_of-with_answer_other}
 use Rattle.sys_calls.specs.declared.kernel.Kernel.{Kernel as Tables}
-use Rattle.sys_calls.proofs.Laws.{held_is, holds_itself, holds_woken, record_with}
+use Rattle.sys_calls.proofs.Laws.{held_is, holds_itself, holds_requeued, holds_woken, record_with}
 
--- threads that were woken before others
+-- threads before others
 abbrev pub woken_before : List ℕ → Woken → Woken
 woken_before us rest = record { threads = us ++ rest.threads; kernel = rest.kernel }
 
--- where nobody waits, nobody is woken; else one more is
-abbrev wake_from : ℕ → ℕ → Kernel → Option ℕ → Woken
-wake_from n at k o = option_map_or (λ u. woken_first u (wake n at (woken u k))) o (record { threads = []; kernel = k })
+-- where nobody waits, nobody goes; else one more does
+abbrev one_more : (ℕ → Kernel) → (Kernel → Woken) → Kernel → Option ℕ → Woken
+one_more after by k o = option_map_or (λ u. woken_first u (by (after u))) o (nobody k)
 
-pub wake_nobody : (n at : ℕ) (k : Kernel) → longest_waiter at k.threads ≡ None → wake n at k ≡ record { threads = []; kernel = k }
-wake_nobody zero at k none = refl
-wake_nobody (suc n) at k none = ap (wake_from n at k) none
+pub nobody_goes : (n more at to : ℕ) (k : Kernel) → longest_waiter at k.threads ≡ None → requeue n more at to k ≡ nobody k
+nobody_goes zero zero at to k none = refl
+nobody_goes zero (suc more) at to k none = ap (one_more (λ u. requeued u to k) (move more at to) k) none
+nobody_goes (suc n) more at to k none = ap (one_more (λ u. woken u k) (requeue n more at to) k) none
 
-pub wake_next : (n at u : ℕ) (k : Kernel) → longest_waiter at k.threads ≡ Some u → wake (suc n) at k ≡ woken_first u (wake n at (woken u k))
-wake_next n at u k is = ap (wake_from n at k) is
+-- a thread is woken, or waits at another address
+abbrev pub taken : Bool → ℕ → ℕ → Kernel → Kernel
+taken wakes u to k = cond wakes (woken u k) (requeued u to k)
 
--- no wake changes a page
-pub wake_pages : (n at : ℕ) (k : Kernel) → (wake n at k).kernel.pages ≡ k.pages
-wake_pages = wake_keeps (λ a b. b.pages ≡ a.pages) (λ k. refl) (λ u k after waiting rest. rest)
+-- which it is where so many went before it: those first in line are woken
+pub next_goes : (most more count at to u : ℕ) (k : Kernel) (wakes : Bool) → ltb count most ≡ wakes → count < most + more → longest_waiter at k.threads ≡ Some u
+    → requeue (most - count) (more - (count - most)) at to k ≡ woken_first u (requeue (most - (count + 1)) (more - (count + 1 - most)) at to (taken wakes u to k))
+next_goes most more count at to u k true is lt longest =
+    let before : count < most = ltb-true count most is in
+    let left : most - count ≡ suc (most - (count + 1)) = omega arith in
+    let none : count - most ≡ count + 1 - most = omega arith in
+    ap (λ (n : ℕ). requeue n (more - (count - most)) at to k) left
+    ∙ ap (one_more (λ u. woken u k) (requeue (most - (count + 1)) (more - (count - most)) at to) k) longest
+    ∙ ap (λ (d : ℕ). woken_first u (requeue (most - (count + 1)) (more - d) at to (woken u k))) none
+next_goes most more count at to u k false is lt longest =
+    let behind : most ≤ count = ltb-false count most is in
+    let none : most - count ≡ 0 = omega arith in
+    let none_too : 0 ≡ most - (count + 1) = omega arith in
+    let left : more - (count - most) ≡ suc (more - (count + 1 - most)) = omega arith in
+    ap (λ (n : ℕ). requeue n (more - (count - most)) at to k) none ∙ ap (λ (n : ℕ). move n at to k) left
+    ∙ ap (one_more (λ u. requeued u to k) (move (more - (count + 1 - most)) at to) k) longest
+    ∙ ap (λ (n : ℕ). woken_first u (requeue n (more - (count + 1 - most)) at to (requeued u to k))) none_too
 
--- what of the longest waiting is woken next is woken behind the ones before
-pub before_next : (us : List ℕ) (n at u : ℕ) (k : Kernel) → longest_waiter at k.threads ≡ Some u
-    → woken_before us (wake (suc n) at k) ≡ woken_before (us ++ u ∷ []) (wake n at (woken u k))
-before_next us n at u k is =
-    let rest = wake n at (woken u k) in
-    ap (woken_before us) (wake_next n at u k is) ∙ ap (λ (ts : List ℕ). record { threads = ts; kernel = rest.kernel }) (sym (append_assoc us (u ∷ []) rest.threads))
+-- no wake and no requeue changes a page
+pub requeue_pages : (n more at to : ℕ) (k : Kernel) → (requeue n more at to k).kernel.pages ≡ k.pages
+requeue_pages =
+    requeue_keeps (λ a b. b.pages ≡ a.pages) (λ k. refl) (λ u k after waiting rest. rest) (λ u to k after waiting rest. rest)
+
+-- what goes before others stands before them
+pub before_next : (us : List ℕ) (u : ℕ) (rest : Woken) → woken_before us (woken_first u rest) ≡ woken_before (us ++ u ∷ []) rest
+before_next us u rest = ap (λ (ts : List ℕ). record { threads = ts; kernel = rest.kernel }) (sym (append_assoc us (u ∷ []) rest.threads))
+
+-- a thread waits, whatever it did before; and is saved with this, whatever it was saved with
+pub waiter_over : (t at : ℕ) (st : ThreadState) (ts : Threads) → with_waiter t at (with_state t st ts) ≡ with_waiter t at ts
+waiter_over t at st ts =
+    ap (λ (live : List Thread). record { live = live; given = ts.given; waiters = ts.waiters ++ t ∷ [] }) (state_over t (Waiting at) st ts.live)
+
+pub saved_over : (t : ℕ) (a b : Option Saved) (saved : SavedList) → with_saved t a (with_saved t b saved) ≡ with_saved t a saved
+saved_over t a b [] = refl
+saved_over t a b (x ∷ saved) = λ i. over_one (eqb x.0 t) refl i ∷ saved_over t a b saved i
+  where
+    over_one : (c : Bool) → eqb x.0 t ≡ c → saved_if t a (cond c (x.0, b) x) ≡ cond c (x.0, a) x
+    over_one true is = ap (λ d. cond d (x.0, a) (x.0, b)) is
+    over_one false is = ap (λ d. cond d (x.0, a) x) is
 
 -- an answer that is given twice is the same
 twice : (x : Saved) → answering 0 (answering 0 x) ≡ answering 0 x
@@ -77,53 +111,81 @@ quiet_woken value t u before after is none = ap (saved_of t) is ∙ (elim (cases
 ])
 
 -- who runs isn't woken
-pub runs_alone : (harts h t at n : ℕ) (here : Here) (f : Saved) (k : Kernel) → IsTables harts k.threads k.scheduling → running_on h k.threads ≡ Some t
-    → file_among (map (answered_wait here) (wake n at k).threads) t f ≡ f
-runs_alone harts h t at n here f =
-    wake_by (λ n k done. IsTables harts k.threads k.scheduling → running_on h k.threads ≡ Some t → file_among (map (answered_wait here) done.threads) t f ≡ f)
-    (λ n k tables runs. refl) (λ u n k rest waiting is tables runs.
+pub runs_alone : (harts h t n more at to : ℕ) (here : Here) (f : Saved) (k : Kernel) → IsTables harts k.threads k.scheduling → running_on h k.threads ≡ Some t
+    → file_among (map (answered_wait here) (requeue n more at to k).threads) t f ≡ f
+runs_alone harts h t n more at to here f =
+    requeue_by (λ k done. IsTables harts k.threads k.scheduling → running_on h k.threads ≡ Some t → file_among (map (answered_wait here) done.threads) t f ≡ f)
+    (λ k tables runs. refl)
+    (λ u k rest waiting is tables runs.
     rw (ne_eqb u t (waits_elsewhere harts h t u k.threads k.scheduling tables runs waiting))
-    (is (tables_woken harts u k.threads k.scheduling tables waiting) (woken_same harts u k.threads k.scheduling tables waiting h ∙ runs))) n at
+    (is (tables_woken harts u k.threads k.scheduling tables waiting) (woken_same harts u k.threads k.scheduling tables waiting h ∙ runs)))
+    (λ u to k rest waiting is tables runs.
+    rw (ne_eqb u t (waits_elsewhere harts h t u k.threads k.scheduling tables runs waiting))
+    (is (tables_requeued harts u to k.threads k.scheduling tables waiting) (requeued_same harts u to k.threads k.scheduling tables waiting h ∙ runs)))
+    n more at to
 
--- so many of the threads were woken, these ones; what is left to wake is woken behind them
-pub record IsWaking (h : Here) (k : Tables) (k' : Tables) (most : ℕ) (at : ℕ) (count : ℕ) : Type 0 where
+-- so many of the threads went, these ones; what is left to go goes behind them
+pub record IsWaking (h : Here) (k : Tables) (k' : Tables) (most : ℕ) (more : ℕ) (at : ℕ) (to : ℕ) (count : ℕ) : Type 0 where
   pub us : List ℕ
   pub number : length us ≡ count
-  pub rest : wake most at h.kernel ≡ woken_before us (wake (most - count) at (record_with k' h.kernel))
+  pub rest : requeue most more at to h.kernel ≡ woken_before us (requeue (most - count) (more - (count - most)) at to (record_with k' h.kernel))
   pub kept : AreSaved h.file k.threads → AreSaved (λ u. file_among (map (answered_wait h) us) u (h.file u)) k'.threads
 
--- at first none was
-pub waking_none : (h : Here) (k : Tables) (most at : ℕ) → HoldsTables k h.kernel → IsWaking h k k most at 0
-waking_none h k most at told = record {
-  us = [];
-  number = refl;
-  rest = ap (wake most at) (sym (held_is k h.kernel told)) ∙ ap (λ (n : ℕ). wake n at (record_with k h.kernel)) (let e : most ≡ most - 0 = omega arith in e);
-  kept = λ all. all;
-}
+-- at first none did
+pub waking_none : (h : Here) (k : Tables) (most more at to : ℕ) → HoldsTables k h.kernel → IsWaking h k k most more at to 0
+waking_none h k most more at to told =
+    let all : most ≡ most - 0 = omega arith in
+    let all_more : more ≡ more - (0 - most) = omega arith in
+    record {
+      us = [];
+      number = refl;
+      rest = λ i. requeue (all i) (all_more i) at to (sym (held_is k h.kernel told) i);
+      kept = λ all. all;
+    }
 
--- then one more was
-pub waking_more : (h : Here) (k k' k'' : Tables) (most at count u : ℕ) → count < most → IsWaking h k k' most at count → longest_waiter at k'.threads.threads ≡ Some u
-    → k''.threads.threads ≡ with_woken u k'.threads.threads → k''.threads.saved ≡ with_answer u 0 k'.threads.saved → k''.ready ≡ with_ready u k'.ready → k'' ≡ record k' { threads = k''.threads; ready = k''.ready }
-    → IsWaking h k k'' most at (count + 1)
-waking_more h k k' k'' most at count u lt waking longest threads saved ready others =
-    let left : most - count ≡ suc (most - (count + 1)) = omega arith in
-    let last = woken u (record_with k' h.kernel) in
-    let held : HoldsTables k'' last = subst (λ (x : Tables). HoldsTables x last) (sym others) (holds_woken (holds_itself k' h.kernel) u k''.threads k''.ready threads ready) in
-    let now : last ≡ record_with k'' h.kernel = sym (held_is k'' last held) in
+-- the tables once one more did
+pub holds_taken : (k' k'' : Tables) (wakes : Bool) (u to : ℕ) (r : Kernel)
+    → k''.threads.threads ≡ cond wakes (with_woken u k'.threads.threads) (with_waiter u to (with_woken u k'.threads.threads))
+    → k''.ready ≡ cond wakes (with_ready u k'.ready) k'.ready → k'' ≡ record k' { threads = k''.threads; ready = k''.ready }
+    → HoldsTables k'' (taken wakes u to (record_with k' r))
+holds_taken k' k'' true u to r threads ready others =
+    subst (λ (x : Tables). HoldsTables x (woken u (record_with k' r))) (sym others) (holds_woken (holds_itself k' r) u k''.threads k''.ready threads ready)
+holds_taken k' k'' false u to r threads ready others =
+    subst (λ (x : Tables). HoldsTables x (requeued u to (record_with k' r))) (sym others)
+    (holds_requeued (holds_itself k' r) u to k''.threads k''.ready threads ready)
+
+-- and nothing beside them changed
+beside_taken : (k'' : Tables) (wakes : Bool) (u to : ℕ) (k : Kernel) → record_with k'' (taken wakes u to k) ≡ record_with k'' k
+beside_taken k'' true u to k = refl
+beside_taken k'' false u to k = refl
+
+-- then one more did
+pub waking_more : (h : Here) (k k' k'' : Tables) (most more at to count u : ℕ) (wakes : Bool) → ltb count most ≡ wakes → count < most + more
+    → IsWaking h k k' most more at to count → longest_waiter at k'.threads.threads ≡ Some u
+    → k''.threads.threads ≡ cond wakes (with_woken u k'.threads.threads) (with_waiter u to (with_woken u k'.threads.threads))
+    → k''.threads.saved ≡ with_answer u 0 k'.threads.saved → k''.ready ≡ cond wakes (with_ready u k'.ready) k'.ready
+    → k'' ≡ record k' { threads = k''.threads; ready = k''.ready }
+    → IsWaking h k k'' most more at to (count + 1)
+waking_more h k k' k'' most more at to count u wakes is lt waking longest threads saved ready others =
+    let last = taken wakes u to (record_with k' h.kernel) in
+    let now : last ≡ record_with k'' h.kernel =
+    sym (held_is k'' last (holds_taken k' k'' wakes u to h.kernel threads ready others)) ∙ beside_taken k'' wakes u to (record_with k' h.kernel) in
+    let left = requeue (most - (count + 1)) (more - (count + 1 - most)) at to in
     record {
       us = waking.us ++ u ∷ [];
       number = length-append waking.us (u ∷ []) ∙ ap (λ (n : ℕ). n + 1) waking.number;
-      rest = waking.rest ∙ ap (λ (n : ℕ). woken_before waking.us (wake n at (record_with k' h.kernel))) left ∙ before_next waking.us (most - (count + 1)) at u (record_with k' h.kernel) longest
-          ∙ ap (λ (r : Kernel). woken_before (waking.us ++ u ∷ []) (wake (most - (count + 1)) at r)) now;
+      rest = waking.rest ∙ ap (woken_before waking.us) (next_goes most more count at to u (record_with k' h.kernel) wakes is lt longest)
+          ∙ before_next waking.us u (left last) ∙ ap (λ (r : Kernel). woken_before (waking.us ++ u ∷ []) (left r)) now;
       kept = λ all. kept_answered 0 u (λ v. file_among (map (answered_wait h) waking.us) v (h.file v)) (λ v. file_among (map (answered_wait h) (waking.us ++ u ∷ [])) v (h.file v))
           k'.threads k''.threads saved (after_own h waking.us u (h.file u) refl) (λ v ne. after_other h waking.us u v (h.file v) ne) (waking.kept all);
     }
 
--- at last nobody waits any more, or all were woken
-pub woken_all : (h : Here) (k k' : Tables) (most at count : ℕ) → IsWaking h k k' most at count → wake (most - count) at (record_with k' h.kernel) ≡ record { threads = []; kernel = record_with k' h.kernel }
-    → IsWoken h k k' most at count
-woken_all h k k' most at count waking over =
-    let is : wake most at h.kernel ≡ record { threads = waking.us; kernel = record_with k' h.kernel } =
+-- at last nobody waits any more, or all went
+pub woken_all : (h : Here) (k k' : Tables) (most more at to count : ℕ) → IsWaking h k k' most more at to count
+    → requeue (most - count) (more - (count - most)) at to (record_with k' h.kernel) ≡ nobody (record_with k' h.kernel)
+    → IsWoken h k k' (requeue most more at to h.kernel) count
+woken_all h k k' most more at to count waking over =
+    let is : requeue most more at to h.kernel ≡ record { threads = waking.us; kernel = record_with k' h.kernel } =
     waking.rest ∙ ap (woken_before waking.us) over ∙ ap (λ (us : List ℕ). record { threads = us; kernel = record_with k' h.kernel }) (append-nil waking.us) in
     record {
       number = sym waking.number ∙ ap (λ (w : Woken). length w.threads) (sym is);
@@ -136,15 +198,43 @@ woken_all h k k' most at count waking over =
 pub onward_still : (k : Tables) → IsOnward k k
 onward_still k = record { tables = λ harts holds. holds; running = λ j. refl; quiet = λ t q. q; live = λ t. refl; numbers = refl; signals = refl; areas = refl }
 
-pub onward_more : (k k' k'' : Tables) (harts u : ℕ) → IsTables harts k.threads.threads k.ready → IsOnward k k' → waits k'.threads.threads u
-    → k''.threads.threads ≡ with_woken u k'.threads.threads → k''.threads.saved ≡ with_answer u 0 k'.threads.saved → k''.ready ≡ with_ready u k'.ready → k'' ≡ record k' { threads = k''.threads; ready = k''.ready } → IsOnward k k''
-onward_more k k' k'' harts u holds onward waiting threads saved ready others = record {
-  tables = λ n all. subst (λ (ts : Threads). IsTables n ts k''.ready) (sym threads) (subst (λ (sc : Scheduling). IsTables n (with_woken u k'.threads.threads) sc) (sym ready)
-      (tables_woken n u k'.threads.threads k'.ready (onward.tables n all) waiting));
-  running = λ j. ap (running_on j) threads ∙ woken_same harts u k'.threads.threads k'.ready (onward.tables harts holds) waiting j ∙ onward.running j;
-  quiet = λ t q. quiet_woken 0 t u k'.threads k''.threads saved (onward.quiet t q);
-  live = λ t. ap (is_live t) threads ∙ live_changed u t Ready k'.threads.threads ∙ onward.live t;
-  numbers = ap (λ (ts : Threads). numbers ts.live) threads ∙ same_numbers u Ready k'.threads.threads.live ∙ onward.numbers;
-  signals = ap (λ (x : Tables). x.signals) others ∙ onward.signals;
-  areas = ap (λ (x : Tables). x.areas) others ∙ onward.areas;
+-- one that waited is woken, or waits at another address
+abbrev its_threads : Bool → ℕ → ℕ → Threads → Threads
+its_threads wakes u to ts = cond wakes (with_woken u ts) (with_waiter u to (with_woken u ts))
+
+pub record IsTaken (harts u : ℕ) (ts us : Threads) (sc sd : Scheduling) : Type 0 where
+  pub tables : (n : ℕ) → IsTables n ts sc → IsTables n us sd
+  pub running : (j : ℕ) → running_on j us ≡ running_on j ts
+  pub live : (t : ℕ) → is_live t us ≡ is_live t ts
+  pub numbers : numbers us.live ≡ numbers ts.live
+
+pub threads_taken : (harts u to : ℕ) (wakes : Bool) (ts : Threads) (sc : Scheduling) → IsTables harts ts sc → waits ts u
+    → IsTaken harts u ts (its_threads wakes u to ts) sc (cond wakes (with_ready u sc) sc)
+threads_taken harts u to true ts sc holds waiting = record {
+  tables = λ n all. tables_woken n u ts sc all waiting;
+  running = woken_same harts u ts sc holds waiting;
+  live = λ t. live_changed u t Ready ts;
+  numbers = same_numbers u Ready ts.live;
 }
+threads_taken harts u to false ts sc holds waiting = record {
+  tables = λ n all. tables_requeued n u to ts sc all waiting;
+  running = requeued_same harts u to ts sc holds waiting;
+  live = λ t. live_changed u t (Waiting to) (with_woken u ts) ∙ live_changed u t Ready ts;
+  numbers = same_numbers u (Waiting to) (with_woken u ts).live ∙ same_numbers u Ready ts.live;
+}
+
+pub onward_more : (k k' k'' : Tables) (harts u to : ℕ) (wakes : Bool) → IsTables harts k.threads.threads k.ready → IsOnward k k' → waits k'.threads.threads u
+    → k''.threads.threads ≡ its_threads wakes u to k'.threads.threads → k''.threads.saved ≡ with_answer u 0 k'.threads.saved
+    → k''.ready ≡ cond wakes (with_ready u k'.ready) k'.ready → k'' ≡ record k' { threads = k''.threads; ready = k''.ready } → IsOnward k k''
+onward_more k k' k'' harts u to wakes holds onward waiting threads saved ready others =
+    let is = threads_taken harts u to wakes k'.threads.threads k'.ready (onward.tables harts holds) waiting in
+    record {
+      tables = λ n all. subst (λ (ts : Threads). IsTables n ts k''.ready) (sym threads) (subst (λ (sc : Scheduling). IsTables n (its_threads wakes u to k'.threads.threads) sc) (sym ready)
+          (is.tables n (onward.tables n all)));
+      running = λ j. ap (running_on j) threads ∙ is.running j ∙ onward.running j;
+      quiet = λ t q. quiet_woken 0 t u k'.threads k''.threads saved (onward.quiet t q);
+      live = λ t. ap (is_live t) threads ∙ is.live t ∙ onward.live t;
+      numbers = ap (λ (ts : Threads). numbers ts.live) threads ∙ is.numbers ∙ onward.numbers;
+      signals = ap (λ (x : Tables). x.signals) others ∙ onward.signals;
+      areas = ap (λ (x : Tables). x.areas) others ∙ onward.areas;
+    }

@@ -1,5 +1,5 @@
 -- For the crates above too: the tables hold the kernel's record, and what stays of it where one table and its part change.
-use Rattle.sys_calls.proofs.Common.{◌≡◌, ℕ, ◌+◌, Bool, true, false, cond, List, refl, ap, ◌∙◌, without_area, Pages, Scheduling, with_ready, with_thread, Area, HoldsTables, Kernel, Ready, RegisteredArea, Signalling, Table, areas_by_number, Threads, with_child, with_clear, with_state, with_woken, Registered, cleared, had_child, left, woken, without, gone}
+use Rattle.sys_calls.proofs.Common.{◌≡◌, ℕ, ◌+◌, Bool, true, false, cond, List, refl, ap, ◌∙◌, without_area, Pages, Scheduling, with_ready, with_thread, Area, HoldsTables, Kernel, Ready, RegisteredArea, Signalling, Table, areas_by_number, Threads, with_child, with_clear, with_state, with_waiter, with_woken, Registered, cleared, had_child, left, requeued, woken, without, gone}
 use Rattle.arrayvec.specs.ArrayVec.{ArrayVec as Items}
 use Rattle.mach_types.specs.Kernel.Scheduling.{forget}
 use Rattle.mach_types.specs.Kernel.Signals as signals
@@ -59,6 +59,13 @@ module _ {k : Kernel} {r : model_of.Kernel} (held : HoldsTables k r) where
       → HoldsTables (record k { threads = table; ready = s }) (woken t r)
   holds_woken t table s threads ready =
       tables_hold (threads ∙ ap (with_woken t) held.threads) held.signals (ready ∙ ap (with_ready t) held.scheduling)
+      held.areas held.barriers held.console
+
+  -- one that waited does so at another address
+  pub holds_requeued : (t at : ℕ) (table : Table) (s : Scheduling) → table.threads ≡ with_waiter t at (with_woken t k.threads.threads)
+      → s ≡ k.ready → HoldsTables (record k { threads = table; ready = s }) (requeued t at r)
+  holds_requeued t at table s threads ready =
+      tables_hold (threads ∙ ap (λ (ts : Threads). with_waiter t at (with_woken t ts)) held.threads) held.signals (ready ∙ held.scheduling)
       held.areas held.barriers held.console
 
   -- a thread is gone

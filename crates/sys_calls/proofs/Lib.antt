@@ -13,8 +13,10 @@ pub mod FutexWakes
 pub mod GuestMemory
 pub mod KernelWrites
 pub mod Laws
+pub mod LimitWords
 pub mod PageCalls
 pub mod SignalPosting
 pub mod Spans
 pub mod TablesAfterCalls
 pub mod ThreadSignals
+pub mod WokenAnswers

@@ -34,7 +34,7 @@ use page_map::PageMap;
 const SET_SIZE: u32 = 8;
 
 /// Whether the thread that a call names is no live one; 0 names the caller.
-fn names_nobody(threads: &Threads, named: u32) -> bool
+pub fn names_nobody(threads: &Threads, named: u32) -> bool
     ensures { result ≡ not ((named == 0) || is_live named threads.now.threads) }
 {
     !(named == 0 || threads.state(Tid(named)).is_some())

@@ -10,6 +10,7 @@ ghost use Rattle.sys_calls.specs.Numbers.{IsOffPages, IsOther};
 
 use crate::affinity::{getcpu, sched_getaffinity};
 use crate::arguments::widened;
+use crate::asking::asked;
 use crate::cloning::clone;
 use crate::kernel::Kernel;
 use crate::memory::Written;
@@ -18,7 +19,6 @@ use crate::numbers::set_tid_address;
 use crate::signal_calls::{rt_sigaction, rt_sigprocmask};
 use crate::signal_posting::{tgkill, tkill};
 use crate::writing::{write, writev};
-use mach_types::errors::ENOSYS;
 use mach_types::{Errno, Hart, Saved, Tid};
 use page_map::PageMap;
 
@@ -116,6 +116,6 @@ fn answered_on_same_pages(
         GETPID => Ok(1),
         GETTID => Ok(tid.0),
         CLONE => clone(kernel, pages, written, tid, saved),
-        _ => Err(ENOSYS),
+        _ => asked(number, kernel, pages, written, tid, saved),
     }
 }

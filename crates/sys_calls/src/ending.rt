@@ -15,10 +15,10 @@ ghost use Rattle.sys_calls.specs.declared.calling.CallEnd.TheVariants as over;
 
 use crate::arguments::argument;
 use crate::calling::CallEnd;
-use crate::futexes::wake;
 use crate::kernel::Kernel;
 use crate::memory::{Written, write_word};
 use crate::rseq_areas::remove_area;
+use crate::waking::wake;
 use mach_types::{End, Hart, Saved, Tid, UserMem};
 use page_map::PageMap;
 

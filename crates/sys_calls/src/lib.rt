@@ -5,6 +5,7 @@
 
 mod affinity;
 mod arguments;
+mod asking;
 mod barrier_call;
 mod call_answers;
 mod calling;
@@ -13,13 +14,17 @@ mod console;
 mod ending;
 mod futexes;
 mod kernel;
+mod limits;
 mod memory;
 mod memory_calls;
 mod numbers;
+mod policies;
 mod rseq_areas;
 mod sequences;
 mod signal_calls;
 mod signal_posting;
+mod terminal;
+mod waking;
 mod writing;
 
 pub use arguments::{call_number, go_on, int_argument, signed_argument};

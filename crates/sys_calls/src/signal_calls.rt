@@ -1,5 +1,5 @@
-//! sigaction(2), sigprocmask(2) and sigreturn(2): what is done when a signal comes, and which ones a thread masks, is set; and a
-//! handler returns. A set of signals has 8 bytes, which a call is told (own: no other size).
+//! sigaction(2), sigprocmask(2), sigpending(2) and sigreturn(2): what is done when a signal comes, and which ones a thread masks, is
+//! set; which of these are pending is told; and a handler returns. A set of signals has 8 bytes, which a call is told (own: no other size).
 
 ghost use Rattle.std.specs.Prelude.{◌≡◌, ◌≤◌, ◌+◌, ◌==◌, ◌||◌, ◌&&◌, ℕ, [], ◌∷◌, not, false, is_some, if◌then◌else◌, unwrap_or, IfErr, IfOk, OnOk, IsTrue};
 ghost use Rattle.mach_types.specs.Bytes.{each_byte, word_at};
@@ -14,6 +14,7 @@ ghost use Rattle.sys_calls.specs.Tables.{HoldsTables};
 ghost use Rattle.sys_calls.specs.Made.{HasPages, IsMade};
 ghost use Rattle.sys_calls.specs.Registered.{int_in};
 ghost use Rattle.sys_calls.specs.Signalled.{mask_changed, pass_action, sigaction_with, sigprocmask_done};
+ghost use Rattle.sys_calls.specs.declared.kernel.Kernel.{Kernel as Tables};
 ghost use Rattle.mach_types.specs.Registers.{register};
 
 use crate::arguments::{argument, int_argument, signal_number};
@@ -297,6 +298,42 @@ pub fn rt_sigprocmask(
     let old = kernel.signals.mask_of(tid);
     change_mask(&mut kernel.signals, pages, tid, how, argument(saved, 1));
     write_set_unless_zero(pages, written, argument(saved, 2), old);
+    Ok(0)
+}
+
+/// What is pending for a thread of the signals that it masks.
+fn held_back(signals: &Signals, tid: Tid) -> u64
+    requires { IsTrue (spec.is_held tid.0 signals.now) }
+    ensures { result ≡ call.held_back tid.0 signals.now }
+{
+    signals.pending_of(tid) & signals.mask_of(tid)
+}
+
+/// rt_sigpending(set, size): writes what is pending for the thread of the signals that it masks. EINVAL for a size that isn't 8,
+/// EFAULT, in this order.
+pub fn rt_sigpending(
+    signals: &Signals,
+    pages: &mut PageMap,
+    written: &mut Written,
+    tid: Tid,
+    saved: &Saved,
+) -> Result<u32, Errno>
+    requires fresh { written.old.items ≡ [] }
+    requires held { IsTrue (spec.is_held tid.0 signals.now) }
+    ensures errno { IfErr result (λ e. 1 ≤ e.0) }
+    ensures answered { (h : Here) (k : Tables) → k.signals ≡ signals.now → HoldsTables k h.kernel
+        → IsRead h pages.old tid.0 saved.now
+        → IsAnswered h tid.0 k pages.old k pages.new written.new.items result (call.rt_sigpending h tid.0) }
+{
+    let at = argument(saved, 0);
+    if argument(saved, 1) != SET_SIZE {
+        return Err(EINVAL);
+    }
+    if !pages.writable(at, 8) {
+        return Err(EFAULT);
+    }
+    let set = held_back(signals, tid);
+    write_double(pages, written, at, set);
     Ok(0)
 }
 

@@ -11,15 +11,15 @@ ghost use Rattle.outcomes.specs.Answers.{IsAnswerFor, IsTold};
 ghost use Rattle.outcomes.specs.Outcome.{IsOutcome, call_between};
 ghost use Rattle.outcomes.specs.Reasons.{IsExplained};
 
-use crate::delivery::{Judged, tell};
 use crate::texts::{quiet_text, workers_text};
 use call_reasons::{Explained, Reason};
 use command_words::{Command, Source, WordsError, read_words};
+use outcomes::Judged;
 use outside::{Gate, Shelf, Sink};
-use run_texts::Output;
 use std::alloc::Global;
 use std::sync::Wait;
 use std::thread::Threads;
+use told_answers::tell;
 
 /// Does what the words ask for, and gives the exit status, with the reason that goes with it.
 ///

@@ -2,13 +2,6 @@
 #![tactic(auto)]
 
 mod calls;
-mod delivery;
-mod elf_places;
-mod exploring;
-mod fetching;
-mod pairing;
-mod searching;
-mod shown;
 mod texts;
 
 pub use calls::{rseq_explained, rseq_quiet};

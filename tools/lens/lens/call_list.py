@@ -87,8 +87,9 @@ def registers(history: History, machine: Machine, count: int, hart: int) -> list
 
 def told(history: History, call: Call, text: bytes | None) -> str:
     """A call as strace prints it, and behind it the place where it stands."""
-    form = calls.FORMS.get(call.number)
-    words = [word(history, kind, value) for kind, value in zip(form or 'x' * ARGUMENTS, call.arguments)]
+    form = calls.form_of(call.number, call.arguments)
+    counted = form if form is not None else zip('x' * ARGUMENTS, call.arguments)
+    words = [word(history, kind, value) for kind, value in counted]
     if text is not None and form:
         words[1] = literal(text)
     asked = f'{calls.name_of(call.number)}({", ".join(words)})'

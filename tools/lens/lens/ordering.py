@@ -167,6 +167,8 @@ class Orders:
         here = self.front[hart]
         for fact in record.facts:
             match fact:
+                case ThreadState(thread, 'sleeps') if thread != step.thread:
+                    pass  # it slept already, and sleeps at another word from now on: it does nothing by that
                 case ThreadState(thread, state):
                     if state in (CREATED, WOKEN, READY, SLEEPS, ENDED):
                         self.threads[thread] = later(self.threads[thread], here)

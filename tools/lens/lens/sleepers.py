@@ -4,12 +4,13 @@ from __future__ import annotations
 
 from collections.abc import Iterator
 
+from .calls import FUTEX_CLOCK, FUTEX_PRIVATE
 from .facts import SLEEPS, Called, ThreadState, Wrote
 from .output import DRAIN, Step
 from .values import Values
 
-FUTEX, WAKES = 'futex', (1, 129)
-"""FUTEX_WAKE, and FUTEX_WAKE_PRIVATE."""
+FUTEX, WAKES = 'futex', (1, 3, 4, 10)
+"""The operations that wake: FUTEX_WAKE, FUTEX_REQUEUE, FUTEX_CMP_REQUEUE and FUTEX_WAKE_BITSET."""
 WORD = 4
 
 
@@ -17,6 +18,11 @@ def of_sleeper(values: Values, thread: int, word: int) -> Iterator[str]:
     """What is known of the word at which a thread sleeps, a sentence a line."""
     slept = last_sleep(values, thread, word)
     if slept is None:
+        return
+    if slept.thread != thread:
+        yield f'    It waited at another word before: {by(values, slept)}, moved it here.'
+        yield f'    The word: {last_writer(values, word)}.'
+        yield f'    {last_wake(values, slept, word)}.'
         return
     before, now = value_when_asleep(values, slept), value_now(values, slept, word)
     is_now = 'is still' if now == before else f'was {before} then, and is {now} now'
@@ -26,7 +32,7 @@ def of_sleeper(values: Values, thread: int, word: int) -> Iterator[str]:
 
 
 def last_sleep(values: Values, thread: int, word: int) -> Step | None:
-    """The call at which a thread fell asleep."""
+    """The call at which a thread fell asleep, or began to sleep at this word by a call of another thread."""
     for record in reversed(values.trace.records):
         if ThreadState(thread, SLEEPS, word) in record.facts:
             return record.step
@@ -72,7 +78,11 @@ def last_wake(values: Values, slept: Step, word: int) -> str:
 
 
 def is_wake(called: Called | None, word: int) -> bool:
-    return called is not None and called.name == FUTEX and called.arguments[0] == word and called.arguments[1] in WAKES
+    """Whether a call wakes threads that sleep at a word (a requeue of none doesn't)."""
+    if called is None or called.name != FUTEX or called.arguments[0] != word:
+        return False
+    operation = called.arguments[1] & 0xFFFF_FFFF & ~(FUTEX_PRIVATE | FUTEX_CLOCK)
+    return operation in WAKES and called.arguments[2] & 0xFFFF_FFFF != 0
 
 
 def by(values: Values, step: Step) -> str:

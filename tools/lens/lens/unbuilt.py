@@ -4,46 +4,16 @@ from __future__ import annotations
 
 from collections.abc import Iterable, Iterator
 
+from .calls import UNBUILT
 from .facts import Answer, Called
 from .output import Step
 from .program import Program
 from .trace_text import Record
 
-NAMES = {
-    29: 'ioctl',
-    56: 'openat',
-    57: 'close',
-    62: 'lseek',
-    63: 'read',
-    73: 'ppoll',
-    79: 'newfstatat',
-    80: 'fstat',
-    99: 'set_robust_list',
-    101: 'nanosleep',
-    113: 'clock_gettime',
-    114: 'clock_getres',
-    115: 'clock_nanosleep',
-    129: 'kill',
-    132: 'sigaltstack',
-    133: 'rt_sigsuspend',
-    136: 'rt_sigpending',
-    137: 'rt_sigtimedwait',
-    160: 'uname',
-    167: 'prctl',
-    169: 'gettimeofday',
-    173: 'getppid',
-    174: 'getuid',
-    175: 'geteuid',
-    176: 'getgid',
-    177: 'getegid',
-    216: 'mremap',
-    233: 'madvise',
-    261: 'prlimit64',
-    278: 'getrandom',
-}
-"""Those that C libraries make (include/uapi/asm-generic/unistd.h); any other is named by its number."""
 OPERATION = 0x7F
 """What of the second argument of futex says what is done."""
+MASKED, MASK = (9, 10), 5
+"""The operations of futex that have a mask, and which argument that is."""
 
 
 def of_unbuilt(program: Program, records: Iterable[Record]) -> Iterator[str]:
@@ -63,8 +33,11 @@ def of_unbuilt(program: Program, records: Iterable[Record]) -> Iterator[str]:
 def name_of(called: Called) -> str:
     """The name of a call with its number, or of futex with its operation."""
     if called.name == 'futex':
-        return f'futex with operation {called.arguments[1] & OPERATION}'
+        operation = called.arguments[1] & OPERATION
+        masked = operation in MASKED and len(called.arguments) > MASK
+        mask = f' and mask {called.arguments[MASK] & 0xFFFF_FFFF:#x}' if masked else ''
+        return f'futex with operation {operation}{mask}'
     if not called.name.isdecimal():
         return called.name
     number = int(called.name)
-    return f'{NAMES[number]} ({number})' if number in NAMES else f'call {number}'
+    return f'{UNBUILT[number]} ({number})' if number in UNBUILT else f'call {number}'

@@ -1,6 +1,7 @@
 """`lens calls`: the kept list of one run."""
 import unittest
 
+from lens.calls import FUTEX, form_of, futex_operation, name_of
 from lens.trace_text import parse_trace
 from lens.traced_calls import list_traced_calls, traced_calls
 from lens.values import Values
@@ -21,6 +22,11 @@ WAIT = """0 exec 1 0000000000010000
   thread 1 woken
 {told}end open
 """
+
+
+class Names(unittest.TestCase):
+    def test_one_that_is_there_one_that_is_not_and_one_that_nobody_makes(self):
+        self.assertEqual([name_of(261), name_of(113), name_of(999)], ['prlimit64', 'clock_gettime', 'call 999'])
 
 
 @needs_program
@@ -72,6 +78,23 @@ class Traced(unittest.TestCase):
                 trace = parse_trace('a wait', WAIT.format(call=call, told=told).encode())
                 first, _ = traced_calls(Values(found(), trace))
                 self.assertEqual(first.answer, due)
+
+    def test_operations_of_futex(self):
+        """By their names, with the arguments that count."""
+        for operation, name in (
+            (0, 'FUTEX_WAIT'),
+            (131, 'FUTEX_REQUEUE_PRIVATE'),
+            (265, 'FUTEX_WAIT_BITSET|FUTEX_CLOCK_REALTIME'),
+            (138, 'FUTEX_WAKE_BITSET_PRIVATE'),
+            (5, '0x5'),
+        ):
+            self.assertEqual(futex_operation(operation), name)
+        arguments = [0x20000, 132, 1, 2, 0x20004, 7]
+        counted = [('p', 0x20000), ('futex', 132), ('d', 1), ('d', 2), ('p', 0x20004), ('d', 7)]
+        self.assertEqual(form_of(FUTEX, arguments), counted)
+        self.assertEqual(form_of(FUTEX, [0x20000, 138, 1, 0, 0, 7]), [*counted[:1], ('futex', 138), ('d', 1), ('mask', 7)])
+        self.assertEqual(form_of(FUTEX, [0x20000, 129, 1, 2]), [*counted[:1], ('futex', 129), ('d', 1)])
+        self.assertIsNone(form_of(999, arguments))
 
     def test_those_of_a_thread(self):
         listed = list(list_traced_calls(values(*self.RUNS['found'], 'found.trace'), 1))

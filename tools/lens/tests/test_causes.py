@@ -137,7 +137,33 @@ HANDLE_SEGV = HANDLE.replace('li a0, 10', 'sd zero, -56(sp)\nsd zero, -48(sp)\nl
 """rt_sigaction(SIGSEGV, ..)"""
 MASK_SEGV = 'li t0, 1024\nsd t0, -64(sp)\nli a0, 0\naddi a1, sp, -64\nli a7, 135\necall'
 
+MOVE_AND_SLEEP = """
+    la   s0, _start
+    li   a0, 0x10f00
+    li   a7, 220
+    ecall
+    beqz a0, wait
+move:
+    mv   a0, s0
+    li   a1, 131
+    li   a2, 0
+    li   a3, 1
+    addi a4, s0, 4
+    li   a7, 98
+    ecall
+    beqz a0, move
+wait:
+    mv   a0, s0
+    li   a1, 128
+    lw   a2, 0(s0)
+    li   a3, 0
+    li   a7, 98
+    ecall
+"""
+"""Thread 1 lets thread 2 wait at the next word, and waits itself."""
 SMALL = {
+    MOVE_AND_SLEEP: '    It waited at another word before: thread 1 in step ',
+    f'{MOVE_AND_SLEEP} # once more': ', moved it here.\n    The word: nobody has written it.\n    No wake of it came after step ',
     printed('prog.c:31: check failed: count == 2 (1, 2)'): 'The check at prog.c:31 failed: count == 2 (1, 2).',
     printed('free: 0x20 was freed before'): "The last line on the console is 'free: 0x20 was freed before'.",
     WAKE_AND_SLEEP: '    No wake of it came after step 16; the last came before, by thread 1 in step 8, at _start+0x18.',
@@ -222,12 +248,14 @@ class Ends(unittest.TestCase):
 
     def test_calls_that_are_not_there(self):
         """Where the program fails they are named, each once; where it doesn't, nothing is said of them."""
-        again = 'li a0, 0x2000\nli a1, 131\nli a7, 98\necall\n'
-        source = f'li a7, 113\necall\n{again}{again}li a7, 999\necall\nli a0, {{}}\nli a7, 93\necall'
+        again = 'li a0, 0x2000\nli a1, 133\nli a7, 98\necall\n'
+        masked = 'li a1, 10\nli a5, 4\necall\n'
+        source = f'li a7, 113\necall\n{again}{again}{masked}li a7, 999\necall\nli a0, {{}}\nli a7, 93\necall'
         said = [
             'This machine has no clock_gettime (113): thread 1 got ENOSYS at _start+0x4 (step 3).',
-            'This machine has no futex with operation 3: thread 1 got ENOSYS at _start+0x14 (step 7), the first of 2 times.',
-            'This machine has no call 999: thread 1 got ENOSYS at _start+0x2c (step 13).',
+            'This machine has no futex with operation 5: thread 1 got ENOSYS at _start+0x14 (step 7), the first of 2 times.',
+            'This machine has no futex with operation 10 and mask 0x4: thread 1 got ENOSYS at _start+0x30 (step 14).',
+            'This machine has no call 999: thread 1 got ENOSYS at _start+0x38 (step 16).',
         ]
         with tempfile.TemporaryDirectory() as name:
             for code, due in ((1, said), (0, [])):

@@ -15,16 +15,19 @@ EXAMPLES = Path(__file__).resolve().parents[3] / 'examples'
 TABLE = EXAMPLES / 'all_outcomes.tsv'
 UNKNOWN = '-'
 YES, SLOW, NO = 'yes', 'slow', 'no'
+HOPELESS = {YES: True, NO: False, UNKNOWN: None}
 
 
 class Row(NamedTuple):
     """An example on so many harts: how many outcomes it has, where that is known; whether a search ends
-    within 2,000,000 places, and why it doesn't."""
+    within 2,000,000 places; whether it has hopeless places, where that is known; and why the search doesn't
+    end."""
 
     example: str
     harts: int
     outcomes: int | None
     closes: str
+    is_hopeless: bool | None
     why_not: str
 
     @property
@@ -63,12 +66,18 @@ def end_in(path: Path) -> str:
     return path.read_text().removeprefix('end ').rstrip('\n')
 
 
+def is_row(fields: list[str]) -> bool:
+    if len(fields) not in (5, 6):
+        return False
+    return fields[1].isdecimal() and fields[3] in (YES, SLOW, NO) and fields[4] in HOPELESS
+
+
 def row_of(line: str) -> Row:
     fields = line.split('\t')
-    if len(fields) not in (4, 5) or not fields[1].isdecimal() or fields[3] not in (YES, SLOW, NO):
+    if not is_row(fields):
         raise LensFault(f'{TABLE.name}: {line[:60]!r} is no row')
     outcomes = None if fields[2] == UNKNOWN else int(fields[2])
-    return Row(fields[0], int(fields[1]), outcomes, fields[3], ''.join(fields[4:]))
+    return Row(fields[0], int(fields[1]), outcomes, fields[3], HOPELESS[fields[4]], ''.join(fields[5:]))
 
 
 def rows() -> list[Row]:

@@ -32,12 +32,15 @@ class Ended:
 @dataclass(frozen=True)
 class Search:
     """The outcomes that were found; how many places were visited; how many lines the longest way to one of
-    them has; and the last line, which says whether there may be other outcomes."""
+    them has; the last line, which says whether there may be other outcomes; and from how many of the places no
+    end can be reached, which is told at `complete` alone, with the script that leads to the nearest."""
 
     ended: list[Ended]
     places: int
     deepest: int
     closing: str
+    hopeless: int | None = None
+    nearest: bytes | None = None
 
     @property
     def is_complete(self) -> bool:
@@ -56,11 +59,23 @@ def read_ended(reader: Reader, number: int) -> Ended:
     if not line.startswith('end '):
         raise reader.fault(f'a line "end REASON" is due, and {line[:40]!r} came')
     console = reader.console()
-    script = None
-    if reader.rest.startswith(b'script '):
-        lines = (reader.line('a line of a script') for _ in range(reader.number('script')))
-        script = b''.join(line.encode() + b'\n' for line in lines)
-    return Ended(Shown(console, line.removeprefix('end ')), script)
+    return Ended(Shown(console, line.removeprefix('end ')), read_script(reader))
+
+
+def read_script(reader: Reader) -> bytes | None:
+    """The script that comes next; None where none does."""
+    if not reader.rest.startswith(b'script '):
+        return None
+    lines = (reader.line('a line of a script') for _ in range(reader.number('script')))
+    return b''.join(line.encode() + b'\n' for line in lines)
+
+
+def read_hopeless(reader: Reader) -> tuple[int | None, bytes | None]:
+    """How many places are hopeless, and the script that leads to the nearest; None where it isn't told."""
+    if not reader.rest.startswith(b'hopeless '):
+        return None, None
+    number = reader.number('hopeless')
+    return number, read_script(reader) if number else None
 
 
 def read_search(name: str, text: bytes) -> Search:
@@ -68,11 +83,13 @@ def read_search(name: str, text: bytes) -> Search:
     reader = Reader(name, text)
     ended = [read_ended(reader, number) for number in range(1, reader.number('outcomes') + 1)]
     places, deepest = reader.number('places'), reader.number('deepest')
+    hopeless, nearest = read_hopeless(reader)
     signals, closing = reader.line('a line "signals any"'), reader.line('the last line')
-    if signals != 'signals any' or closing not in CLOSINGS or reader.rest:
+    told = hopeless is not None
+    if signals != 'signals any' or closing not in CLOSINGS or told != (closing == COMPLETE) or reader.rest:
         words = f'{signals[:40]!r}, {closing[:40]!r} and {len(reader.rest)} bytes'
         raise reader.fault(f'{words} are no end of a search')
-    search = Search(ended, places, deepest, closing)
+    search = Search(ended, places, deepest, closing, hopeless, nearest)
     if len(search.shown) != len(ended):
         raise reader.fault('two outcomes are the same')
     return search
@@ -85,10 +102,12 @@ class Searcher:
         self.program = program
         self.places = places
 
-    def search(self, elf: Path, harts: int, has_scripts: bool = False) -> Search:
+    def search(self, elf: Path, harts: int, has_scripts: bool = False, without: str | None = None) -> Search:
+        """The search of a program, without a reduction where one is named."""
         scripts = 'yes' if has_scripts else 'no'
-        limits = [f'--harts={harts}', f'--places={self.places}', f'--scripts={scripts}']
-        return read_search(elf.name, answered([self.program, 'outcomes', str(elf), *limits]))
+        words = [f'--harts={harts}', f'--places={self.places}', f'--scripts={scripts}']
+        words += [f'--without={without}'] if without else []
+        return read_search(elf.name, answered([self.program, 'outcomes', str(elf), *words]))
 
     def played(self, elf: Path, harts: int, ended: Ended) -> str | None:
         """What is wrong with a script: nothing where it plays to what it is said to."""

@@ -42,6 +42,9 @@ console 0
 script 0
 places 7
 deepest 3
+hopeless 2
+script 1
+0 run 1
 signals any
 complete
 '''
@@ -62,9 +65,17 @@ class Texts(unittest.TestCase):
     def test_its_parts(self) -> None:
         search = read_search('t', TEXT)
         ended = [Ended(Shown(b'a\n', 'exit 0'), b'0 run 1\n'), Ended(Shown(b'', 'stuck'), b'')]
-        self.assertEqual(search, Search(ended, 7, 3, 'complete'))
-        without = TEXT.replace(b'script 1\n0 run 1\n', b'').replace(b'script 0\n', b'')
-        self.assertEqual([it.script for it in read_search('t', without).ended], [None, None])
+        self.assertEqual(search, Search(ended, 7, 3, 'complete', 2, b'0 run 1\n'))
+        without = read_search('t', TEXT.replace(b'script 1\n0 run 1\n', b'').replace(b'script 0\n', b''))
+        self.assertEqual([it.script for it in without.ended], [None, None])
+        self.assertEqual((without.hopeless, without.nearest), (2, None))
+
+    def test_what_is_told_where_it_is_finished_alone(self) -> None:
+        hopeless = b'hopeless 2\nscript 1\n0 run 1\n'
+        none = read_search('t', TEXT.replace(hopeless, b'hopeless 0\n'))
+        self.assertEqual((none.hopeless, none.nearest), (0, None))
+        unfinished = read_search('t', TEXT.replace(hopeless, b'').replace(b'complete', b'unfinished places'))
+        self.assertEqual((unfinished.hopeless, unfinished.nearest), (None, None))
 
     def test_what_is_no_such_text(self) -> None:
         for old, new in (
@@ -75,6 +86,9 @@ class Texts(unittest.TestCase):
             (b'complete\n', b'complete'),
             (b'complete', b'completed'),
             (b'signals any', b'signals'),
+            (b'hopeless 2\nscript 1\n0 run 1\n', b''),
+            (b'hopeless 2', b'hopeless 0'),
+            (b'complete\n', b'unfinished deep\n'),
             (b'end stuck\nconsole 0\n', b'end exit 0\nconsole 2\na\n'),
         ):
             with self.subTest(new=new):
@@ -102,7 +116,9 @@ class Rows(unittest.TestCase):
         self.assertEqual(len({row.example for row in rows()}), len(rows()))
 
     def test_what_is_no_row(self) -> None:
-        for line in ('hello', 'hello\ttwo\t1\tyes', 'hello\t2\t1\tmaybe', 'hello\t2\t1\tno\twhy\tand'):
+        numbers = ('', '\ttwo\t1\tyes\tno')
+        words = ('maybe\tno', 'no', 'no\tmaybe', 'no\t-\twhy\tand')
+        for line in (f'hello{it}' for it in (*numbers, *(f'\t2\t1\t{it}' for it in words))):
             self.assertRaises(LensFault, row_of, line)
 
 
@@ -154,7 +170,8 @@ class Searches(unittest.TestCase):
 
     def check_example(self, row: Row) -> None:
         """The search of an example is complete. It has the outcomes that its files have, those of its worked
-        runs among them, and each script is that of a run that ends so."""
+        runs among them, and each script is that of a run that ends so. It finds hopeless places where there
+        are some, and the script that leads to one is that of a run that can go on."""
         searcher = Searcher(str(PROGRAM), PLACES_OF_EXAMPLES)
         search = searcher.search(row.elf, row.harts, has_scripts=True)
         self.assertTrue(search.is_complete, search.closing)
@@ -163,3 +180,8 @@ class Searches(unittest.TestCase):
         self.assertEqual([name for name, shown in row.worked() if shown not in search.shown], [])
         wrong = [searcher.played(row.elf, row.harts, ended) for ended in search.ended]
         self.assertEqual([words for words in wrong if words], [])
+        if row.is_hopeless is not None:
+            self.assertEqual(search.hopeless != 0, row.is_hopeless, search.hopeless)
+        if search.hopeless:
+            lost = Ended(Shown(b'', 'open'), search.nearest)
+            self.assertIsNone(searcher.played(row.elf, row.harts, lost))

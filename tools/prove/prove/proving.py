@@ -5,12 +5,14 @@ bodies and makes the tests too. So it is called in a copy that has neither. What
 """
 from __future__ import annotations
 
+import os
 import shutil
 import subprocess
 import tempfile
 from pathlib import Path
 
 from .crates import CRATES, lines_for, name_of
+from .jobs import environment
 
 PROGRAM = 'rseq_run'
 HANDLES = 'HANDLES'
@@ -38,7 +40,7 @@ def prove(root: Path) -> int:
         copy = Path(folder) / 'copy'
         copy.mkdir()
         copy_crates(root, copy)
-        status = subprocess.run(['rt', 'ci'], cwd=copy).returncode
+        status = subprocess.run(['rt', 'ci'], cwd=copy, env=environment(os.environ)).returncode
         if status == 0:
             built_in(root).parent.mkdir(exist_ok=True)
             shutil.copy2(built_in(copy), built_in(root))

@@ -1,10 +1,10 @@
--- tkill(2), tgkill(2), sigaction(2), sigprocmask(2) and sigreturn(2).
+-- tkill(2), tgkill(2), sigaction(2), sigprocmask(2), sigpending(2) and sigreturn(2).
 use Rattle.block_model.proofs.Common.{◌≡◌, ◌≢◌, ◌∙◌, ◌≤◌, ◌+◌, arith, ℕ, List, Bool, cond, eqb, false, true, refl, subst, Option, Some, None, is_some, [], ◌∷◌, Action, EINVAL, Here, Kernel, Signalling, ThreadState, Threads, Waiting, acted, action_of, and_parts, are_writable, argument, double_written, false≢true, frame_read, int_argument, is_waiting_state, is_writable, mask_of, memory, next_for, not-false, option_map_or, posted, resumed, state_of, waits, with_mask}
 use Rattle.mach_types.specs.Kernel.Signals.{changed_mask}
 use Rattle.block_model.specs.Calls.Answers.{number_at}
-use Rattle.block_model.specs.Calls.Signals.{action_at, action_given, action_size, action_written, masked, may_write, post, refuses_signal, rt_sigaction, rt_sigprocmask, rt_sigreturn, send, sigaction_errors, sigprocmask_errors, tgkill, tgkill_errors, tkill, tkill_errors, waits_in_vain, with_posted}
+use Rattle.block_model.specs.Calls.Signals.{action_at, action_given, action_size, action_written, masked, may_write, post, refuses_signal, rt_sigaction, rt_sigpending, rt_sigprocmask, rt_sigreturn, send, sigaction_errors, sigpending_errors, sigprocmask_errors, tgkill, tgkill_errors, tkill, tkill_errors, waits_in_vain, with_posted}
 use Rattle.block_model.proofs.Images.{number_small}
-use Rattle.block_model.proofs.CallEffects.{AllStand, CallDeed, Breaks, Resumes, Says, Signalled, answers_0, by_errors, deed_killed, either}
+use Rattle.block_model.proofs.CallEffects.{AllStand, CallDeed, Breaks, Resumes, Same, Says, Signalled, answers_0, by_errors, deed_killed, either}
 use Rattle.block_model.proofs.SignalsOfWaiters.{next_acted, next_masked, next_posted, next_unbroken}
 use Rattle.block_model.proofs.IgnoredSignals.{AllHeeded, heeded_acted, heeded_masked, heeded_posted}
 use Rattle.block_model.proofs.SignalTables.{KeepsThreads, StandsAt, acted_keeps, acted_stand, masked_keeps, posted_keeps, posted_stand, same_stand}
@@ -107,6 +107,10 @@ module _ (here : Here) (t number : ℕ) where
       (λ all. same_stand g (masked here t how set) (masked_actions (eqb set 0) t mask g) all.handlers)
       (masked_heeds (eqb set 0) t mask g)
       (λ w ne is none. masked_calm (eqb set 0) t mask w ne g ∙ none)))
+
+  pub deed_sigpending : CallDeed here t number (rt_sigpending here t)
+  deed_sigpending = by_errors (sigpending_errors here t) _
+      (λ none. answers_0 _ _ ((omega arith, not-false (are_writable here (argument here t 0) 8) none.1.0), tt) Same)
 
 -- a handler returns
 deed_resumed : (here : Here) (t : ℕ) (words : Option (List ℕ))

@@ -1,6 +1,6 @@
--- futex(2): a thread waits at the address of a word, and others wake it. That the longest waiting is woken first, and that waking
--- none wakes nobody, is own.
-use Rattle.std.specs.Prelude.{ℕ, ◌-◌, ◌*◌, ◌/◌, ◌%◌, ◌==◌, not, nat_le, zero, suc, List, [], ◌∷◌, length, map, if◌then◌else◌, None, is_some}
+-- futex(2): a thread waits at the address of a word, and others wake it, or let it wait at another word. That the longest waiting is
+-- woken first, and that waking none wakes nobody, is own.
+use Rattle.std.specs.Prelude.{ℕ, ◌-◌, ◌*◌, ◌/◌, ◌%◌, ◌^◌, ◌==◌, ◌&&◌, ◌||◌, Bool, not, nat_le, zero, suc, List, [], ◌∷◌, length, map, if◌then◌else◌, None, is_some}
 use Rattle.std.specs.Option.{option_map_or}
 use Rattle.mach_types.specs.Registers.{with_register}
 use Rattle.mach_types.specs.declared.address_space.TheConstants.{USER_END}
@@ -10,30 +10,67 @@ use Rattle.block_model.specs.Record.{Kernel}
 use Rattle.mach_types.specs.Kernel.Signals.{next_for}
 use Rattle.mach_types.specs.Kernel.Threads.{longest_waiter}
 use Rattle.block_model.specs.Here.{Here}
-use Rattle.block_model.specs.Kernel.{waited, woken}
+use Rattle.block_model.specs.Kernel.{requeued, waited, woken}
 use Rattle.block_model.specs.Calls.Answers.{CallDone, Errors, argument, int_argument, are_readable, number_at, returned, said, unless}
 
--- a woken thread finds 0 in a0
+-- a woken thread finds 0 in a0; one that waits at another word from now on has it there already
 abbrev pub answered_wait : Here → ℕ → ℕ × Saved
 answered_wait here u = (u, record (here.file u) { file = with_register (here.file u).file 10 0 })
 
--- threads that were woken, in order, and the record then
+-- threads that were woken, or wait at another word, in order, and the record then
 pub record Woken : Type 0 where
   pub threads : List ℕ
   pub kernel : Kernel
 
--- a thread was woken before others
+abbrev pub nobody : Kernel → Woken
+nobody k = record { threads = []; kernel = k }
+
+-- one thread before others
 abbrev pub woken_first : ℕ → Woken → Woken
 woken_first u rest = record { threads = u ∷ rest.threads; kernel = rest.kernel }
 
--- of the threads that wait at an address so many are woken, the longest waiting first
-abbrev pub wake : ℕ → ℕ → Kernel → Woken
-wake zero at k = record { threads = []; kernel = k }
-wake (suc n) at k = option_map_or (λ u. woken_first u (wake n at (woken u k))) (longest_waiter at k.threads) (record { threads = []; kernel = k })
+-- of the threads that wait at an address so many wait at another one from now on, the longest waiting first
+abbrev pub move : ℕ → ℕ → ℕ → Kernel → Woken
+move zero at to k = nobody k
+move (suc n) at to k = option_map_or (λ u. woken_first u (move n at to (requeued u to k))) (longest_waiter at k.threads) (nobody k)
 
--- an operation without its bit 128, by which a futex is private to the process
+-- of the threads that wait at an address so many are woken, the longest waiting first, and so many more wait at another one
+abbrev pub requeue : ℕ → ℕ → ℕ → ℕ → Kernel → Woken
+requeue zero more at to k = move more at to k
+requeue (suc n) more at to k = option_map_or (λ u. woken_first u (requeue n more at to (woken u k))) (longest_waiter at k.threads) (nobody k)
+
+-- so many are woken, and the others wait as before
+abbrev pub wake : ℕ → ℕ → Kernel → Woken
+wake n at k = requeue n 0 at 0 k
+
+-- an operation without its bits 128, by which a futex is private to the process, and 256, by which a time is one of CLOCK_REALTIME
 abbrev pub operation : ℕ → ℕ
-operation op = op - 128 * ((op / 128) % 2)
+operation op = op - 128 * ((op / 128) % 4)
+
+abbrev pub is_by_clock : ℕ → Bool
+is_by_clock op = (op / 256) % 2 == 1
+
+-- what an operation does: 0 is WAIT and 9 WAIT_BITSET, 1 is WAKE and 10 WAKE_BITSET, 3 is REQUEUE and 4 CMP_REQUEUE
+abbrev pub is_wait : ℕ → Bool
+is_wait op = op == 0 || op == 9
+
+abbrev pub is_wake : ℕ → Bool
+is_wake op = op == 1 || op == 10
+
+abbrev pub is_requeue : ℕ → Bool
+is_requeue op = op == 3 || op == 4
+
+-- which take a mask
+abbrev pub has_mask : ℕ → Bool
+has_mask op = op == 9 || op == 10
+
+-- the mask of all bits, which is the only one that is built (own)
+abbrev pub all_bits : ℕ
+all_bits = 2 ^ 32 - 1
+
+-- a negative `int`
+abbrev pub is_negative : ℕ → Bool
+is_negative n = nat_le (2 ^ 31) n
 
 -- WAIT: the thread leaves its hart and waits, unless a signal can be delivered to it (a wait is never begun again: own, as if no handler
 -- had SA_RESTART)
@@ -51,28 +88,55 @@ futex_wait here t =
     unless here t (wait_errors here t)
     (record (said here t 0) { kernel = waited t (argument here t 0) here.kernel })
 
--- WAKE: the answer is how many were woken
-abbrev pub futex_wake : Here → ℕ → CallDone
-futex_wake here t =
-    let done = wake (int_argument here t 2) (argument here t 0) here.kernel in
-    record {
-      files = (t, returned (length done.threads) (here.file t)) ∷ map (answered_wait here) done.threads;
-      entered = [];
-      kernel = done.kernel;
-      barrier = None;
-      ended = None;
-    }
+-- the answer is how many were woken or wait at another word
+abbrev pub counted : Here → ℕ → Woken → CallDone
+counted here t done = record {
+  files = (t, returned (length done.threads) (here.file t)) ∷ map (answered_wait here) done.threads;
+  entered = [];
+  kernel = done.kernel;
+  barrier = None;
+  ended = None;
+}
 
--- futex(p, op, val, timeout), number 98
+-- WAKE
+abbrev pub futex_wake : Here → ℕ → CallDone
+futex_wake here t = counted here t (wake (int_argument here t 2) (argument here t 0) here.kernel)
+
+-- REQUEUE, and CMP_REQUEUE, which compares the word first; both words being one is own
+abbrev pub requeue_errors : Here → ℕ → Errors
+requeue_errors here t =
+    let p = argument here t 0 in
+    let q = argument here t 4 in
+    let compares = operation (int_argument here t 1) == 4 in
+    (not (q % 4 == 0), EINVAL)
+    ∷ (nat_le USER_END q, EFAULT)
+    ∷ (q == p, EINVAL)
+    ∷ (compares && not (are_readable here p 4), EFAULT)
+    ∷ (compares && not (number_at here p 4 == int_argument here t 5), EAGAIN)
+    ∷ []
+
+abbrev pub futex_requeue : Here → ℕ → CallDone
+futex_requeue here t =
+    unless here t (requeue_errors here t)
+    (counted here t (requeue (int_argument here t 2) (int_argument here t 3) (argument here t 0) (argument here t 4) here.kernel))
+
+-- futex(p, op, val, timeout or val2, q, val3), number 98
 abbrev pub futex_errors : Here → ℕ → Errors
 futex_errors here t =
     let p = argument here t 0 in
-    (not (nat_le (operation (int_argument here t 1)) 1), ENOSYS)
+    let op = operation (int_argument here t 1) in
+    let mask = int_argument here t 5 in
+    (not (is_wait op || is_wake op || is_requeue op), ENOSYS)
+    ∷ (is_by_clock (int_argument here t 1) && not (op == 9), ENOSYS)
+    ∷ (has_mask op && mask == 0, EINVAL)
+    ∷ (has_mask op && not (mask == all_bits), ENOSYS)
+    ∷ (is_requeue op && (is_negative (int_argument here t 2) || is_negative (int_argument here t 3)), EINVAL)
     ∷ (not (p % 4 == 0), EINVAL)
     ∷ (nat_le USER_END p, EFAULT)
     ∷ []
 
 abbrev pub futex : Here → ℕ → CallDone
 futex here t =
+    let op = operation (int_argument here t 1) in
     unless here t (futex_errors here t)
-    (if operation (int_argument here t 1) == 0 then futex_wait here t else futex_wake here t)
+    (if is_wait op then futex_wait here t else if is_wake op then futex_wake here t else futex_requeue here t)

@@ -1,10 +1,10 @@
--- tkill(2), tgkill(2), sigaction(2), sigprocmask(2) and sigreturn(2): a signal is posted to a thread, what is done when one comes and
--- which ones a thread masks is set, and a handler returns. A set of signals has 8 bytes, and a call that is told another
+-- tkill(2), tgkill(2), sigaction(2), sigprocmask(2), sigpending(2) and sigreturn(2): a signal is posted to a thread, what is done when
+-- one comes and which ones a thread masks is set, which of these are pending is told, and a handler returns. A set of signals has 8 bytes, and a call that is told another
 -- size is refused. That there are 31 signals is own, and that nothing changes where the old action or mask can't be written.
-use Rattle.std.specs.Prelude.{ℕ, ◌+◌, ◌^◌, ◌==◌, ◌||◌, ◌&&◌, Bool, false, not, nat_le, nat_lt, List, [], ◌∷◌, if◌then◌else◌, Option, Some, None, is_some}
+use Rattle.std.specs.Prelude.{ℕ, ◌+◌, ◌^◌, ◌==◌, ◌||◌, ◌&&◌, Bool, false, not, nat_le, nat_lt, List, [], ◌∷◌, if◌then◌else◌, Option, Some, None, is_some, bit_and}
 use Rattle.std.specs.Option.{option_map_or}
 use Rattle.mach_types.specs.Kernel.SignalFrames as frame
-use Rattle.mach_types.specs.Kernel.Signals.{Signalling, acted, action_of, changed_mask, mask_of, next_for, posted, refuses_action, refuses_how, with_mask}
+use Rattle.mach_types.specs.Kernel.Signals.{Signalling, acted, action_of, changed_mask, mask_of, next_for, pending_of, posted, refuses_action, refuses_how, with_mask}
 use Rattle.mach_types.specs.Kernel.Threads.{is_live, is_waiting_state, state_of}
 use Rattle.mach_types.specs.Registers.{with_register}
 use Rattle.mach_types.specs.declared.errors.TheConstants.{EFAULT, EINTR, EINVAL, ESRCH}
@@ -149,6 +149,22 @@ rt_sigprocmask here t =
       entered = if old == 0 then [] else double_written old (mask_of t here.kernel.signals) ∷ [];
       kernel = signalled (masked here t (int_argument here t 0) (argument here t 1)) here.kernel;
     })
+
+-- what is pending for a thread of the signals that it masks
+abbrev pub held_back : ℕ → Signalling → ℕ
+held_back t g = bit_and (pending_of t g) (mask_of t g)
+
+-- rt_sigpending(set, size), number 136
+abbrev pub sigpending_errors : Here → ℕ → Errors
+sigpending_errors here t =
+    (not (argument here t 1 == 8), EINVAL)
+    ∷ (not (are_writable here (argument here t 0) 8), EFAULT)
+    ∷ []
+
+abbrev pub rt_sigpending : Here → ℕ → CallDone
+rt_sigpending here t =
+    unless here t (sigpending_errors here t)
+    (record (said here t 0) { entered = double_written (argument here t 0) (held_back t here.kernel.signals) ∷ [] })
 
 -- A HANDLER RETURNS
 

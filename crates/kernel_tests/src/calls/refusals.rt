@@ -1,11 +1,12 @@
 //! Each refusal of each call, beside calls that succeed.
 
-use crate::calls::scenes::{console, memory, sequences, signalling, threads};
+use crate::calls::scenes::{asking, console, memory, sequences, signalling, threads};
 use crate::calls::steps::{Scene, play};
 use std::test::Fail;
 
 /// The scenes of all calls.
-const TABLES: [&[Scene]; 5] = [
+const TABLES: [&[Scene]; 6] = [
+    &asking::SCENES,
     &console::SCENES,
     &memory::SCENES,
     &sequences::SCENES,

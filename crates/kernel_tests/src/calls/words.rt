@@ -1,5 +1,7 @@
 //! The numbers of the calls (Linux for RISC-V), of errors (errno(3)), and bits that don't count.
 
+pub const IOCTL: u64 = 29;
+
 pub const WRITE: u64 = 64;
 
 pub const WRITEV: u64 = 66;
@@ -12,11 +14,19 @@ pub const SET_TID_ADDRESS: u64 = 96;
 
 pub const FUTEX: u64 = 98;
 
+pub const SCHED_GETSCHEDULER: u64 = 120;
+
+pub const SCHED_GETPARAM: u64 = 121;
+
 pub const SCHED_SETAFFINITY: u64 = 122;
 
 pub const SCHED_GETAFFINITY: u64 = 123;
 
 pub const SCHED_YIELD: u64 = 124;
+
+pub const SCHED_GET_PRIORITY_MAX: u64 = 125;
+
+pub const SCHED_GET_PRIORITY_MIN: u64 = 126;
 
 pub const TKILL: u64 = 130;
 
@@ -26,11 +36,23 @@ pub const RT_SIGACTION: u64 = 134;
 
 pub const RT_SIGPROCMASK: u64 = 135;
 
+pub const RT_SIGPENDING: u64 = 136;
+
 pub const RT_SIGRETURN: u64 = 139;
 
 pub const GETCPU: u64 = 168;
 
 pub const GETPID: u64 = 172;
+
+pub const GETPPID: u64 = 173;
+
+pub const GETUID: u64 = 174;
+
+pub const GETEUID: u64 = 175;
+
+pub const GETGID: u64 = 176;
+
+pub const GETEGID: u64 = 177;
 
 pub const GETTID: u64 = 178;
 
@@ -43,6 +65,8 @@ pub const CLONE: u64 = 220;
 pub const MMAP: u64 = 222;
 
 pub const MPROTECT: u64 = 226;
+
+pub const PRLIMIT64: u64 = 261;
 
 pub const MEMBARRIER: u64 = 283;
 
@@ -68,6 +92,8 @@ pub const EFAULT: i64 = -14;
 pub const EBUSY: i64 = -16;
 
 pub const EINVAL: i64 = -22;
+
+pub const ENOTTY: i64 = -25;
 
 pub const ENOSPC: i64 = -28;
 

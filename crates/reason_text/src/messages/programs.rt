@@ -7,7 +7,7 @@ use std::alloc::AllocError;
 use std::fmt;
 use std::fmt::Write;
 
-/// Appends why a program is refused, and what to pass to its compiler or linker, where that helps.
+/// Appends why a program is refused, and how one is built that is taken, where that helps.
 pub(crate) fn push_elf_fault(
     text: &mut String,
     name: &str,
@@ -133,12 +133,20 @@ impl fmt::Display for Bounds {
     }
 }
 
-/// What to pass to the compiler or the linker.
+/// How a file is built that is taken, where that helps.
 fn advice_on(fault: ElfFault) -> Option<&'static str> {
     match fault {
-        ElfFault::FileKind => Some("link it with -no-pie -static"),
-        ElfFault::Flags(_) => Some("compile and link it with -march=rv64ima -mabi=lp64"),
-        ElfFault::Dynamic => Some("link it with -static"),
+        ElfFault::FileKind => Some(
+            "build it with examples/common/rvcc (docs/PROGRAMS.md), or link it with -no-pie -static",
+        ),
+        ElfFault::Machine => Some("build it with examples/common/rvcc (docs/PROGRAMS.md)"),
+        ElfFault::Flags(_) => Some(
+            "build it with examples/common/rvcc (docs/PROGRAMS.md), \
+             or compile and link it with -march=rv64ima -mabi=lp64",
+        ),
+        ElfFault::Dynamic => Some(
+            "build it with examples/common/rvcc (docs/PROGRAMS.md), or link it with -static",
+        ),
         ElfFault::WritableCode(_) => Some(
             "compile it with -msmall-data-limit=0, or link it with lld, \
              or with the linux-gnu linker and -z separate-code",

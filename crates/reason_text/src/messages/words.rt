@@ -21,6 +21,9 @@ const SPANS: &str =
 /// The ends of runs that an option takes.
 const ENDS: &str = "\"exit N\" or \"killed N\" with a number from 0 to 255, stuck or limit";
 
+/// The names of reductions.
+const REDUCTIONS: &str = "local-steps";
+
 /// Appends what is wrong with the words, in one line. Where no command is named, the usage stands below it; where the words ask for
 /// help, what each command does too.
 pub(crate) fn push_words_fault(
@@ -73,7 +76,8 @@ fn push_word(text: &mut String, fault: WordsFault, words: &[String]) -> Result<(
         | WordsFault::NeitherTextNorEnd(word)
         | WordsFault::NoSpans(word)
         | WordsFault::NoEnd(word)
-        | WordsFault::NeitherYesNorNo(word) => {
+        | WordsFault::NeitherYesNorNo(word)
+        | WordsFault::UnknownReduction(word) => {
             push_option(text, words, word)?;
             word
         }
@@ -115,6 +119,9 @@ fn push_complaint(
         WordsFault::NoSpans(_) => writeln!(text, "the value isn't {SPANS}"),
         WordsFault::NoEnd(_) => writeln!(text, "the value is no end of a run, which is {ENDS}"),
         WordsFault::NeitherYesNorNo(_) => text.push_str("the value is neither yes nor no\n"),
+        WordsFault::UnknownReduction(_) => {
+            writeln!(text, "there is no such reduction; there is {REDUCTIONS}")
+        }
         WordsFault::NoNumber(_) => {
             text.push_str("the size isn't a number, of 20 digits at most and below 2^64\n")
         }

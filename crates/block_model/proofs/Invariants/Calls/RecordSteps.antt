@@ -1,10 +1,10 @@
 -- Steps of the kernel's record that calls are made of: what each keeps.
-use Rattle.block_model.proofs.Common.{◌≡◌, ◌≢◌, ℕ, ◌+◌, ◌≤◌, ◌<◌, ◌^◌, List, refl, ◌∙◌, arith, Some, length, length-append, sym, ap, subst, CONSOLE_ROOM, IsHeld, IsSound, IsTables, KeepsRows, Kernel, Scheduling, Setting, Signalling, Thread, Threads, gone, left, printed, restricted, rows_changed, running_on, running_on-with_rows, signalled, waited, waits, woken}
+use Rattle.block_model.proofs.Common.{◌≡◌, ◌≢◌, ℕ, ◌+◌, ◌≤◌, ◌<◌, ◌^◌, List, refl, ◌∙◌, arith, Some, length, length-append, sym, ap, subst, CONSOLE_ROOM, IsHeld, IsSound, IsTables, KeepsRows, Kernel, Scheduling, Setting, Signalling, Thread, Threads, gone, left, printed, requeued, restricted, rows_changed, running_on, running_on-with_rows, signalled, waited, waits, woken}
 use Rattle.block_model.proofs.AllowedHarts.{kept_allowed, restricted_allowed, ended_allowed}
 use Rattle.block_model.proofs.KernelTables.{tables_rows, tables_left, left_others}
-use Rattle.block_model.proofs.KernelCalls.{tables_allowed, tables_woken, woken_same, tables_waited, waited_others, tables_ended, ended_others}
+use Rattle.block_model.proofs.KernelCalls.{tables_allowed, tables_requeued, requeued_same, tables_woken, woken_same, tables_waited, waited_others, tables_ended, ended_others}
 use Rattle.block_model.proofs.SignalTables.{KeepsThreads}
-use Rattle.block_model.proofs.ThreadRecords.{held_beside, held_rows, held_gone, held_left, held_signalled, held_waited, held_woken}
+use Rattle.block_model.proofs.ThreadRecords.{held_beside, held_rows, held_gone, held_left, held_requeued, held_signalled, held_waited, held_woken}
 
 -- each hart runs the thread that it ran, the pages stay, no number is given, and the record stays sound
 pub record IsKept (s : Setting) (before after : Kernel) : Type 0 where
@@ -98,6 +98,16 @@ kept_woken s t k sound waiting = record {
   given = refl;
   sound = sound_still s k (woken t k) sound (tables_woken s.limits.harts t k.threads k.scheduling sound.tables waiting) refl refl;
   held = held_woken s.limits.harts t k waiting;
+}
+
+-- a thread that waits does so at another address
+pub kept_requeued : (s : Setting) (t at : ℕ) (k : Kernel) → IsSound s k → waits k.threads t → IsKept s k (requeued t at k)
+kept_requeued s t at k sound waiting = record {
+  running = requeued_same s.limits.harts t at k.threads k.scheduling sound.tables waiting;
+  pages = refl;
+  given = refl;
+  sound = sound_still s k (requeued t at k) sound (tables_requeued s.limits.harts t at k.threads k.scheduling sound.tables waiting) refl refl;
+  held = held_requeued s.limits.harts t at k waiting;
 }
 
 pub kept_restricted : (s : Setting) (t set : ℕ) (k : Kernel) → IsSound s k → set < 2 ^ s.limits.harts

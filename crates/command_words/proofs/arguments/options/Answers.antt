@@ -24,6 +24,7 @@ returns c =
     let fifteen = c.in_ok-arg-15.ensures.shape c.option-15.ensures.own ∙ ap₂ with_rule fourteen c.option-15.ensures.rule in
     let sixteen = c.in_ok-arg-16.ensures.shape c.option-16.ensures.own ∙ ap₂ with_rule fifteen c.option-16.ensures.rule in
     let seventeen = c.in_ok-arg-17.ensures.shape c.option-17.ensures.own ∙ ap₂ with_rule sixteen c.option-17.ensures.rule in
-    IfOk-weaker c.arg-18.result _ _ (λ parser added. added.shape c.option-18.ensures.own
-    ∙ ap₂ with_rule seventeen c.option-18.ensures.rule)
-    c.arg-18.ensures
+    let eighteen = c.in_ok-arg-18.ensures.shape c.option-18.ensures.own ∙ ap₂ with_rule seventeen c.option-18.ensures.rule in
+    IfOk-weaker c.arg-19.result _ _ (λ parser added. added.shape c.option-19.ensures.own
+    ∙ ap₂ with_rule eighteen c.option-19.ensures.rule)
+    c.arg-19.ensures

@@ -1,5 +1,6 @@
 -- Each call that changes no pages, by its number.
-use Rattle.sys_calls.proofs.Common.{◌≡◌, ℕ, List, eqb, refl, sym, subst, ◌∙◌, arith, cond, Ok, Err, ne_eqb, CallDone, IsAnswered, Write, refused, call_of, cond-false, ENOSYS}
+use Rattle.sys_calls.proofs.Common.{◌≡◌, ℕ, eqb, refl, sym, subst, ◌∙◌, arith, cond, Ok, ne_eqb, CallDone, IsAnswered, call_of, cond-false}
+use Rattle.block_model.specs.Calls.{asking_call_of}
 use Rattle.block_model.specs.Calls.Numbers.{getpid, gettid}
 use Rattle.sys_calls.proofs.CallAnswers.{answered_said}
 use Rattle.sys_calls.proofs.ThreadSignals.{signals_held}
@@ -45,6 +46,9 @@ returns-in-134-clause-answered c = λ h hart told read. by_number c.in-134.is (c
 pub returns-in-135-clause-answered : goal.returns-in-135-clause-answered
 returns-in-135-clause-answered c = λ h hart told read. by_number c.in-135.is (c.rt_sigprocmask.ensures.answered h told read)
 
+pub asked-requires-clause-held : goal.asked-requires-clause-held
+asked-requires-clause-held c = signals_held c.args.tid.0 c.args.kernel.now c.requires.caller.signals c.requires.caller.live
+
 -- the number isn't that one
 is_not : (i n : ℕ) (x y : CallDone) → (n ≡ i → ⊥) → cond (eqb n i) x y ≡ y
 is_not i n x y ne = cond-false (eqb n i) x y (ne_eqb n i ne)
@@ -56,7 +60,7 @@ returns-in_default-clause-answered c = λ h hart told read.
     let o = c.requires.others in
     let p = c.requires.off_pages in
     let d = c.in_default in
-    let is : call_of n h t ≡ refused h t ENOSYS =
+    let is : call_of n h t ≡ asking_call_of n h t =
     is_not 283 n _ _ o.membarrier
     ∙ is_not 293 n _ _ o.rseq
     ∙ is_not 64 n _ _ (λ e. absurd (omega (arith, d, e)))
@@ -81,5 +85,5 @@ returns-in_default-clause-answered c = λ h hart told read.
     ∙ is_not 220 n _ _ (λ e. absurd (omega (arith, d, e)))
     ∙ is_not 222 n _ _ p.mmap
     ∙ is_not 226 n _ _ p.mprotect in
-    subst (λ (w : List Write). IsAnswered h t c.args.kernel.now c.args.pages.now c.args.kernel.now c.args.pages.now w (Err ENOSYS) (call_of n h t)) (sym c.requires.fresh)
-    (answered_said h t c.args.kernel.now c.args.pages.now (Err ENOSYS) (call_of n h t) told is)
+    subst (λ (d : CallDone). IsAnswered h t c.args.kernel.now c.args.pages.now c.args.kernel.now c.asked.new.pages c.asked.new.written.items c.asked.result d) (sym is)
+    (c.asked.ensures.answered h told read)

@@ -43,6 +43,6 @@ returns c = record {
         ids = ap (without_id t) woken.ids;
         kept = λ all. kept_gone t _ k1.threads c.exit.new.self c.exit.ensures.saved (woken.kept all);
         idle = ap (running_on c.args.here.0) c.exit.ensures.threads ∙ ended_idle caller.tables.0 c.args.here.0 t k1.threads.threads k1.ready caller.tables.1 caller.runs;
-        alone = runs_alone c.requires.tables.0 c.args.here.0 t c.args.at c.args.most h (h.file t) h.kernel sound (ap (running_on c.args.here.0) (sym told.threads) ∙ c.requires.runs);
+        alone = runs_alone c.requires.tables.0 c.args.here.0 t c.args.most 0 c.args.at 0 h (h.file t) h.kernel sound (ap (running_on c.args.here.0) (sym told.threads) ∙ c.requires.runs);
       };
 }

@@ -1,7 +1,7 @@
 use Rattle.std.proofs.Common.{subst}
 use Rattle.outcomes.specs.Answers.{IsToldFor}
 use Rattle.command_words.specs.Words.{texts}
-use Rattle.top_call.proofs.Explaining.{due_is_told, explained_of}
+use Rattle.told_answers.proofs.Explaining.{due_is_told, explained_of}
 use Rattle.top_call.proofs.calls.quiet_explained.Goals as goal
 
 pub tell-requires : goal.tell-requires

@@ -5,7 +5,7 @@ use Rattle.outcomes.specs.Answers.{IsAnswerFor, IsToldFor}
 use Rattle.outcomes.specs.Delivery.{IsAsDue, due_for}
 use Rattle.command_words.specs.Kept.{said}
 use Rattle.command_words.specs.Words.{texts}
-use Rattle.top_call.proofs.Explaining.{answer_for, due_is_told, explained_of}
+use Rattle.told_answers.proofs.Explaining.{answer_for, due_is_told, explained_of}
 use Rattle.top_call.proofs.calls.rseq_explained.Goals as goal
 
 pub tell-requires : goal.tell-requires

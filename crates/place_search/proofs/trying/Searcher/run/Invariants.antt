@@ -10,7 +10,7 @@ invariant-places g l = record {
   searching : IsSearching l.task l.self;
   ends : AreEndsFound (setting_for l.task) l.self.visited;
   place : l.place ≤ length l.self.visited.rows.items + 1;
-  expanded : l.self.visited.deep ≡ false → (k : ℕ) → k < l.place → IsExpanded (setting_for l.task) l.task.settle (logs_of l.self.visited.rows.items) (log_at l.self.visited.rows.items k);
+  expanded : l.self.visited.deep ≡ false → (k : ℕ) → k < l.place → IsExpanded (setting_for l.task) l.task.settle (logs_of l.self.visited.rows.items) l.self.graph k (log_at l.self.visited.rows.items k);
 }
 
 abbrev pub decreases-places : goal.decreases-places

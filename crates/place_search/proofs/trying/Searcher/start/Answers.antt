@@ -1,8 +1,12 @@
-use Rattle.std.proofs.Common.{◌≡◌, ◌≤◌, ◌<◌, ℕ, List, [], length, bytes_eq, ap, ◌∙◌, arith}
+use Rattle.std.proofs.Common.{◌≡◌, ◌≤◌, ◌<◌, ℕ, List, [], length, bytes_eq, sym, ap, ◌∙◌, subst, arith}
 use Rattle.place_search.specs.declared.row.Row.{Row}
-use Rattle.std.specs.List.{list_any}
+use Rattle.std.specs.Map.{lookup}
+use Rattle.std.proofs.lemmas.List.Elements.{All-nil}
+use Rattle.place_search.specs.Logs.{AreSingle}
 use Rattle.block_model.proofs.Laws.{loaded_is_laid_out, start_run}
 use Rattle.place_search.specs.Searching.{setting_for}
+use Rattle.place_search.specs.Logs.{logs_of}
+use Rattle.place_search.proofs.Graphs.{no_edges}
 use Rattle.place_search.proofs.Starts.{ends_first, keyed_first, no_keys, start_adds_up, started_same}
 use Rattle.place_search.proofs.trying.Searcher.start.Goals as goal
 
@@ -15,7 +19,7 @@ stand_after-requires-clause-run c = start_run (setting_for c.args.task.now)
 pub add-requires : goal.add-requires
 add-requires c =
     let s = setting_for c.args.task.now in
-    ap (list_any (bytes_eq c.deref.result.now))
+    ap (lookup (bytes_eq c.deref.result.now))
     (no_keys s c.stand_after.new.self.start c.first-visited.result c.note.new.self c.first-visited.ensures (start_run s) c.stand_after.new.self.parts c.in_ok-stand_after.ensures.stands c.in_ok-note.ensures.ok)
 
 pub returns-clause-searching : goal.returns-clause-searching
@@ -30,7 +34,9 @@ returns-clause-searching c =
           c.in_ok-note.ensures.ok c.deref.result.now c.add.new.self (c.deref.ensures.value ∙ c.in_ok-key.ensures adds started.adds_up) c.in_ok-add.ensures.ok;
       started = started;
       code = c.in_ok-stand_after.ensures.code ∙ c.in_ok-made.ensures.code;
+      graph = no_edges s c.args.task.now.settle (logs_of c.note.new.self.rows.items) c.new.result c.new.ensures.edges c.new.ensures.ended;
       few = few_rows c.note.new.self.rows.items c.args.task.now.most (c.in_ok-note.ensures.ok.rows ∙ c.first-visited.ensures.rows) c.requires.some;
+      single = λ off. subst (λ (rows : List Row). AreSingle rows) (sym (c.in_ok-note.ensures.ok.rows ∙ c.first-visited.ensures.rows)) (All-nil (λ (row : Row). length row.entries.items ≡ 1));
     }
 
 pub returns-clause-ends : goal.returns-clause-ends

@@ -1,4 +1,5 @@
 use Rattle.std.proofs.Common.{ℕ, ◌<◌, All}
+use Rattle.place_search.specs.Graphs.{IsWithMore}
 use Rattle.place_search.specs.Logs.{logs_of}
 use Rattle.place_search.specs.Searching.{IsOpenAt, IsTriedAt, setting_for}
 use Rattle.place_search.specs.Visiting.{AreEndsFound, IsMore}
@@ -9,6 +10,7 @@ abbrev pub invariant-loop-hart : goal.invariant-loop-hart
 invariant-loop-hart l = record {
   going : IsOpenAt l.task l.self l.from;
   more : IsMore l.initial.self.visited l.self.visited;
-  tried : (h : ℕ) → h < l.hart → All (IsTriedAt (setting_for l.task) l.task.settle (logs_of l.self.visited.rows.items) l.from.log.items h) l.choices.items;
+  grown : IsWithMore l.initial.self.graph l.self.graph;
+  tried : (h : ℕ) → h < l.hart → All (IsTriedAt (setting_for l.task) l.task.settle (logs_of l.self.visited.rows.items) l.self.graph l.from.place l.from.log.items h) l.choices.items;
   ends : AreEndsFound (setting_for l.task) l.initial.self.visited → AreEndsFound (setting_for l.task) l.self.visited;
 }

@@ -6,6 +6,7 @@ use Rattle.place_search.specs.Logs.{logs_of}
 use Rattle.place_search.specs.Searching.{IsTriedAt, setting_for}
 use Rattle.place_search.specs.declared.stop.Stop.TheVariants.{Memory}
 use Rattle.place_search.proofs.Stops.{passed_on}
+use Rattle.place_search.proofs.Graphs.{more_graph, same_graph}
 use Rattle.place_search.proofs.Steps.{all_stay}
 use Rattle.place_search.proofs.Visits.{more_more, same_more}
 use Rattle.place_search.proofs.trying.Searcher.try_hart.Goals as goal
@@ -14,7 +15,8 @@ pub loop-choice-init : goal.loop-choice-init
 loop-choice-init c = record {
   going = c.requires.open;
   more = same_more c.args.self.now.visited;
-  tried = All-nil (IsTriedAt (setting_for c.args.task.now) c.args.task.now.settle (logs_of c.args.self.now.visited.rows.items) c.args.from.now.log.items c.args.hart.0);
+  grown = same_graph c.args.self.now.graph;
+  tried = All-nil (IsTriedAt (setting_for c.args.task.now) c.args.task.now.settle (logs_of c.args.self.now.visited.rows.items) c.args.self.now.graph c.args.from.now.place c.args.from.now.log.items c.args.hart.0);
   ends = λ found. found;
 }
 
@@ -23,14 +25,18 @@ loop-choice-preserved c =
     let s = setting_for c.args.task.now in
     let before = c.loop-choice.self.visited in
     let after = c.try_one.new.self.visited in
+    let g = c.loop-choice.self.graph in
+    let g' = c.try_one.new.self.graph in
+    let place = c.args.from.now.place in
     let log = c.args.from.now.log.items in
     let i = c.loop-choice.choice-index in
     let inv = c.loop-choice.invariant in
     record {
       going = c.in_ok-try_one.ensures.open;
       more = more_more c.args.self.now.visited before after inv.more c.in_ok-try_one.ensures.more;
-      tried = All-more (IsTriedAt s c.args.task.now.settle (logs_of after.rows.items) log c.args.hart.0) c.args.choices.now i asked.Exec c.loop-choice-test.true
-          (all_stay s c.args.task.now.settle before after log c.args.hart.0 (take i c.args.choices.now) c.in_ok-try_one.ensures.more inv.tried) c.in_ok-try_one.ensures.tried;
+      grown = more_graph c.args.self.now.graph g g' inv.grown c.in_ok-try_one.ensures.graph;
+      tried = All-more (IsTriedAt s c.args.task.now.settle (logs_of after.rows.items) g' place log c.args.hart.0) c.args.choices.now i asked.Exec c.loop-choice-test.true
+          (all_stay s c.args.task.now.settle before after g g' place log c.args.hart.0 (take i c.args.choices.now) c.in_ok-try_one.ensures.more c.in_ok-try_one.ensures.graph inv.tried) c.in_ok-try_one.ensures.tried;
       ends = λ found. c.in_ok-try_one.ensures.ends (λ is. absurd cc) (inv.ends found);
     }
 
@@ -38,10 +44,14 @@ pub returns-in_err-try_one-clause-more : goal.returns-in_err-try_one-clause-more
 returns-in_err-try_one-clause-more c =
     more_more c.args.self.now.visited c.loop-choice.self.visited c.try_one.new.self.visited c.loop-choice.invariant.more c.in_err-try_one.ensures.more
 
+pub returns-in_err-try_one-clause-graph : goal.returns-in_err-try_one-clause-graph
+returns-in_err-try_one-clause-graph c =
+    more_graph c.args.self.now.graph c.loop-choice.self.graph c.try_one.new.self.graph c.loop-choice.invariant.grown c.in_err-try_one.ensures.graph
+
 pub returns-clause-tried : goal.returns-clause-tried
 returns-clause-tried c =
     let all : take c.loop-choice.choice-index c.args.choices.now ≡ c.args.choices.now = take_all c.loop-choice.choice-index c.args.choices.now c.loop-choice-test.false in
-    subst (All (IsTriedAt (setting_for c.args.task.now) c.args.task.now.settle (logs_of c.loop-choice.self.visited.rows.items) c.args.from.now.log.items c.args.hart.0)) all c.loop-choice.invariant.tried
+    subst (All (IsTriedAt (setting_for c.args.task.now) c.args.task.now.settle (logs_of c.loop-choice.self.visited.rows.items) c.loop-choice.self.graph c.args.from.now.place c.args.from.now.log.items c.args.hart.0)) all c.loop-choice.invariant.tried
 
 pub returns-in_err-try_one-clause-ends : goal.returns-in_err-try_one-clause-ends
 returns-in_err-try_one-clause-ends c = λ not found.

@@ -1,4 +1,5 @@
 use Rattle.std.proofs.Common.{All, take}
+use Rattle.place_search.specs.Graphs.{IsWithMore}
 use Rattle.place_search.specs.Logs.{logs_of}
 use Rattle.place_search.specs.Searching.{IsOpenAt, IsTriedAt, setting_for}
 use Rattle.place_search.specs.Visiting.{AreEndsFound, IsMore}
@@ -9,6 +10,7 @@ abbrev pub invariant-loop-choice : goal.invariant-loop-choice
 invariant-loop-choice l = record {
   going : IsOpenAt l.task l.self l.from;
   more : IsMore l.initial.self.visited l.self.visited;
-  tried : All (IsTriedAt (setting_for l.task) l.task.settle (logs_of l.self.visited.rows.items) l.from.log.items l.fn.hart.0) (take l.choice-index l.choices);
+  grown : IsWithMore l.initial.self.graph l.self.graph;
+  tried : All (IsTriedAt (setting_for l.task) l.task.settle (logs_of l.self.visited.rows.items) l.self.graph l.from.place l.from.log.items l.fn.hart.0) (take l.choice-index l.choices);
   ends : AreEndsFound (setting_for l.task) l.initial.self.visited → AreEndsFound (setting_for l.task) l.self.visited;
 }

@@ -1,17 +1,21 @@
-use Rattle.std.proofs.Common.{◌≡◌, ◌∙◌, ◌++◌, ◌∷◌, [], List, true, sym, subst}
+use Rattle.std.proofs.Common.{◌≡◌, ◌<◌, ◌++◌, ◌∷◌, [], List, Contains, length, true, false, refl, sym, subst, arith}
 use Rattle.mach_types.specs.declared.events.Entry.{Entry}
 use Rattle.block_model.specs.Run.{IsBlockRun}
-use Rattle.std.proofs.lemmas.Result.{on_ok_weaker}
-use Rattle.place_search.specs.Logs.{logs_of}
+use Rattle.std.proofs.lemmas.List.Elements.{Contains-push}
+use Rattle.place_search.specs.Logs.{AreSingle, logs_of}
 use Rattle.place_search.specs.Searching.{setting_for}
 use Rattle.place_search.specs.SettlingSteps.{HasMore, IsStandingAt}
 use Rattle.place_search.specs.Sights.{is_left}
 use Rattle.place_search.specs.Visiting.{AreEndsFound}
-use Rattle.place_search.specs.declared.trying.Searcher.{Searcher}
+use Rattle.graph_walks.specs.declared.edge.Edge.{Edge}
+use Rattle.place_search.specs.declared.stop.Stop.TheVariants.{Memory}
 use Rattle.place_search.specs.declared.visited.Visited.{Visited}
 use Rattle.place_search.proofs.Edges.{calm_by}
 use Rattle.place_search.proofs.trying.Searcher.try_one.Goals.{else-task-via-then-task+else-not-is_left, else-task-via-else-task}
-use Rattle.place_search.proofs.Steps.{few_entries, going, may_visit, open_run, still_open, tried_ok, tried_refused}
+use Rattle.place_search.proofs.Graphs.{edge_added, edge_more, equal_graph, graph_stays, more_graph, same_items, same_true}
+use Rattle.place_search.proofs.Logs.{logs_length}
+use Rattle.place_search.proofs.Steps.{few_entries, going, made_ok, may_visit, one_entry, open_run, opened_after, tried_ok, tried_refused}
+use Rattle.place_search.proofs.Stops.{number_passed_on}
 use Rattle.place_search.proofs.Visits.{equal_more}
 use Rattle.place_search.proofs.trying.Searcher.try_one.Goals as goal
 
@@ -49,8 +53,17 @@ visit-requires-clause-log c =
     few_entries s c.args.from.now.log.items c.in_ok-entries-in-Ok.entries.items c.requires.task.in_range
     (subst (λ (l : List Entry). IsBlockRun s (l ++ c.in_ok-entries-in-Ok.entries.items)) c.deref.ensures.value c.in_ok-entries-in-Ok.ensures.there.run)
 
-pub returns-in_ok-entries-in-Ok-clause-open : goal.returns-in_ok-entries-in-Ok-clause-open
-returns-in_ok-entries-in-Ok-clause-open c =
+pub returns-in_err-return_to-clause-graph : goal.returns-in_err-return_to-clause-graph
+returns-in_err-return_to-clause-graph c = equal_graph c.args.self.now.graph c.return_to.new.self.graph c.in_err-return_to.ensures.graph
+
+pub returns-then-not-is_left-clause-graph : goal.returns-then-not-is_left-clause-graph
+returns-then-not-is_left-clause-graph c = equal_graph c.args.self.now.graph c.return_to.new.self.graph c.in_ok-return_to.ensures.graph
+
+pub returns-in_err-entries-in-Ok-clause-graph : goal.returns-in_err-entries-in-Ok-clause-graph
+returns-in_err-entries-in-Ok-clause-graph c = equal_graph c.args.self.now.graph c.return_to.new.self.graph c.in_ok-return_to.ensures.graph
+
+pub returns-in_err-to-in-Ok-clause-open : goal.returns-in_err-to-in-Ok-clause-open
+returns-in_err-to-in-Ok-clause-open c =
     let s = setting_for c.args.task.now in
     let x = c.return_to.new.self in
     let opened = c.in_ok-return_to.ensures.open in
@@ -58,12 +71,90 @@ returns-in_ok-entries-in-Ok-clause-open c =
     let entries = c.in_ok-entries-in-Ok.entries.items in
     let there = subst (λ (l : List Entry). IsStandingAt s l entries made.parts) c.deref.ensures.value c.in_ok-entries-in-Ok.ensures.there in
     let may = may_visit c.args.task.now x c.args.from.now entries made c.requires.task opened there c.in_ok-entries-in-Ok.ensures.start c.in_ok-entries-in-Ok.ensures.total in
-    let now : Searcher = record { visited = c.visit.new.self; made = made; moved = true } in
-    still_open c.args.task.now x now c.args.from.now opened
-    (record { visited = c.visit.ensures.kept s may; started = may.started; code = c.in_ok-entries-in-Ok.ensures.code ∙ opened.searching.code; few = c.visit.ensures.few }) c.visit.ensures.more (λ bad. absurd cc)
+    let v = c.visit.new.self in
+    let after = c.in_err-to-in-Ok.ensures in
+    let settle = c.args.task.now.settle in
+    let more = subst (λ (l : List Entry). HasMore s settle l (c.in-Ok.entry ∷ []) entries) c.deref.ensures.value c.in_ok-entries-in-Ok.ensures.more in
+    let single : settle ≡ false → AreSingle v.rows.items = λ off. after.single (one_entry s settle c.args.from.now.log.items entries c.in-Ok.entry off more) (opened.searching.single off) in
+    opened_after c.args.task.now x c.args.from.now made v x.graph opened (after.kept s may) may.started c.in_ok-entries-in-Ok.ensures.code after.few after.more
+    (graph_stays s c.args.task.now.settle x.visited v x.graph x.graph after.more refl opened.searching.graph) single
 
-pub returns-in_ok-entries-in-Ok-clause-tried : goal.returns-in_ok-entries-in-Ok-clause-tried
-returns-in_ok-entries-in-Ok-clause-tried c =
+pub returns-in_err-to-in-Ok-clause-graph : goal.returns-in_err-to-in-Ok-clause-graph
+returns-in_err-to-in-Ok-clause-graph c = equal_graph c.args.self.now.graph c.return_to.new.self.graph c.in_ok-return_to.ensures.graph
+
+pub returns-in_err-to-in-Ok-clause-ends : goal.returns-in_err-to-in-Ok-clause-ends
+returns-in_err-to-in-Ok-clause-ends c =
+    let s = setting_for c.args.task.now in
+    let x = c.return_to.new.self in
+    let made = c.settle.new.self in
+    let entries = c.in_ok-entries-in-Ok.entries.items in
+    let there = subst (λ (l : List Entry). IsStandingAt s l entries made.parts) c.deref.ensures.value c.in_ok-entries-in-Ok.ensures.there in
+    let may = may_visit c.args.task.now x c.args.from.now entries made c.requires.task c.in_ok-return_to.ensures.open there c.in_ok-entries-in-Ok.ensures.start c.in_ok-entries-in-Ok.ensures.total in
+    λ not ends.
+    c.in_err-to-in-Ok.ensures.ends (λ is. not (number_passed_on c.from_residual-in_err-to-in-Ok.result c.in_err-to-in-Ok.field-0.0 Memory c.from_residual-in_err-to-in-Ok.ensures.1 is)) s may
+    (subst (λ (v : Visited). AreEndsFound s v) (sym c.in_ok-return_to.ensures.visited) ends)
+
+pub returns-in_err-add_edge-in-Ok-clause-open : goal.returns-in_err-add_edge-in-Ok-clause-open
+returns-in_err-add_edge-in-Ok-clause-open c =
+    let s = setting_for c.args.task.now in
+    let settle = c.args.task.now.settle in
+    let x = c.return_to.new.self in
+    let opened = c.in_ok-return_to.ensures.open in
+    let made = c.settle.new.self in
+    let entries = c.in_ok-entries-in-Ok.entries.items in
+    let there = subst (λ (l : List Entry). IsStandingAt s l entries made.parts) c.deref.ensures.value c.in_ok-entries-in-Ok.ensures.there in
+    let may = may_visit c.args.task.now x c.args.from.now entries made c.requires.task opened there c.in_ok-entries-in-Ok.ensures.start c.in_ok-entries-in-Ok.ensures.total in
+    let v = c.visit.new.self in
+    let after = c.in_ok-to-in-Ok.ensures in
+    let more = subst (λ (l : List Entry). HasMore s settle l (c.in-Ok.entry ∷ []) entries) c.deref.ensures.value c.in_ok-entries-in-Ok.ensures.more in
+    let single : settle ≡ false → AreSingle v.rows.items = λ off. after.single (one_entry s settle c.args.from.now.log.items entries c.in-Ok.entry off more) (opened.searching.single off) in
+    opened_after c.args.task.now x c.args.from.now made v c.add_edge.new.self opened (after.kept s may) may.started c.in_ok-entries-in-Ok.ensures.code after.few after.more
+    (same_true s settle (logs_of v.rows.items) x.graph c.add_edge.new.self c.in_err-add_edge-in-Ok.ensures.err c.in_err-add_edge-in-Ok.ensures.ended
+    (graph_stays s settle x.visited v x.graph x.graph after.more refl opened.searching.graph)) single
+
+pub returns-in_err-add_edge-in-Ok-clause-graph : goal.returns-in_err-add_edge-in-Ok-clause-graph
+returns-in_err-add_edge-in-Ok-clause-graph c =
+    let g = c.return_to.new.self.graph in
+    more_graph c.args.self.now.graph g c.add_edge.new.self (equal_graph c.args.self.now.graph g c.in_ok-return_to.ensures.graph)
+    (same_items g c.add_edge.new.self c.in_err-add_edge-in-Ok.ensures.err c.in_err-add_edge-in-Ok.ensures.ended)
+
+pub returns-in_ok-add_edge-in-Ok-clause-open : goal.returns-in_ok-add_edge-in-Ok-clause-open
+returns-in_ok-add_edge-in-Ok-clause-open c =
+    let s = setting_for c.args.task.now in
+    let settle = c.args.task.now.settle in
+    let x = c.return_to.new.self in
+    let from = c.args.from.now in
+    let log = from.log.items in
+    let opened = c.in_ok-return_to.ensures.open in
+    let made = c.settle.new.self in
+    let entries = c.in_ok-entries-in-Ok.entries.items in
+    let there = subst (λ (l : List Entry). IsStandingAt s l entries made.parts) c.deref.ensures.value c.in_ok-entries-in-Ok.ensures.there in
+    let more = subst (λ (l : List Entry). HasMore s settle l (c.in-Ok.entry ∷ []) entries) c.deref.ensures.value c.in_ok-entries-in-Ok.ensures.more in
+    let may = may_visit c.args.task.now x from entries made c.requires.task opened there c.in_ok-entries-in-Ok.ensures.start c.in_ok-entries-in-Ok.ensures.total in
+    let at = going c.args.task.now x from c.args.hart.0 c.requires.task opened c.in_ok-return_to.ensures.stands c.requires.hart in
+    let longer = c.in-Ok.ensures.ok s log at in
+    let v = c.visit.new.self in
+    let logs = logs_of v.rows.items in
+    let size = logs_length v.rows.items in
+    let after = c.in_ok-to-in-Ok.ensures in
+    let edge : Edge = record { from = from.place; to = c.in_ok-to-in-Ok.to } in
+    let stays = graph_stays s settle x.visited v x.graph x.graph after.more refl opened.searching.graph in
+    let single : settle ≡ false → AreSingle v.rows.items = λ off. after.single (one_entry s settle log entries c.in-Ok.entry off more) (opened.searching.single off) in
+    let before = opened_after c.args.task.now x from made v x.graph opened (after.kept s may) may.started c.in_ok-entries-in-Ok.ensures.code after.few after.more stays single in
+    let place = before.place in
+    let is_made = made_ok s settle made.start logs log c.in-Ok.entry entries made.parts edge longer.run more there (omega arith) before.log_is (after.back s may) c.equal_bytes_are_equal_words.ensures
+    c.equal_words_are_the_same_place.ensures in
+    opened_after c.args.task.now x from made v c.add_edge.new.self opened (after.kept s may) may.started c.in_ok-entries-in-Ok.ensures.code after.few after.more
+    (edge_added s settle logs x.graph c.add_edge.new.self edge c.in_ok-add_edge-in-Ok.ensures.ok c.in_ok-add_edge-in-Ok.ensures.ended is_made stays) single
+
+pub returns-in_ok-add_edge-in-Ok-clause-graph : goal.returns-in_ok-add_edge-in-Ok-clause-graph
+returns-in_ok-add_edge-in-Ok-clause-graph c =
+    let g = c.return_to.new.self.graph in
+    more_graph c.args.self.now.graph g c.add_edge.new.self (equal_graph c.args.self.now.graph g c.in_ok-return_to.ensures.graph)
+    (edge_more g c.add_edge.new.self (record { from = c.args.from.now.place; to = c.in_ok-to-in-Ok.to }) c.in_ok-add_edge-in-Ok.ensures.ok c.in_ok-add_edge-in-Ok.ensures.ended)
+
+pub returns-in_ok-add_edge-in-Ok-clause-tried : goal.returns-in_ok-add_edge-in-Ok-clause-tried
+returns-in_ok-add_edge-in-Ok-clause-tried c =
     let s = setting_for c.args.task.now in
     let settle = c.args.task.now.settle in
     let x = c.return_to.new.self in
@@ -85,24 +176,27 @@ returns-in_ok-entries-in-Ok-clause-tried c =
     ] in
     let calm = calm_by s settle from c.args.hart.0 c.args.choice c.in-Ok.entry c.try_choice.new.parts c.own_of-own.result (open_run c.args.task.now x from opened) opened.sees longer
     (c.own_of-own.ensures s _ stands c.requires.hart) left c.kept_areas_are_left.ensures in
-    on_ok_weaker c.visit.result
-    (λ back.
-    tried_ok s settle made.start (logs_of c.visit.new.self.rows.items) log c.args.hart.0 c.args.choice c.in-Ok.entry c.try_choice.new.parts entries made.parts (c.in-Ok.ensures.carried s log at) calm longer more there
-    (back s may) c.equal_bytes_are_equal_words.ensures c.equal_words_are_the_same_place.ensures)
-    c.visit.ensures.back
+    let v = c.visit.new.self in
+    let edge : Edge = record { from = from.place; to = c.in_ok-to-in-Ok.to } in
+    let among = subst (λ (es : List Edge). Contains es edge) (sym c.in_ok-add_edge-in-Ok.ensures.ok) (Contains-push x.graph.edges.items edge) in
+    tried_ok s settle made.start (logs_of v.rows.items) c.add_edge.new.self from.place log c.args.hart.0 c.args.choice c.in-Ok.entry c.try_choice.new.parts entries made.parts edge (c.in-Ok.ensures.carried s log at) calm
+    longer more there refl among (c.in_ok-to-in-Ok.ensures.back s may) c.equal_bytes_are_equal_words.ensures c.equal_words_are_the_same_place.ensures
 
-pub returns-in_ok-entries-in-Ok-clause-ends : goal.returns-in_ok-entries-in-Ok-clause-ends
-returns-in_ok-entries-in-Ok-clause-ends c =
+pub returns-in_ok-add_edge-in-Ok-clause-ends : goal.returns-in_ok-add_edge-in-Ok-clause-ends
+returns-in_ok-add_edge-in-Ok-clause-ends c =
     let s = setting_for c.args.task.now in
     let x = c.return_to.new.self in
     let made = c.settle.new.self in
     let entries = c.in_ok-entries-in-Ok.entries.items in
     let there = subst (λ (l : List Entry). IsStandingAt s l entries made.parts) c.deref.ensures.value c.in_ok-entries-in-Ok.ensures.there in
     let may = may_visit c.args.task.now x c.args.from.now entries made c.requires.task c.in_ok-return_to.ensures.open there c.in_ok-entries-in-Ok.ensures.start c.in_ok-entries-in-Ok.ensures.total in
-    λ not ends. c.visit.ensures.ends not s may (subst (λ (v : Visited). AreEndsFound s v) (sym c.in_ok-return_to.ensures.visited) ends)
+    λ not ends. c.in_ok-to-in-Ok.ensures.ends (λ is. absurd cc) s may (subst (λ (v : Visited). AreEndsFound s v) (sym c.in_ok-return_to.ensures.visited) ends)
 
 pub returns-in-Err-clause-more : goal.returns-in-Err-clause-more
 returns-in-Err-clause-more c = equal_more c.args.self.now.visited c.return_to.new.self.visited c.in_ok-return_to.ensures.visited
+
+pub returns-in-Err-clause-graph : goal.returns-in-Err-clause-graph
+returns-in-Err-clause-graph c = equal_graph c.args.self.now.graph c.return_to.new.self.graph c.in_ok-return_to.ensures.graph
 
 pub returns-in-Err-clause-tried : goal.returns-in-Err-clause-tried
 returns-in-Err-clause-tried c =
@@ -110,7 +204,7 @@ returns-in-Err-clause-tried c =
     let x = c.return_to.new.self in
     let log = c.args.from.now.log.items in
     let at = going c.args.task.now x c.args.from.now c.args.hart.0 c.requires.task c.in_ok-return_to.ensures.open c.in_ok-return_to.ensures.stands c.requires.hart in
-    tried_refused s c.args.task.now.settle (logs_of x.visited.rows.items) log c.args.hart.0 c.args.choice _ (c.in-Err.ensures.carried s log at) (c.in-Err.ensures.refused s log at)
+    tried_refused s c.args.task.now.settle (logs_of x.visited.rows.items) x.graph c.args.from.now.place log c.args.hart.0 c.args.choice _ (c.in-Err.ensures.carried s log at) (c.in-Err.ensures.refused s log at)
 
 pub returns-in-Err-clause-ends : goal.returns-in-Err-clause-ends
 returns-in-Err-clause-ends c = λ not ends.

@@ -1,0 +1,2 @@
+mod Explorations
+mod Searches

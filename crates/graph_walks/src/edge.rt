@@ -1,0 +1,10 @@
+//! An edge.
+
+/// An edge from one node to another, or to itself.
+#[derive(Clone, Copy, Drop)]
+pub struct Edge {
+    /// The number of the node that it leaves.
+    pub from: u32,
+    /// The number of the node to which it leads.
+    pub to: u32,
+}

@@ -1,0 +1,54 @@
+-- Where the events of the places that were visited lead, and at which of them a run is over (own).
+use Rattle.std.specs.Prelude.{ℕ, ◌≡◌, ◌≢◌, ◌<◌, ◌++◌, Bool, List, length, None, All, Contains}
+use Rattle.mach_types.specs.declared.events.Choice.{Choice}
+use Rattle.mach_types.specs.declared.events.Entry.{Entry}
+use Rattle.block_model.specs.Events.{refusal_of}
+use Rattle.block_model.specs.Plain.{here_in_plain, plain_after, plain_over}
+use Rattle.block_model.specs.Setting.{Setting}
+use Rattle.graph_walks.specs.declared.edge.Edge.{Edge}
+use Rattle.place_search.specs.SettlingSteps.{all_or_none, none_private}
+use Rattle.place_search.specs.declared.graph.Graph.{Graph}
+use Rattle.same_places.specs.Searched.{IsOpen}
+use Rattle.settled_places.specs.Edges.{IsEdge, LeadsTo, log_by_number}
+
+-- an event of the first place, and settling steps after it, lead to the second, and both were visited
+pub record IsMade (s : Setting) (settle : Bool) (logs : List (List Entry)) (edge : Edge) : Type 0 where
+  pub from : edge.from < length logs
+  pub to : edge.to < length logs
+  pub made : IsEdge s (all_or_none settle) none_private (log_by_number logs edge.from)
+      (log_by_number logs edge.to)
+
+-- the run of the log with this number is over
+pub record IsEndedAt (s : Setting) (logs : List (List Entry)) (k : ℕ) : Type 0 where
+  pub visited : k < length logs
+  pub over : plain_over (plain_after s (log_by_number logs k)) ≢ None
+
+-- each edge is such a one, and each place that is noted as ended is
+pub record IsTrue (s : Setting) (settle : Bool) (logs : List (List Entry)) (g : Graph) : Type 0 where
+  pub edges : All (IsMade s settle logs) g.edges.items
+  pub ended : All (IsEndedAt s logs) g.ended.items
+
+-- the edge of a choice at the place with this number, which is that of the log
+pub record LeadsAlong (s : Setting) (settle : Bool) (logs : List (List Entry)) (edges : List Edge) (place : ℕ)
+    (log : List Entry) (h : ℕ) (c : Choice) : Type 0 where
+  pub edge : Edge
+  pub among : Contains edges edge
+  pub from : edge.from ≡ place
+  pub to : edge.to < length logs
+  pub leads : LeadsTo s (all_or_none settle) none_private log (log_by_number logs edge.to) h c
+
+-- there may be more edges, and more places may be noted as ended
+pub record IsWithMore (g g' : Graph) : Type 0 where
+  pub more_edges : List Edge
+  pub edges : g'.edges.items ≡ g.edges.items ++ more_edges
+  pub more_ended : List ℕ
+  pub ended : g'.ended.items ≡ g.ended.items ++ more_ended
+
+-- each place at which a run is over is noted, and each choice at another that has to be tried and is allowed
+-- has its edge
+pub record IsWhole (s : Setting) (settle : Bool) (logs : List (List Entry)) (g : Graph) : Type 0 where
+  pub ended : (k : ℕ) → k < length logs → plain_over (plain_after s (log_by_number logs k)) ≢ None
+      → Contains g.ended.items k
+  pub edges : (k h : ℕ) (c : Choice) → k < length logs → IsOpen s logs (log_by_number logs k) h c
+      → refusal_of c (here_in_plain s (plain_after s (log_by_number logs k)) h) ≡ None
+      → LeadsAlong s settle logs g.edges.items k (log_by_number logs k) h c

@@ -1,0 +1,4 @@
+pub mod Causes
+mod ElfPlaces
+mod Programs
+pub mod ScriptRuns

@@ -1,0 +1,3 @@
+pub mod Explaining
+mod Faults
+mod Outcomes

@@ -1,6 +1,0 @@
-use Rattle.std.proofs.Common.{subst, sym}
-use Rattle.outcomes.specs.Guests.{IsGuestOutput}
-use Rattle.top_call.proofs.texts.guest_output.Goals as goal
-
-pub returns-clause-output : goal.returns-clause-output
-returns-clause-output c = subst (IsGuestOutput c.args.guest) (sym c.whole.ensures) c.in_ok-guest_file.ensures.output

@@ -1,7 +1,0 @@
-use Rattle.top_call.proofs.Wholes.{run_by_rule}
-use Rattle.top_call.proofs.texts.rule_run.Goals as goal
-
-pub returns-clause-run : goal.returns-clause-run
-returns-clause-run g c =
-    run_by_rule (g.S.Shelf.file c.args.shelf.now) c.args.program.now c.args.limits c.in_ok-image.image
-    c.in_ok-machine.machine c.in_ok-image.ensures.taken c.in_ok-machine.ensures

@@ -1,0 +1,1 @@
+"""Small programs of two threads, searched with the reductions of `rseq_run outcomes` and without."""
