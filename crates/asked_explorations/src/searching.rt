@@ -34,7 +34,16 @@ pub fn searched_text<S: Shelf, K: Sink>(
 {
     let settings = asked.settings;
     let image = taken(alloc, asked.program, &settings.limits, shelf)?;
-    let (limits, places) = (settings.limits, settings.places);
-    let findings = search(alloc, &image, limits, places, settings.reductions, sink)?;
-    Ok(Output::whole(findings_text(alloc, &findings, settings.scripts)?))
+    let findings = search(
+        alloc,
+        &image,
+        settings.limits,
+        settings.places,
+        settings.signals,
+        settings.reductions,
+        settings.preemptions,
+        sink,
+    )?;
+    let signals = settings.signals;
+    Ok(Output::whole(findings_text(alloc, &findings, signals, settings.scripts)?))
 }

@@ -25,6 +25,7 @@ mod Numbers
 mod Policies
 mod Sequences
 mod Signals
+mod System
 mod Terminal
 pub mod EachCall
 

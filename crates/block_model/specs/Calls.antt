@@ -15,7 +15,8 @@ use Rattle.block_model.specs.Calls.Memory.{brk, mmap, mprotect, munmap}
 use Rattle.block_model.specs.Calls.Numbers.{getegid, geteuid, getgid, getpid, getppid, gettid, getuid, set_tid_address}
 use Rattle.block_model.specs.Calls.Policies.{sched_get_priority_max, sched_get_priority_min, sched_getparam, sched_getscheduler}
 use Rattle.block_model.specs.Calls.Signals.{rt_sigaction, rt_sigpending, rt_sigprocmask, rt_sigreturn, tgkill, tkill}
-use Rattle.block_model.specs.Calls.Terminal.{ioctl}
+use Rattle.block_model.specs.Calls.System.{uname}
+use Rattle.block_model.specs.Calls.Terminal.{fstat, ioctl}
 pub mod Affinity
 pub mod Answers
 pub mod Barriers
@@ -30,6 +31,7 @@ pub mod Numbers
 pub mod Policies
 pub mod Sequences
 pub mod Signals
+pub mod System
 pub mod Terminal
 
 -- the call of this number, of those that only ask: they answer, perhaps write to memory, and change nothing else; one that isn't there
@@ -37,11 +39,13 @@ pub mod Terminal
 abbrev pub asking_call_of : ℕ → Here → ℕ → CallDone
 asking_call_of number here t =
     if number == 29 then ioctl here t
+    else if number == 80 then fstat here t
     else if number == 120 then sched_getscheduler here t
     else if number == 121 then sched_getparam here t
     else if number == 125 then sched_get_priority_max here t
     else if number == 126 then sched_get_priority_min here t
     else if number == 136 then rt_sigpending here t
+    else if number == 160 then uname here t
     else if number == 173 then getppid here t
     else if number == 174 then getuid here t
     else if number == 175 then geteuid here t

@@ -16,7 +16,7 @@ use Rattle.clap.specs.Walk.{Held, Row, Text, Waiting, Walk, arg_by_id, arg_by_lo
 use Rattle.clap.specs.Walk.{is_pending, option, settled, used, value, walked, word_met}
 use Rattle.clap.specs.Faults.{bundle_fault, settle_fault, step_fault, turn_fault, walk_fault, word_fault}
 use Rattle.command_words.specs.Grammar.{Arguments, Item, Given, is_option}
-use Rattle.command_words.specs.Options.{OptionName, Harts, Frames, Steps, Seed, Policy, Calm, After, RunCount, Until, By, Jobs, From, To, Memory, Expect, Places, Deep, Scripts, Without, long_name, option_named}
+use Rattle.command_words.specs.Options.{OptionName, Harts, Frames, Steps, Seed, Policy, Calm, After, RunCount, Until, By, Jobs, From, To, Memory, Expect, Places, Deep, Scripts, Without, Preemptions, OwnSignals, long_name, option_named}
 use Rattle.command_words.proofs.Parts.{with_item, with_name, with_option}
 use Rattle.command_words.specs.Words.{Reading, Options, Value, Names, option_read}
 use Rattle.command_words.proofs.ClapRows.{has_held}
@@ -124,6 +124,8 @@ option_words Places = (refl, refl)
 option_words Deep = (refl, refl)
 option_words Scripts = (refl, refl)
 option_words Without = (refl, refl)
+option_words Preemptions = (refl, refl)
+option_words OwnSignals = (refl, refl)
 
 past_dash : (word : Text) → IsUtf8 (45 ∷ word) → IsUtf8 word
 past_dash word letters = IsUtf8-drop (45 ∷ word) 1 letters (IsCharBoundary-after_ascii (45 ∷ word) 0 letters

@@ -63,7 +63,7 @@ no_default_fault rows (a ∷ rest) none =
     rw (none.0, or_true (has_row a.id rows), kept (has_row a.id rows) rows) (no_default_fault rows rest none.1)
 
 none_here : HasNone rules
-none_here = (refl, (refl, (refl, (refl, (refl, (refl, (refl, (refl, (refl, (refl, (refl, (refl, (refl, (refl, (refl, (refl, (refl, (refl, (refl, (refl, (refl, (refl, tt))))))))))))))))))))))
+none_here = (refl, (refl, (refl, (refl, (refl, (refl, (refl, (refl, (refl, (refl, (refl, (refl, (refl, (refl, (refl, (refl, (refl, (refl, (refl, (refl, (refl, (refl, (refl, (refl, tt))))))))))))))))))))))))
 
 not_entered : (stop : Option (Text × List Text)) → entered_fault (built line) stop ≡ []
 not_entered None = refl

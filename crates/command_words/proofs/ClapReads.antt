@@ -11,7 +11,7 @@ use Rattle.clap.specs.Simple.{matches_of}
 use Rattle.clap.specs.Faults.{fault_of}
 use Rattle.command_words.specs.Grammar.{Arguments, Item, Name, Given, asked_by, begins_with_dash, is_option, suits}
 use Rattle.command_words.specs.Line.{AsksAlike, arguments_found, line, names_found}
-use Rattle.command_words.specs.Options.{OptionName, Harts, Frames, Steps, Seed, Policy, Calm, After, RunCount, Until, By, Jobs, From, To, Memory, Expect, Places, Deep, Scripts, Without, is_value, long_name, same_option}
+use Rattle.command_words.specs.Options.{OptionName, Harts, Frames, Steps, Seed, Policy, Calm, After, RunCount, Until, By, Jobs, From, To, Memory, Expect, Places, Deep, Scripts, Without, Preemptions, OwnSignals, is_value, long_name, same_option}
 use Rattle.command_words.specs.Options.{values_of}
 use Rattle.command_words.specs.Takes.{has, takes_kind}
 use Rattle.command_words.specs.Words.{Reading, Options, Value, Names, texts, word_read}
@@ -52,6 +52,8 @@ none_takes Places = refl
 none_takes Deep = refl
 none_takes Scripts = refl
 none_takes Without = refl
+none_takes Preemptions = refl
+none_takes OwnSignals = refl
 
 none_asked : (word : Text) (o : OptionName) (given : Arguments) → value_of o given ≡ Some dash
     → asked_by word given ≡ None

@@ -13,7 +13,7 @@ use Rattle.clap.specs.declared.parser.matches.ValueSource.TheVariants.{CommandLi
 use Rattle.clap.specs.declared.builder.value_parser.Reading.TheVariants.{AsWritten}
 use Rattle.std.proofs.lemmas.Slice.Eq.{bytes_eq-Decides}
 use Rattle.command_words.specs.Grammar.{Arguments, Item, Given, is_option}
-use Rattle.command_words.specs.Options.{OptionName, Harts, Frames, Steps, Seed, Policy, Calm, After, RunCount, Until, By, Jobs, From, To, Memory, Expect, Places, Deep, Scripts, Without, long_name, same_option}
+use Rattle.command_words.specs.Options.{OptionName, Harts, Frames, Steps, Seed, Policy, Calm, After, RunCount, Until, By, Jobs, From, To, Memory, Expect, Places, Deep, Scripts, Without, Preemptions, OwnSignals, long_name, same_option}
 use Rattle.command_words.proofs.EachOption.{names_apart, same_is}
 use Rattle.command_words.proofs.Parts.{with_item, with_option}
 use Rattle.command_words.specs.Words.{Reading, Options, Value, Names, word_read}
@@ -143,6 +143,8 @@ module _ (given : Arguments) (rows : List Row) (v : Text) (fits : Fits given row
   apart Deep = ((refl, refl), (refl, refl), (refl, refl))
   apart Scripts = ((refl, refl), (refl, refl), (refl, refl))
   apart Without = ((refl, refl), (refl, refl), (refl, refl))
+  apart Preemptions = ((refl, refl), (refl, refl), (refl, refl))
+  apart OwnSignals = ((refl, refl), (refl, refl), (refl, refl))
 
   as_before : (names : List Text) (o : OptionName) → Holds (long_name o) rows (value_of o (with_names names given))
   as_before names o = fits.options o
@@ -199,6 +201,8 @@ module _ (given : Arguments) (rows : List Row) (v : Text) (fits : Fits given row
       go Deep absent = rw absent refl
       go Scripts absent = rw absent refl
       go Without absent = rw absent refl
+      go Preemptions absent = rw absent refl
+      go OwnSignals absent = rw absent refl
 
   pub first_fits : given.names ≡ []
       → Fits (with_names (v ∷ []) given) (used (name_built 1 (codes "first")) (v ∷ []) rows)

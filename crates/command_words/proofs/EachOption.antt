@@ -5,7 +5,7 @@ use Rattle.std.specs.List.{list_all, list_any}
 use Rattle.std.specs.Str.{bytes_eq}
 use Rattle.std.proofs.lemmas.Bool.{and_parts}
 use Rattle.std.proofs.lemmas.Slice.Eq.{bytes_eq-Decides}
-use Rattle.command_words.specs.Options.{OptionName, Harts, Frames, Steps, Seed, Policy, Calm, After, RunCount, Until, By, Jobs, From, To, Memory, Expect, Places, Deep, Scripts, Without, all_options, long_name, option_named}
+use Rattle.command_words.specs.Options.{OptionName, Harts, Frames, Steps, Seed, Policy, Calm, After, RunCount, Until, By, Jobs, From, To, Memory, Expect, Places, Deep, Scripts, Without, Preemptions, OwnSignals, all_options, long_name, option_named}
 use Rattle.command_words.specs.Options.{option_word, same_option}
 
 -- an option is named by its word
@@ -29,6 +29,8 @@ named_back Places = refl
 named_back Deep = refl
 named_back Scripts = refl
 named_back Without = refl
+named_back Preemptions = refl
+named_back OwnSignals = refl
 
 -- and is among all options
 is_one : (o : OptionName) → list_any (λ x. same_option x o) all_options ≡ true
@@ -51,6 +53,8 @@ is_one Places = refl
 is_one Deep = refl
 is_one Scripts = refl
 is_one Without = refl
+is_one Preemptions = refl
+is_one OwnSignals = refl
 
 -- two options are told apart by their words
 pub same_self : (o : OptionName) → same_option o o ≡ true

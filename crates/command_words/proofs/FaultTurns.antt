@@ -6,7 +6,7 @@ use Rattle.std.proofs.lemmas.Bool.{and_parts}
 use Rattle.std.specs.Option.{is_some}
 use Rattle.step_log.specs.Script.{◌>>=◌}
 use Rattle.command_words.specs.Grammar.{Arguments, Item, Name, Given, asked_by, suits}
-use Rattle.command_words.specs.Options.{OptionName, Harts, Frames, Steps, Seed, Policy, Calm, After, RunCount, Until, By, Jobs, From, To, Memory, Expect, Places, Deep, Scripts, Without}
+use Rattle.command_words.specs.Options.{OptionName, Harts, Frames, Steps, Seed, Policy, Calm, After, RunCount, Until, By, Jobs, From, To, Memory, Expect, Places, Deep, Scripts, Without, Preemptions, OwnSignals}
 use Rattle.command_words.specs.Takes.{OptionSet, Takes, has, takes_of}
 use Rattle.command_words.specs.Takes.{with_option as with_one}
 use Rattle.command_words.specs.WordFaults.{SoFar, kind_at}
@@ -42,6 +42,8 @@ given_options given = record {
   deep = is_some (given.values Deep);
   scripts = is_some (given.values Scripts);
   without = is_some (given.values Without);
+  preemptions = is_some (given.values Preemptions);
+  signals = is_some (given.values OwnSignals);
 }
 
 -- how far the words are read that give so many names and these options, or these arguments
@@ -74,6 +76,8 @@ has_given Places given = refl
 has_given Deep given = refl
 has_given Scripts given = refl
 has_given Without given = refl
+has_given Preemptions given = refl
+has_given OwnSignals given = refl
 
 -- with a value more the names stay
 pub names_same : (option : OptionName) (text : List ℕ) (given : Arguments)
@@ -102,6 +106,8 @@ options_after Places text given = refl
 options_after Deep text given = refl
 options_after Scripts text given = refl
 options_after Without text given = refl
+options_after Preemptions text given = refl
+options_after OwnSignals text given = refl
 
 -- with this value
 pub own_value : (option : OptionName) (text : List ℕ) (given : Arguments)

@@ -13,7 +13,7 @@ use Rattle.command_words.specs.declared.faults.WordsFault.TheVariants.{UnknownGu
 use Rattle.command_words.specs.declared.takes.NameKind.{NameKind}
 use Rattle.command_words.specs.declared.takes.NameKind.TheVariants.{Program, SecondProgram, Script, Guest, Size}
 use Rattle.command_words.specs.Grammar.{Item, Name, Given, begins_with_dash, is_option}
-use Rattle.command_words.specs.Options.{OptionName, Values, Numbers, PolicyNames, KeyNames, FileNames, MemorySpans, EndNames, YesOrNo, ReductionNames, is_value, number_of, option_named, values_of}
+use Rattle.command_words.specs.Options.{OptionName, Values, Numbers, PolicyNames, KeyNames, FileNames, MemorySpans, EndNames, YesOrNo, ReductionNames, PromptOrAny, is_value, number_of, option_named, values_of}
 use Rattle.command_words.specs.Takes.{Takes, has, takes_of}
 use Rattle.command_words.specs.WordFaults.{fault_at, kind_at, kind_fault, missing}
 use Rattle.command_words.specs.WordFaults.{IsAmong, SoFar, command_read, end_fault, fault_among, fault_behind, fault_read, joined_fault}
@@ -39,6 +39,7 @@ near_value so_far option text = by_test (is_value (values_of option) text)
     none_near EndNames = (omega arith, omega arith)
     none_near YesOrNo = (omega arith, omega arith)
     none_near ReductionNames = (omega arith, omega arith)
+    none_near PromptOrAny = (omega arith, omega arith)
 
     by_test : (b : Bool) → IsNear so_far.next so_far.next (cond b None (Some (none_of (values_of option) so_far.next)))
     by_test true = tt

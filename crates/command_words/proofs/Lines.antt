@@ -17,7 +17,7 @@ use Rattle.command_words.specs.Commands.{Command}
 use Rattle.command_words.specs.Grammar.{Arguments, AreWritten, Given, IsCommandLine, IsLine}
 use Rattle.command_words.specs.Grammar.{IsWritten, Item, Name, arguments_in, asked_by, names_in}
 use Rattle.command_words.specs.Grammar.{values_in, begins_with_dash, command_in, is_option}
-use Rattle.command_words.specs.Options.{OptionName, Harts, Frames, Steps, Seed, Policy, Calm, After, RunCount, Until, By, Jobs, From, To, Memory, Expect, Places, Deep, Scripts, Without, all_options, option_named}
+use Rattle.command_words.specs.Options.{OptionName, Harts, Frames, Steps, Seed, Policy, Calm, After, RunCount, Until, By, Jobs, From, To, Memory, Expect, Places, Deep, Scripts, Without, Preemptions, OwnSignals, all_options, option_named}
 use Rattle.command_words.specs.Options.{option_word}
 use Rattle.command_words.specs.Words.{Reading, Options, Value, Names, arguments_of, behind_equals, command_of}
 use Rattle.command_words.specs.Words.{few_arguments, is_equals, items, option_read, word_read}
@@ -354,6 +354,18 @@ joined_read Without text =
       longer_than 9 (codes "--without=") text
           (omega arith),
     )
+joined_read Preemptions text =
+    simp (
+      longer_than 1 (codes "--preemptions=") text (omega arith),
+      longer_than 13 (codes "--preemptions=") text
+          (omega arith),
+    )
+joined_read OwnSignals text =
+    simp (
+      longer_than 1 (codes "--signals=") text (omega arith),
+      longer_than 9 (codes "--signals=") text
+          (omega arith),
+    )
 
 option_alone : (option : OptionName) → word_read Options (option_word option) ≡ Some (None, Value option)
 option_alone Harts = refl
@@ -375,6 +387,8 @@ option_alone Places = refl
 option_alone Deep = refl
 option_alone Scripts = refl
 option_alone Without = refl
+option_alone Preemptions = refl
+option_alone OwnSignals = refl
 
 value_read : (option : OptionName) (text : List ℕ) → begins_with_dash text ≡ false
     → word_read (Value option) text ≡ Some (Some (Given option text), Options)

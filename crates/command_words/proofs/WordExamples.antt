@@ -6,6 +6,7 @@ use Rattle.draw_policies.specs.declared.policies.Policies.{Policies}
 use Rattle.draw_policies.specs.declared.policies.Policies.TheVariants.{All, Only}
 use Rattle.draw_policies.specs.declared.policies.Policy.TheVariants as policy
 use Rattle.search_reductions.specs.Reductions.{all_reductions}
+use Rattle.search_reductions.specs.declared.signals.Signals.TheVariants.{Any, Prompt}
 use Rattle.guest_names.specs.declared.names.Name.TheVariants.{Counter, Migrate}
 use Rattle.command_words.specs.Commands.{Command, Runs, Makes, Tries, Explores, Searches, Pairs, Source, Rule, Script, Workers, Drawn, DrawnAfter}
 use Rattle.command_words.specs.declared.commands.LineSpan.{LineSpan}
@@ -309,7 +310,7 @@ no_policies = refl
 
 abbrev searching : Limits → ℕ → Bool → SearchSettings
 searching limits places scripts =
-    record { limits = limits; places = places; scripts = scripts; reductions = all_reductions }
+    record { limits = limits; places = places; scripts = scripts; reductions = all_reductions; preemptions = None; signals = Prompt }
 
 abbrev settings : ℕ → Option ℕ → OutcomeKey → Option ℕ → Settings
 settings runs until apart jobs = record {
@@ -379,6 +380,16 @@ outcomes_without : command_of (codes "outcomes" ∷ codes "F" ∷ codes "--witho
 unfolding command_of arguments_of
 outcomes_without = refl
 
+outcomes_within : command_of (codes "outcomes" ∷ codes "F" ∷ codes "--preemptions" ∷ codes "0" ∷ [])
+    ≡ Some (Searches (codes "F") (record (searching (limits 2 4096 100000) 1000000 true) { preemptions = Some 0 }))
+unfolding command_of arguments_of
+outcomes_within = refl
+
+outcomes_of_all_runs : command_of (codes "outcomes" ∷ codes "F" ∷ codes "--signals" ∷ codes "any" ∷ [])
+    ≡ Some (Searches (codes "F") (record (searching (limits 2 4096 100000) 1000000 true) { signals = Any }))
+unfolding command_of arguments_of
+outcomes_of_all_runs = refl
+
 wrong_outcomes : are_refused (
     codes "outcomes F --places=0" ∷
     codes "outcomes F --places=16000001" ∷
@@ -387,6 +398,11 @@ wrong_outcomes : are_refused (
     codes "outcomes F --without=steps" ∷
     codes "outcomes F --without=" ∷
     codes "explore F --without=local-steps" ∷
+    codes "outcomes F --preemptions=256" ∷
+    codes "outcomes F --preemptions=all" ∷
+    codes "explore F --preemptions=1" ∷
+    codes "outcomes F --signals=late" ∷
+    codes "explore F --signals=any" ∷
     codes "outcomes F --steps=5" ∷
     codes "outcomes F --seed=1" ∷
     codes "explore F --places=5" ∷

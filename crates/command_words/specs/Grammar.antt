@@ -18,7 +18,10 @@ use Rattle.draw_policies.specs.declared.policies.Policies.{Policies}
 use Rattle.draw_policies.specs.declared.policies.Policies.TheVariants.{All}
 use Rattle.guest_names.specs.Guests.{name_of}
 use Rattle.search_reductions.specs.Reductions.{all_reductions, reductions_without}
+use Rattle.search_reductions.specs.Signals.{signals_of_word}
 use Rattle.search_reductions.specs.declared.reductions.Reductions.{Reductions}
+use Rattle.search_reductions.specs.declared.signals.Signals.{Signals}
+use Rattle.search_reductions.specs.declared.signals.Signals.TheVariants.{Prompt}
 use Rattle.step_log.specs.Script.{◌>>=◌}
 use Rattle.command_words.specs.declared.commands.Guest.{Guest}
 use Rattle.command_words.specs.declared.commands.LineSpan.{LineSpan}
@@ -32,7 +35,7 @@ use Rattle.command_words.specs.declared.table.SourceKind.{SourceKind}
 use Rattle.command_words.specs.declared.table.SourceKind.TheVariants.{ByRule, ByScript, ByWorkers, ByDraws}
 use Rattle.command_words.specs.Ends.{expected_end}
 use Rattle.command_words.specs.Commands.{Command, PairRun, Run, Runs, Makes, Tries, Explores, Searches, Pairs, Source, Rule, Script, Workers, Drawn, DrawnAfter}
-use Rattle.command_words.specs.Options.{OptionName, Harts, Frames, Steps, Seed, Policy, Calm, After, RunCount, Until, By, Jobs, From, To, Memory, Expect, Places, Deep, Scripts, Without}
+use Rattle.command_words.specs.Options.{OptionName, Harts, Frames, Steps, Seed, Policy, Calm, After, RunCount, Until, By, Jobs, From, To, Memory, Expect, Places, Deep, Scripts, Without, Preemptions, OwnSignals}
 use Rattle.command_words.specs.Options.{Range, all_options, is_value}
 use Rattle.command_words.specs.Options.{number_in, number_of, option_word, range_of, same_option, values_of, yes_or_no}
 use Rattle.command_words.specs.Shown.{Shown}
@@ -139,6 +142,10 @@ said_or_yes value = unwrap_or (value >>= yes_or_no) true
 abbrev pub reductions_made : Option (List ℕ) → Reductions
 reductions_made value = unwrap_or (value >>= reductions_without) all_reductions
 
+-- of which runs a search speaks: as it is said, or of those in which a thread's own signals come at once
+abbrev pub signals_or_prompt : Option (List ℕ) → Signals
+signals_or_prompt value = unwrap_or (value >>= signals_of_word) Prompt
+
 -- what the options come to
 abbrev pub settings_of : (OptionName → Option (List ℕ)) → Settings
 settings_of values = record {
@@ -170,6 +177,8 @@ settings_of values = record {
     places = number_or 1000000 (range_of 1 16000000) (values Places);
     scripts = said_or_yes (values Scripts);
     reductions = reductions_made (values Without);
+    preemptions = number_given (range_of 0 255) (values Preemptions);
+    signals = signals_or_prompt (values OwnSignals);
   };
 }
 

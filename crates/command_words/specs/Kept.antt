@@ -30,8 +30,8 @@ use Rattle.command_words.specs.declared.takes.Takes.{Takes}
 use Rattle.command_words.specs.Commands.{Command as Asked, PairRun as AskedPair, Run as AskedRun, Runs, Makes, Tries, Explores, Searches, Pairs}
 use Rattle.command_words.specs.Commands.{Source as FromSource, Rule, Script, Workers, Drawn, DrawnAfter}
 use Rattle.command_words.specs.Grammar.{Arguments as Stated}
-use Rattle.command_words.specs.Options.{OptionName as Named, Harts, Frames, Steps, Seed, Policy, Calm, After, RunCount, Until, By, Jobs, From, To, Memory, Expect, Places, Deep, Scripts, Without, Range}
-use Rattle.command_words.specs.Options.{Values as ItsValues, Numbers as InRange, PolicyNames, KeyNames, FileNames, MemorySpans as SpansOfMemory, EndNames as NamesOfEnds, YesOrNo, ReductionNames}
+use Rattle.command_words.specs.Options.{OptionName as Named, Harts, Frames, Steps, Seed, Policy, Calm, After, RunCount, Until, By, Jobs, From, To, Memory, Expect, Places, Deep, Scripts, Without, Preemptions, OwnSignals, Range}
+use Rattle.command_words.specs.Options.{Values as ItsValues, Numbers as InRange, PolicyNames, KeyNames, FileNames, MemorySpans as SpansOfMemory, EndNames as NamesOfEnds, YesOrNo, ReductionNames, PromptOrAny}
 use Rattle.command_words.specs.Shown.{Shown as AskedShown}
 use Rattle.command_words.specs.Shown as shows
 use Rattle.command_words.specs.Spans.{spans_given}
@@ -60,6 +60,8 @@ named option.Places = Places
 named option.Deep = Deep
 named option.Scripts = Scripts
 named option.Without = Without
+named option.Preemptions = Preemptions
+named option.OwnSignals = OwnSignals
 
 -- the numbers that an option takes
 abbrev pub range : Numbers → Range
@@ -75,6 +77,7 @@ values_kept values.MemorySpans = SpansOfMemory
 values_kept values.EndNames = NamesOfEnds
 values_kept values.YesOrNo = YesOrNo
 values_kept values.ReductionNames = ReductionNames
+values_kept values.PromptOrAny = PromptOrAny
 
 -- the names, as texts
 abbrev pub names_kept : KeptNames → List (List ℕ)
@@ -104,6 +107,8 @@ value_kept kept Places = option_copied kept.places
 value_kept kept Deep = option_copied kept.deep
 value_kept kept Scripts = option_copied kept.scripts
 value_kept kept Without = option_copied kept.without
+value_kept kept Preemptions = option_copied kept.preemptions
+value_kept kept OwnSignals = option_copied kept.signals
 
 -- the arguments, with the texts of their words
 abbrev pub stated : Arguments → Stated
@@ -179,6 +184,8 @@ options_kept options = record {
   deep = options.deep;
   scripts = options.scripts;
   without = options.without;
+  preemptions = options.preemptions;
+  signals = options.signals;
 }
 
 -- what the names of a command are

@@ -5,6 +5,7 @@ use Rattle.std.specs.Str.{bytes_eq}
 use Rattle.draw_policies.specs.OutcomeKeys.{key_of_word}
 use Rattle.draw_policies.specs.Policies.{policies_of_word}
 use Rattle.search_reductions.specs.Reductions.{reductions_without}
+use Rattle.search_reductions.specs.Signals.{signals_of_word}
 use Rattle.command_words.specs.Spans.{are_spans}
 use Rattle.command_words.specs.Ends.{end_named}
 pub use Rattle.command_words.specs.Decimals.{Range, number_in, number_of, range_of}
@@ -14,7 +15,8 @@ pub use Rattle.command_words.specs.Decimals.{Range, number_in, number_of, range_
 -- behind which events are drawn; how many runs are explored, how many different outcomes are enough, by what they are told apart, and
 -- how many host threads make the runs; from which line and to which line a log is told; which bytes of memory are shown;
 -- how all runs of an exploration are expected to end; and of a search how many places are kept, how many events lead to a place at most,
--- whether the scripts of outcomes are printed, and which reduction is left out
+-- whether the scripts of outcomes are printed, which reduction is left out, how many preemptions its runs have at most, and when the
+-- signals come in them that a thread causes itself
 pub data OptionName : Type 0 where
   Harts : OptionName
   Frames : OptionName
@@ -35,9 +37,11 @@ pub data OptionName : Type 0 where
   Deep : OptionName
   Scripts : OptionName
   Without : OptionName
+  Preemptions : OptionName
+  OwnSignals : OptionName
 
 abbrev pub all_options : List OptionName
-all_options = Harts ∷ Frames ∷ Steps ∷ Seed ∷ Policy ∷ Calm ∷ After ∷ RunCount ∷ Until ∷ By ∷ Jobs ∷ From ∷ To ∷ Memory ∷ Expect ∷ Places ∷ Deep ∷ Scripts ∷ Without ∷ []
+all_options = Harts ∷ Frames ∷ Steps ∷ Seed ∷ Policy ∷ Calm ∷ After ∷ RunCount ∷ Until ∷ By ∷ Jobs ∷ From ∷ To ∷ Memory ∷ Expect ∷ Places ∷ Deep ∷ Scripts ∷ Without ∷ Preemptions ∷ OwnSignals ∷ []
 
 -- the name of an option
 abbrev pub long_name : OptionName → List ℕ
@@ -60,6 +64,8 @@ long_name Places = codes "places"
 long_name Deep = codes "deep"
 long_name Scripts = codes "scripts"
 long_name Without = codes "without"
+long_name Preemptions = codes "preemptions"
+long_name OwnSignals = codes "signals"
 
 -- the word of an option
 abbrev pub option_word : OptionName → List ℕ
@@ -74,7 +80,7 @@ abbrev pub same_option : OptionName → OptionName → Bool
 same_option one other = bytes_eq (option_word one) (option_word other)
 
 -- the values of an option: numbers, the names of policies, by what outcomes are told apart, the names of files, spans of memory, ends,
--- `yes` and `no`, or the names of reductions
+-- `yes` and `no`, the names of reductions, or `prompt` and `any`
 pub data Values : Type 0 where
   Numbers : (range : Range) → Values
   PolicyNames : Values
@@ -84,6 +90,7 @@ pub data Values : Type 0 where
   EndNames : Values
   YesOrNo : Values
   ReductionNames : Values
+  PromptOrAny : Values
 
 -- what `yes` and `no` say
 abbrev pub yes_or_no : List ℕ → Option Bool
@@ -110,6 +117,8 @@ values_of Places = Numbers (range_of 1 16000000)
 values_of Deep = Numbers (range_of 1 1000000)
 values_of Scripts = YesOrNo
 values_of Without = ReductionNames
+values_of Preemptions = Numbers (range_of 0 255)
+values_of OwnSignals = PromptOrAny
 
 -- whether a text is one of these values. A file's name is any text but `-`, which can't stand alone behind an option
 abbrev pub is_value : Values → List ℕ → Bool
@@ -121,3 +130,4 @@ is_value MemorySpans text = are_spans text
 is_value EndNames text = is_some (end_named text)
 is_value YesOrNo text = is_some (yes_or_no text)
 is_value ReductionNames text = is_some (reductions_without text)
+is_value PromptOrAny text = is_some (signals_of_word text)

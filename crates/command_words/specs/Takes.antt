@@ -8,7 +8,7 @@ use Rattle.command_words.specs.declared.table.SourceKind.{SourceKind}
 use Rattle.command_words.specs.declared.table.SourceKind.TheVariants.{ByRule, ByScript, ByWorkers, ByDraws}
 use Rattle.command_words.specs.declared.takes.NameKind.{NameKind}
 use Rattle.command_words.specs.declared.takes.NameKind.TheVariants.{Program, SecondProgram, Script, Guest, Size}
-use Rattle.command_words.specs.Options.{OptionName, Harts, Frames, Steps, Seed, Policy, Calm, After, RunCount, Until, By, Jobs, From, To, Memory, Expect, Places, Deep, Scripts, Without}
+use Rattle.command_words.specs.Options.{OptionName, Harts, Frames, Steps, Seed, Policy, Calm, After, RunCount, Until, By, Jobs, From, To, Memory, Expect, Places, Deep, Scripts, Without, Preemptions, OwnSignals}
 use Rattle.command_words.specs.Table.{command_kind}
 
 -- some of the options
@@ -32,6 +32,8 @@ pub record OptionSet : Type 0 where
   pub deep : Bool
   pub scripts : Bool
   pub without : Bool
+  pub preemptions : Bool
+  pub signals : Bool
 
 -- none of them
 abbrev pub no_options : OptionSet
@@ -55,6 +57,8 @@ no_options = record {
   deep = false;
   scripts = false;
   without = false;
+  preemptions = false;
+  signals = false;
 }
 
 -- whether an option is among them
@@ -78,6 +82,8 @@ has options Places = options.places
 has options Deep = options.deep
 has options Scripts = options.scripts
 has options Without = options.without
+has options Preemptions = options.preemptions
+has options OwnSignals = options.signals
 
 -- these and one more
 abbrev pub with_option : OptionSet → OptionName → OptionSet
@@ -100,6 +106,8 @@ with_option options Places = record options { places = true }
 with_option options Deep = record options { deep = true }
 with_option options Scripts = record options { scripts = true }
 with_option options Without = record options { without = true }
+with_option options Preemptions = record options { preemptions = true }
+with_option options OwnSignals = record options { signals = true }
 
 -- what a command takes: these names in this order, and these options in any
 pub record Takes : Type 0 where
@@ -151,7 +159,7 @@ abbrev pub taken_by_search : Takes
 taken_by_search =
     record {
       names = Program ∷ [];
-      options = record no_options { harts = true; frames = true; places = true; deep = true; scripts = true; without = true };
+      options = record no_options { harts = true; frames = true; places = true; deep = true; scripts = true; without = true; preemptions = true; signals = true };
     }
 
 -- what the making of a guest takes

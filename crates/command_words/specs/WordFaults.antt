@@ -11,13 +11,13 @@ use Rattle.step_log.specs.Script.{◌>>=◌}
 use Rattle.command_words.specs.declared.faults.WordsFault.{WordsFault}
 use Rattle.command_words.specs.declared.faults.WordsFault.TheVariants.{NoCommand, UnknownCommand, UnknownOption}
 use Rattle.command_words.specs.declared.faults.WordsFault.TheVariants.{NotTaken, Twice, NoValue, OutOfRange, UnknownPolicy}
-use Rattle.command_words.specs.declared.faults.WordsFault.TheVariants.{NeitherTextNorEnd, NoSpans, NoEnd, NeitherYesNorNo, UnknownReduction}
+use Rattle.command_words.specs.declared.faults.WordsFault.TheVariants.{NeitherTextNorEnd, NoSpans, NoEnd, NeitherYesNorNo, UnknownReduction, NeitherPromptNorAny}
 use Rattle.command_words.specs.declared.faults.WordsFault.TheVariants.{OneNameTooMany, NoProgram, NoSecondProgram, NoScript}
 use Rattle.command_words.specs.declared.faults.WordsFault.TheVariants.{UnknownGuest, NoNumber, NoGuest, NoSize}
 use Rattle.command_words.specs.declared.takes.NameKind.{NameKind}
 use Rattle.command_words.specs.declared.takes.NameKind.TheVariants.{Program, SecondProgram, Script, Guest, Size}
 use Rattle.command_words.specs.Grammar.{Item, Name, Given, begins_with_dash, is_option}
-use Rattle.command_words.specs.Options.{OptionName, Values, Numbers, PolicyNames, KeyNames, FileNames, MemorySpans, EndNames, YesOrNo, ReductionNames, is_value, number_of, option_named, values_of}
+use Rattle.command_words.specs.Options.{OptionName, Values, Numbers, PolicyNames, KeyNames, FileNames, MemorySpans, EndNames, YesOrNo, ReductionNames, PromptOrAny, is_value, number_of, option_named, values_of}
 use Rattle.command_words.specs.Takes.{OptionSet, Takes, has, no_options, takes_of, with_option}
 use Rattle.command_words.specs.Words.{Reading, Options, Value, Names, behind_equals, is_equals, word_read}
 
@@ -52,6 +52,7 @@ none_of MemorySpans word = NoSpans word
 none_of EndNames word = NoEnd word
 none_of YesOrNo word = NeitherYesNorNo word
 none_of ReductionNames word = UnknownReduction word
+none_of PromptOrAny word = NeitherPromptNorAny word
 
 -- a value is one of those that its option takes
 abbrev pub value_fault : SoFar → OptionName → List ℕ → Option WordsFault
@@ -175,6 +176,7 @@ word_of (NoSpans word) = Some word
 word_of (NoEnd word) = Some word
 word_of (NeitherYesNorNo word) = Some word
 word_of (UnknownReduction word) = Some word
+word_of (NeitherPromptNorAny word) = Some word
 word_of (OneNameTooMany word) = Some word
 word_of (UnknownGuest word) = Some word
 word_of (NoNumber word) = Some word

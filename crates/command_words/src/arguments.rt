@@ -67,6 +67,10 @@ pub(crate) struct Arguments<'a> {
     pub(crate) scripts: Option<&'a str>,
     /// The value of `--without`.
     pub(crate) without: Option<&'a str>,
+    /// The value of `--preemptions`.
+    pub(crate) preemptions: Option<&'a str>,
+    /// The value of `--signals`.
+    pub(crate) signals: Option<&'a str>,
 }
 
 /// An option of this name, which takes a value.
@@ -109,7 +113,9 @@ fn options<'a>(alloc: Global) -> Result<Parser<'a>, AllocError>
         .arg(option(alloc, "places"))?
         .arg(option(alloc, "deep"))?
         .arg(option(alloc, "scripts"))?
-        .arg(option(alloc, "without"))
+        .arg(option(alloc, "without"))?
+        .arg(option(alloc, "preemptions"))?
+        .arg(option(alloc, "signals"))
 }
 
 /// A parser of what may stand behind a command.
@@ -168,6 +174,8 @@ fn arguments_in<'a>(matches: &ArgMatches<'a>) -> Arguments<'a>
         deep: matches.get_str("deep"),
         scripts: matches.get_str("scripts"),
         without: matches.get_str("without"),
+        preemptions: matches.get_str("preemptions"),
+        signals: matches.get_str("signals"),
     }
 }
 

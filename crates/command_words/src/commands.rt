@@ -7,7 +7,7 @@ ghost use Rattle.command_words.specs.Commands.{AreInRange, AreSearchable, HasHar
 ghost use Rattle.command_words.specs.Kept.{named, names_kept, pair_said, range, run_said, said, shown_said, source_said, spans_kept, stated, takes_kept};
 ghost use Rattle.command_words.specs.Grammar.{all_suit, apart_or_text, asked_by, asked_for, command_for, drawn_source, files_for, guest_for, guest_named};
 ghost use Rattle.command_words.specs.Grammar.{harts_for, one_name, policies_or_all, run_for, settings_of, shown_for, suits, trial_of};
-ghost use Rattle.command_words.specs.Grammar.{number_given, pair_for, program_for, reductions_made, said_or_yes, two_names};
+ghost use Rattle.command_words.specs.Grammar.{number_given, pair_for, program_for, reductions_made, said_or_yes, signals_or_prompt, two_names};
 ghost use Rattle.command_words.specs.Options.{After, Memory};
 ghost use Rattle.command_words.specs.Words.{command_of, texts};
 
@@ -15,7 +15,7 @@ use crate::arguments::{Arguments, FileNames, arguments_of};
 use crate::ends::expected_end;
 use crate::options::{
     ALL_OPTIONS, CALM, DEPTHS, FRAMES, HARTS, JOBS, LINES, Numbers, OUTCOMES, OptionName, PLACES,
-    RUNS, SEEDS, STEPS, number_of, yes_or_no,
+    PREEMPTIONS, RUNS, SEEDS, STEPS, number_of, yes_or_no,
 };
 use crate::spans::MemorySpans;
 use crate::table::{CommandKind, ShownKind, SourceKind, command_kind};
@@ -23,7 +23,7 @@ use crate::takes::Takes;
 use draw_policies::{OutcomeKey, Policies};
 use guest_names::Name;
 use mach_types::{End, Limits};
-use search_reductions::{ALL_REDUCTIONS, Reductions};
+use search_reductions::{ALL_REDUCTIONS, Reductions, Signals};
 use std::alloc::{AllocError, Global};
 
 /// How the events of runs are drawn from their seeds.
@@ -140,6 +140,10 @@ pub struct SearchSettings {
     pub scripts: bool,
     /// Which reductions the search makes.
     pub reductions: Reductions,
+    /// How many preemptions a run may have, at most 255; None where it may have any number.
+    pub preemptions: Option<u8>,
+    /// Of which runs the search speaks, by when the signals come that a thread causes itself.
+    pub signals: Signals,
 }
 
 /// What the options of a command come to.
@@ -234,7 +238,7 @@ impl Trial {
 /// commands on a script, with `--harts` too, `inspect` with `--memory` besides, and `trace` with `--from` and `--to`;
 /// `run FILE`, with `--harts` and `--seed` too; `draw FILE`, with `--policy`, `--calm` and `--after` besides; `explore FILE`,
 /// with `--policy`, `--calm`, `--runs`, `--until`, `--by`, `--jobs` and `--expect`; `outcomes FILE`, with `--harts`,
-/// `--frames`, `--places`, `--deep`, `--scripts` and `--without`; `make NAME N`, with no option; `trial NAME N`, with
+/// `--frames`, `--places`, `--deep`, `--scripts`, `--without`, `--preemptions` and `--signals`; `make NAME N`, with no option; `trial NAME N`, with
 /// `--harts`, `--steps` and `--seed`; or `pair FILE1 FILE2 SCRIPT`, with the options of `play`. Each limit is in its range.
 #[tactic(auto, unfolding(crate::specs::Words::command_of))]
 pub(crate) fn command_of<'a>(
@@ -289,6 +293,8 @@ impl<'a> Arguments<'a> {
             OptionName::Deep => self.deep,
             OptionName::Scripts => self.scripts,
             OptionName::Without => self.without,
+            OptionName::Preemptions => self.preemptions,
+            OptionName::OwnSignals => self.signals,
         }
     }
 
@@ -363,6 +369,8 @@ impl<'a> Arguments<'a> {
             places: PLACES.number_or(1_000_000, self.places) as u32,
             scripts: said_or_yes(self.scripts),
             reductions: reductions_made(self.without),
+            preemptions: small_in(PREEMPTIONS, self.preemptions),
+            signals: signals_or_prompt(self.signals),
         }
     }
 
@@ -407,7 +415,7 @@ fn count_in(numbers: Numbers, text: Option<&str>) -> Option<u32>
 
 /// A small number of an option that has no default; None where none of these is given.
 fn small_in(numbers: Numbers, text: Option<&str>) -> Option<u8>
-    requires { numbers.most ≤ 64 }
+    requires { numbers.most ≤ 255 }
     ensures number { result ≡ number_given (range numbers) (option_copied text.entry) }
     ensures least { IfSome result (λ number. numbers.least ≤ number) }
 {
@@ -432,6 +440,16 @@ fn reductions_made(name: Option<&str>) -> Reductions
     match name {
         Some(name) => Reductions::all_but(name).unwrap_or(ALL_REDUCTIONS),
         None => ALL_REDUCTIONS,
+    }
+}
+
+/// Of which runs a search speaks: as it is said, or of those in which a thread's own signals come at once.
+fn signals_or_prompt(word: Option<&str>) -> Signals
+    ensures { result ≡ signals_or_prompt (option_copied word.entry) }
+{
+    match word {
+        Some(word) => Signals::of_word(word).unwrap_or(Signals::Prompt),
+        None => Signals::Prompt,
     }
 }
 

@@ -46,6 +46,8 @@ pub enum WordsFault {
     NeitherYesNorNo(usize),
     /// The value in this word names no reduction of a search.
     UnknownReduction(usize),
+    /// The value in this word is neither `prompt` nor `any`.
+    NeitherPromptNorAny(usize),
     /// This word is a name too many.
     OneNameTooMany(usize),
     /// This word is to name a guest, and names none.

@@ -10,7 +10,7 @@ ghost use Rattle.command_words.specs.Options.{is_value, number_in, number_of, op
 use crate::ends::end_of_text;
 use crate::spans::are_spans;
 use draw_policies::{OutcomeKey, Policies};
-use search_reductions::Reductions;
+use search_reductions::{Reductions, Signals};
 
 /// The options that commands have.
 #[derive(Clone, Copy, Drop)]
@@ -53,10 +53,14 @@ pub(crate) enum OptionName {
     Scripts,
     /// Which reduction a search leaves out.
     Without,
+    /// How many preemptions the runs of a search have at most.
+    Preemptions,
+    /// When the signals come, in the runs of a search, that a thread causes itself.
+    OwnSignals,
 }
 
 /// All options.
-pub(crate) const ALL_OPTIONS: [OptionName; 19] = [
+pub(crate) const ALL_OPTIONS: [OptionName; 21] = [
     OptionName::Harts,
     OptionName::Frames,
     OptionName::Steps,
@@ -76,6 +80,8 @@ pub(crate) const ALL_OPTIONS: [OptionName; 19] = [
     OptionName::Deep,
     OptionName::Scripts,
     OptionName::Without,
+    OptionName::Preemptions,
+    OptionName::OwnSignals,
 ];
 
 /// Some numbers.
@@ -144,6 +150,12 @@ pub(crate) const DEPTHS: Numbers = Numbers {
     most: 1_000_000,
 };
 
+/// How many preemptions the runs of a search may have.
+pub(crate) const PREEMPTIONS: Numbers = Numbers {
+    least: 0,
+    most: 255,
+};
+
 /// What `yes` and `no` say; None of any other text.
 pub(crate) fn yes_or_no(text: &str) -> Option<bool>
     ensures { result ≡ yes_or_no text.now }
@@ -174,6 +186,8 @@ pub(crate) enum Values {
     YesOrNo,
     /// The names of reductions.
     ReductionNames,
+    /// `prompt` and `any`.
+    PromptOrAny,
 }
 
 impl OptionName {
@@ -201,6 +215,8 @@ impl OptionName {
             "--deep" => Some(OptionName::Deep),
             "--scripts" => Some(OptionName::Scripts),
             "--without" => Some(OptionName::Without),
+            "--preemptions" => Some(OptionName::Preemptions),
+            "--signals" => Some(OptionName::OwnSignals),
             _ => None,
         }
     }
@@ -229,6 +245,8 @@ impl OptionName {
             OptionName::Deep => Values::Numbers(DEPTHS),
             OptionName::Scripts => Values::YesOrNo,
             OptionName::Without => Values::ReductionNames,
+            OptionName::Preemptions => Values::Numbers(PREEMPTIONS),
+            OptionName::OwnSignals => Values::PromptOrAny,
         }
     }
 }
@@ -247,6 +265,7 @@ impl Values {
             Values::EndNames => end_of_text(text).is_some(),
             Values::YesOrNo => yes_or_no(text).is_some(),
             Values::ReductionNames => Reductions::all_but(text).is_some(),
+            Values::PromptOrAny => Signals::of_word(text).is_some(),
         }
     }
 }

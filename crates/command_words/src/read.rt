@@ -27,7 +27,7 @@ pub enum WordsError {
 /// commands on the events of a script, with `--harts` too, `inspect` with `--memory` besides, and `trace` with `--from` and
 /// `--to`; `run FILE`, with `--harts` and `--seed` too; `draw FILE`, with `--policy`, `--calm` and `--after` besides;
 /// `explore FILE`, with `--policy`, `--calm`, `--runs`, `--until`, `--by`, `--jobs` and `--expect`;
-/// `outcomes FILE`, with `--harts`, `--frames`, `--places`, `--deep`, `--scripts` and `--without`; `make NAME N`, with no option;
+/// `outcomes FILE`, with `--harts`, `--frames`, `--places`, `--deep`, `--scripts`, `--without`, `--preemptions` and `--signals`; `make NAME N`, with no option;
 /// `trial NAME N`, with `--harts`, `--steps` and `--seed`; or `pair FILE1 FILE2 SCRIPT`, with the options of `play`. Each limit
 /// is in its range.
 pub fn read_words<'a>(alloc: Global, words: &'a [String]) -> Result<Command<'a>, WordsError>

@@ -78,6 +78,7 @@ impl Values {
             Values::EndNames => WordsFault::NoEnd(word),
             Values::YesOrNo => WordsFault::NeitherYesNorNo(word),
             Values::ReductionNames => WordsFault::UnknownReduction(word),
+            Values::PromptOrAny => WordsFault::NeitherPromptNorAny(word),
         }
     }
 }

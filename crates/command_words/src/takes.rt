@@ -31,6 +31,8 @@ pub(crate) struct OptionSet {
     deep: bool,
     scripts: bool,
     without: bool,
+    preemptions: bool,
+    signals: bool,
 }
 
 impl OptionSet {
@@ -65,6 +67,8 @@ impl OptionSet {
             OptionName::Deep => self.deep,
             OptionName::Scripts => self.scripts,
             OptionName::Without => self.without,
+            OptionName::Preemptions => self.preemptions,
+            OptionName::OwnSignals => self.signals,
         }
     }
 
@@ -93,6 +97,8 @@ impl OptionSet {
             OptionName::Deep => all.deep = true,
             OptionName::Scripts => all.scripts = true,
             OptionName::Without => all.without = true,
+            OptionName::Preemptions => all.preemptions = true,
+            OptionName::OwnSignals => all.signals = true,
         }
         all
     }
@@ -119,6 +125,8 @@ const NO_OPTIONS: OptionSet = OptionSet {
     deep: false,
     scripts: false,
     without: false,
+    preemptions: false,
+    signals: false,
 };
 
 /// The options of a command that runs on one hart: it chooses nothing.
@@ -184,6 +192,8 @@ const OF_A_SEARCH: OptionSet = OptionSet {
     deep: true,
     scripts: true,
     without: true,
+    preemptions: true,
+    signals: true,
     ..NO_OPTIONS
 };
 

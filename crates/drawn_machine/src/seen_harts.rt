@@ -4,7 +4,7 @@ ghost use Rattle.std.specs.Prelude.{◌≡◌, ◌<◌, ◌≤◌, ℕ, [], true
 ghost use Rattle.std.specs.Bool.{OnTrue};
 ghost use Rattle.block_model.specs.{Deciding.history, History.waiting, Sights.is_all_taken};
 ghost use Rattle.drawings.specs.Scenes.{is_able, startable};
-ghost use Rattle.drawn_runs.specs.DrawnRuns.{traps_by};
+ghost use Rattle.prompt_runs.specs.Owed.{traps_by};
 ghost use Rattle.drawn_machine.specs.Scenes.{AreListed, scene_of};
 
 use crate::starting_threads::startable_threads;

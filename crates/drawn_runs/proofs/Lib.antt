@@ -7,5 +7,6 @@ mod OneRun
 mod Opened
 mod OwnSignals
 mod Places
+mod PromptRuns
 mod ReadyNumbers
 mod Work

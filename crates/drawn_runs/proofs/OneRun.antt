@@ -42,11 +42,11 @@ none_drawn s m before over =
     no_entry s before (has_ended s before) (draw (scene_at s before) (drawing_at s m before)) (over_is_ended s before over)
 
 -- what a drawn log goes on from is drawn
-last_drawn : (s : Setting) (m : Manner) (first : List Entry) (e : Entry) → IsDrawn s m (first ++ e ∷ [])
+pub last_drawn : (s : Setting) (m : Manner) (first : List Entry) (e : Entry) → IsDrawn s m (first ++ e ∷ [])
     → IsDrawnHistory s m (event s (history s first) e ∷ history s first)
 last_drawn s m first e drawn = subst (λ (before : History). IsDrawnHistory s m before) (history-append s first e) drawn
 
-drawn_before : (s : Setting) (m : Manner) (first more : List Entry) → IsDrawn s m (first ++ more) → IsDrawn s m first
+pub drawn_before : (s : Setting) (m : Manner) (first more : List Entry) → IsDrawn s m (first ++ more) → IsDrawn s m first
 drawn_before s m first [] drawn = subst (λ (l : List Entry). IsDrawn s m l) (append-nil first) drawn
 drawn_before s m first (e ∷ more) drawn =
     let longer = drawn_before s m (first ++ e ∷ []) more

@@ -33,8 +33,9 @@ use Rattle.block_model.specs.History.{Event, History, here_in_history, is_of_har
 use Rattle.block_model.specs.Instruction.{fault_by, fetched, instruction_of, next_instruction}
 use Rattle.block_model.specs.Setting.{Setting}
 use Rattle.block_model.specs.Sights.{effect_on, fault_on, is_deliverable_on, is_local_on}
-use Rattle.drawn_runs.specs.DrawnRuns.{IsDrawn, IsDrawnHistory, drawing_at, drawn_at, drawn_entry, entry_of, first_drawing, scene_at, traps_by}
-use Rattle.drawn_runs.specs.OwnSignals.{is_back_by, owes}
+use Rattle.drawn_runs.specs.DrawnRuns.{IsDrawn, IsDrawnHistory, drawing_at, drawn_at, drawn_entry, entry_of, first_drawing, scene_at}
+use Rattle.drawn_runs.specs.OwnSignals.{owes}
+use Rattle.prompt_runs.specs.Owed.{is_back_by, traps_by}
 use Rattle.drawn_runs.specs.declared.manner.Manner.{Manner}
 use Rattle.drawn_runs.proofs.Allowed.{drawing_is_for, drawn_place}
 use Rattle.drawn_runs.proofs.Logs.{event_of_entry}

@@ -1,11 +1,9 @@
 -- Drawn runs (own): logs each of whose entries is the one that a policy draws at its place, from the seed and the log so far.
-use Rattle.std.specs.Prelude.{ℕ, ◌≡◌, ◌+◌, ◌||◌, Bool, false, List, [], ◌∷◌, length, Option, Some, None, if◌then◌else◌, is_some, nat_lt}
-use Rattle.std.specs.Option.{option_map, option_map_or}
+use Rattle.std.specs.Prelude.{ℕ, ◌≡◌, ◌+◌, Bool, false, List, [], ◌∷◌, length, Option, Some, None, if◌then◌else◌, nat_lt}
+use Rattle.std.specs.Option.{option_map}
 use Rattle.mach_types.specs.Kernel.Scheduling.{Scheduling}
 use Rattle.mach_types.specs.Kernel.Threads.{Threads, is_ready}
 use Rattle.mach_types.specs.declared.events.Entry.{Entry}
-use Rattle.rv_inst.specs.Class.{is_call}
-use Rattle.rv_inst.specs.declared.effects.Effect.{Effect}
 use Rattle.drawings.specs.Drawings.{Drawn, draw, kept_after}
 use Rattle.drawings.specs.Scenes.{Scene, passing}
 use Rattle.drawings.specs.Starts.{start}
@@ -18,17 +16,13 @@ use Rattle.block_model.specs.History.{History, here_in_history, kernel, ran}
 use Rattle.block_model.specs.Record.{Kernel}
 use Rattle.block_model.specs.Sequences.{is_inside_here}
 use Rattle.block_model.specs.Setting.{Setting}
-use Rattle.block_model.specs.Sights.{effect_here, fault_here, sight_in}
+use Rattle.block_model.specs.Sights.{sight_in}
+use Rattle.prompt_runs.specs.Owed.{traps}
 
 -- whether the thread on the hart is inside a good sequence
 abbrev pub is_inside_on : Here → Option ℕ → Bool
 is_inside_on here None = false
 is_inside_on here (Some t) = is_inside_here here t
-
--- whether the next instruction of the hart's thread traps: it is a call, or makes a fault (RISC-V Privileged Architecture: an
--- environment call or another exception)
-abbrev pub traps_by : Option Effect → Option ℕ → Bool
-traps_by effect fault = is_some fault || option_map_or is_call effect false
 
 -- the numbers of the ready threads, rising
 abbrev pub ready_numbers : Threads → List ℕ
@@ -45,7 +39,7 @@ scene_at s before = record {
   harts = s.limits.harts;
   sight = λ h. sight_in (here_in_history s before h) (ran h before) 0;
   is_inside = λ h. is_inside_on (here_in_history s before h) (runs (here_in_history s before h));
-  traps = λ h. traps_by (effect_here (here_in_history s before h)) (fault_here (here_in_history s before h));
+  traps = λ h. traps (here_in_history s before h);
   scheduling = by_number (kernel s before);
 }
 

@@ -1,22 +1,13 @@
 -- Signals that a hart owes its thread (own, as Linux: signal(7)): the kernel delivers a signal before it goes back to the thread, so one
 -- that a thread sends to itself or unmasks is delivered before the call returns (POSIX raise, kill, pthread_sigmask), and that of a fault
 -- before any further instruction.
-use Rattle.std.specs.Prelude.{ℕ, ◌&&◌, Bool, true, false, not, [], ◌∷◌, length, if◌then◌else◌, nat_lt}
+use Rattle.std.specs.Prelude.{ℕ, ◌&&◌, Bool, false, not, [], ◌∷◌, length, if◌then◌else◌, nat_lt}
 use Rattle.mach_types.specs.Events.{nature_of}
-use Rattle.mach_types.specs.declared.events.Entry.{Entry}
-use Rattle.mach_types.specs.declared.events.Maker.{Maker}
-use Rattle.mach_types.specs.declared.events.Maker.TheVariants.{Thread, Buffer, Kernel}
 use Rattle.block_model.specs.History.{History, is_of_hart}
 use Rattle.block_model.specs.Setting.{Setting}
+use Rattle.prompt_runs.specs.Owed.{is_back_by}
 use Rattle.drawn_runs.specs.DrawnRuns.{scene_at}
 use Rattle.drawn_runs.specs.declared.manner.Manner.{Manner}
-
--- whether a hart is on its way back from its kernel behind an event of this maker: behind an instruction of its thread that trapped,
--- behind a store of it that entered memory where it was so before, and behind each event of the kernel
-abbrev pub is_back_by : Maker → Bool → Bool → Bool
-is_back_by Thread traps before = traps
-is_back_by Buffer traps before = before
-is_back_by Kernel traps before = true
 
 -- whether hart h owes its thread a signal: one can be delivered, and could ever since the hart is on its way back from its kernel. What
 -- a script made counts for nothing

@@ -12,6 +12,7 @@ ghost use Rattle.drawn_runs.specs.declared.manner.Manner.{Manner};
 ghost use Rattle.drawn_runs.specs.DrawnRuns.{IsDrawn, drawn_at, drawn_entry, entry_of, scene_at};
 ghost use Rattle.drawn_runs.specs.OwnSignals.{owes};
 ghost use Rattle.drawn_runs.specs.WholeRuns.{IsDrawnRun};
+ghost use Rattle.prompt_runs.specs.Prompt.{IsPrompt};
 
 /// What is drawn at a place of a block run is allowed there.
 pub fn drawn_events_are_allowed()
@@ -46,6 +47,12 @@ pub fn own_signals_come_at_once()
         → owes s m x.hart (history s log) ≡ true
         → ((scene_at s (history s log)).sight x.hart).in_barrier ≡ false
         → x.choice ≡ emptied_before ((scene_at s (history s log)).sight x.hart) asked.Signal }
+{}
+
+/// A run that is drawn without a script is prompt: each signal that a hart owes its thread comes at once.
+pub fn drawn_runs_are_prompt()
+    ensures { (s : Setting) (m : Manner) (log : List Entry) → 0 < s.limits.harts → s.limits.harts ≤ 8
+        → m.scripted ≡ 0 → IsBlockRun s log → IsDrawn s m log → IsPrompt s log }
 {}
 
 /// Whole drawn runs of one manner that begin with the same entries, no fewer than a script made, go on alike: without a script there

@@ -11,9 +11,9 @@ use Rattle.block_model.specs.Here.{Here, runs}
 use Rattle.block_model.specs.PlainEvents.{is_plain_exec_by, is_plain_exec_of}
 use Rattle.block_model.specs.Sights.{effect_on, fault_on}
 use Rattle.process.specs.Harts.{file_on}
+use Rattle.fact_types.specs.declared.calls.SystemCall.{SystemCall}
 use Rattle.event_facts.specs.Calls.{call_by, call_in, call_on, is_calling, is_it}
 use Rattle.event_facts.specs.Telling.{plain_event_of}
-use Rattle.event_facts.specs.declared.calls.SystemCall.{SystemCall}
 use Rattle.event_facts.specs.declared.telling.PlainEvent.{PlainEvent}
 use Rattle.event_facts.specs.declared.telling.PlainEvent.TheVariants.{Instruction, Drain}
 use Rattle.event_facts.proofs.PlainKinds.{Executes, drains, executes}

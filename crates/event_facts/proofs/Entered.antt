@@ -7,12 +7,12 @@ use Rattle.mach_types.specs.declared.user_memory.Store.{Store}
 use Rattle.rv_inst.specs.Execution.{word_seen}
 use Rattle.block_model.specs.Here.{Here, memory}
 use Rattle.block_model.specs.History.{History, reservation}
+use Rattle.fact_types.specs.declared.facts.Fact.{Fact}
+use Rattle.fact_types.specs.declared.facts.Fact.TheVariants.{Entered}
 use Rattle.event_facts.specs.Deeds.{entered_in}
 use Rattle.event_facts.specs.Facts.{entered_facts, number_before}
 use Rattle.event_facts.specs.Reservations.{all_lost, lost_facts, lost_of}
 use Rattle.event_facts.specs.declared.deeds.Deed.{Deed}
-use Rattle.event_facts.specs.declared.facts.Fact.{Fact}
-use Rattle.event_facts.specs.declared.facts.Fact.TheVariants.{Entered}
 use Rattle.event_facts.proofs.Lists.{nothing_in_all}
 
 -- before the first write memory is as it was

@@ -10,10 +10,10 @@ use Rattle.block_model.specs.Deciding.{done, event}
 use Rattle.block_model.specs.History.{History}
 use Rattle.block_model.specs.Setting.{Setting}
 use Rattle.block_model.proofs.ExamplePrograms.{code_and_data, entry as by, within_frames}
+use Rattle.fact_types.specs.declared.facts.Fact.{Fact}
+use Rattle.fact_types.specs.declared.facts.Fact.TheVariants.{Read, Waits, Entered, Reserved, Used, Failed, Ended, Register}
+use Rattle.fact_types.specs.declared.facts.Source.TheVariants.{Start, Memory, Waiting}
 use Rattle.event_facts.specs.Facts.{facts_of, read_facts}
-use Rattle.event_facts.specs.declared.facts.Fact.{Fact}
-use Rattle.event_facts.specs.declared.facts.Fact.TheVariants.{Read, Waits, Entered, Reserved, Used, Failed, Ended, Register}
-use Rattle.event_facts.specs.declared.facts.Source.TheVariants.{Start, Memory, Waiting}
 
 -- it stores 7 at 0x20000, loads the 8 bytes there, and the 8 bytes from 0x20004 on; then it reserves the first 8, and stores there by SC
 -- twice, of which the second fails. It reserves them again, then the 4 bytes at 0x2000C, and stores there by SC twice

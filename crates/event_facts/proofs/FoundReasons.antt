@@ -25,13 +25,13 @@ use Rattle.block_model.specs.Run.{IsBlockRun}
 use Rattle.block_model.specs.Sequences.{interruption_here}
 use Rattle.block_model.specs.Setting.{Seen}
 use Rattle.block_model.proofs.Laws.{IsGoodHere, needs_thread, next_event, running_is, same_here}
+use Rattle.fact_types.specs.declared.calls.SystemCall.{SystemCall}
+use Rattle.fact_types.specs.declared.killing.KillWhy.{KillWhy}
+use Rattle.fact_types.specs.declared.killing.KillWhy.TheVariants.{AreaWords, CallInside}
 use Rattle.event_facts.specs.Calls.{call_in, call_on, is_calling}
 use Rattle.event_facts.specs.Interruptions.{came_by}
 use Rattle.event_facts.specs.Killing.{IsReason, called_kills, came_bad, delivery_kills, executing_kills, instruction_kills, killing_of, kills_by, unhandled}
 use Rattle.event_facts.specs.Telling.{IsDecided, here_on}
-use Rattle.event_facts.specs.declared.calls.SystemCall.{SystemCall}
-use Rattle.event_facts.specs.declared.killing.KillWhy.{KillWhy}
-use Rattle.event_facts.specs.declared.killing.KillWhy.TheVariants.{AreaWords, CallInside}
 use Rattle.event_facts.proofs.Due.{due}
 use Rattle.event_facts.proofs.Killings.{runs_there}
 

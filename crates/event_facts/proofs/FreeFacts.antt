@@ -24,12 +24,12 @@ use Rattle.block_model.specs.Setting.{Seen}
 use Rattle.block_model.specs.Sights.{effect_here, effect_on, fault_here, fault_on, is_local_on}
 use Rattle.block_model.proofs.Laws.{run_on}
 use Rattle.machine_core.specs.Free.{goes_freely}
+use Rattle.fact_types.specs.declared.facts.Fact.{Fact}
+use Rattle.fact_types.specs.declared.facts.Fact.TheVariants.{Register}
 use Rattle.event_facts.specs.Facts.{executed_by, facts_of, register_fact}
 use Rattle.event_facts.specs.Freely.{IsMadeFreely}
 use Rattle.event_facts.specs.Telling.{IsDecided, here_on, past_of, plain_event_of, registers_on}
 use Rattle.event_facts.specs.Trace.{trace_of}
-use Rattle.event_facts.specs.declared.facts.Fact.{Fact}
-use Rattle.event_facts.specs.declared.facts.Fact.TheVariants.{Register}
 use Rattle.event_facts.specs.declared.telling.PlainEvent.TheVariants.{Instruction}
 use Rattle.event_facts.proofs.LocalFacts.{local_facts, local_lines}
 use Rattle.event_facts.proofs.PlainEffects.{effect_is}

@@ -1,9 +1,9 @@
 -- The stores that are kept of each hart, and where a byte comes from behind them.
 use Rattle.std.proofs.Common.{◌≡◌, ◌≢◌, ℕ, ◌+◌, ◌<◌, List, [], ◌∷◌, ◌++◌, length, map, drop, get_or, set, sym, ap, ◌∙◌, arith, Vec, Global}
 use Rattle.std.proofs.lemmas.List.{drop_more, get_or-map, get_or-set_other, get_or-set_same, length-map, map-set}
+use Rattle.fact_types.specs.declared.facts.Source.{Source}
 use Rattle.event_facts.specs.Sources.{source_over}
 use Rattle.event_facts.specs.Tied.{items_at}
-use Rattle.event_facts.specs.declared.facts.Source.{Source}
 use Rattle.event_facts.specs.declared.lines.Numbered.{Numbered}
 
 abbrev items : Vec Numbered Global → List Numbered

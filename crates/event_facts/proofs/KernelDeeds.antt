@@ -30,11 +30,11 @@ use Rattle.block_model.proofs.Laws.{of_kernel}
 use Rattle.block_model.proofs.Swaps.PlainEvents.{plain_parts}
 use Rattle.process.specs.Foresight.{foreseen_writes}
 use Rattle.process.specs.Harts.{file_on}
+use Rattle.fact_types.specs.declared.calls.SystemCall.{SystemCall}
 use Rattle.event_facts.specs.Calls.{call_by, call_in, call_on, is_calling}
 use Rattle.event_facts.specs.Facts.{changed_registers, executed_by, own_registers, registers_seen}
 use Rattle.event_facts.specs.KernelEvents.{changed_own, sets_own}
 use Rattle.event_facts.specs.Telling.{plain_event_of}
-use Rattle.event_facts.specs.declared.calls.SystemCall.{SystemCall}
 use Rattle.event_facts.specs.declared.telling.PlainEvent.TheVariants.{Instruction, Drain}
 use Rattle.event_facts.proofs.OwnRegisters.{interrupted_same, none_seen}
 

@@ -18,13 +18,13 @@ use Rattle.block_model.specs.PlainEvents.{is_plain}
 use Rattle.block_model.specs.Run.{IsBlockRun}
 use Rattle.block_model.specs.Setting.{Seen, Setting}
 use Rattle.process.specs.Harts.{file_on}
+use Rattle.fact_types.specs.declared.facts.Fact.{Fact}
 use Rattle.event_facts.specs.Facts.{facts_by, facts_of, kernel_fact, memory_facts, own_registers}
 use Rattle.event_facts.specs.KernelEvents.{all_reservations, changed_own, kernel_facts, lost_from, registers_after, reservation_in}
 use Rattle.event_facts.specs.Lines.{next_line, numbered, waiting_on}
 use Rattle.event_facts.specs.Reservations.{all_lost, ended_facts, lost_facts}
 use Rattle.event_facts.specs.Telling.{IsDecided, here_on, past_of, plain_event_of}
 use Rattle.event_facts.specs.Tied.{AreLinesOf, items_at, line_in}
-use Rattle.event_facts.specs.declared.facts.Fact.{Fact}
 use Rattle.event_facts.specs.declared.lines.Lines.{Lines}
 use Rattle.event_facts.specs.declared.lines.Numbered.{Numbered}
 use Rattle.event_facts.proofs.Due.{due, past_after, what_is_done}

@@ -4,10 +4,10 @@ use Rattle.std.proofs.lemmas.List.{drop_more}
 use Rattle.mach_types.specs.declared.user_memory.Write.{Write}
 use Rattle.mach_types.specs.declared.user_memory.Write.TheVariants.{Stored, Zeroed}
 use Rattle.rv_inst.specs.Execution.{has_reserved}
+use Rattle.fact_types.specs.declared.facts.Fact.{Fact}
+use Rattle.fact_types.specs.declared.facts.Fact.TheVariants.{Lost}
 use Rattle.event_facts.specs.KernelEvents.{taken_by}
 use Rattle.event_facts.specs.Reservations.{hart_of, lost_facts}
-use Rattle.event_facts.specs.declared.facts.Fact.{Fact}
-use Rattle.event_facts.specs.declared.facts.Fact.TheVariants.{Lost}
 
 module _ (k r : ℕ) (ws : List Write) where
   abbrev told : Bool → ℕ → List Fact

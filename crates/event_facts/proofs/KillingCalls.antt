@@ -26,13 +26,14 @@ use Rattle.block_model.specs.Calls.Memory.{changed_unless, mapped_or_refused, mm
 use Rattle.block_model.specs.Calls.Policies.{getparam_errors, getscheduler_errors, priority_errors}
 use Rattle.block_model.specs.Calls.Sequences.{registers_or_refused, rseq, unregisters, unregisters_or_refused}
 use Rattle.block_model.specs.Calls.Signals.{post, refuses_signal, resumed, rt_sigaction, rt_sigprocmask, send, sigaction_errors, sigpending_errors, sigprocmask_errors, tgkill, tgkill_errors, tkill, tkill_errors, waits_in_vain, with_posted}
-use Rattle.block_model.specs.Calls.Terminal.{ioctl_errors}
+use Rattle.block_model.specs.Calls.System.{uname_errors}
+use Rattle.block_model.specs.Calls.Terminal.{fstat_errors, ioctl_errors}
 use Rattle.block_model.specs.Here.{Here, is_writable, memory}
 use Rattle.block_model.specs.Ids.{id_of}
 use Rattle.block_model.specs.Kernel.{registered}
 use Rattle.block_model.specs.Sequences.{area_here}
+use Rattle.fact_types.specs.declared.killing.KillWhy.TheVariants.{AreaWords}
 use Rattle.event_facts.specs.Killing.{call_kills, kills, registration_kills, return_kills, rseq_kills}
-use Rattle.event_facts.specs.declared.killing.KillWhy.TheVariants.{AreaWords}
 
 -- a call that ends no process by a signal
 abbrev IsCalm : CallDone → Type 0
@@ -105,18 +106,20 @@ module _ (here : Here) (t : ℕ) where
   calm_asking : (number : ℕ) → IsCalm (asking_call_of number here t)
   calm_asking number =
       calm_if (eqb number 29) _ _ (calm_unless (ioctl_errors here t) _ refl)
+      (calm_if (eqb number 80) _ _ (calm_unless (fstat_errors here t) _ refl)
       (calm_if (eqb number 120) _ _ (calm_unless (getscheduler_errors here t) _ refl)
       (calm_if (eqb number 121) _ _ (calm_unless (getparam_errors here t) _ refl)
       (calm_if (eqb number 125) _ _ (calm_unless (priority_errors here t) _ refl)
       (calm_if (eqb number 126) _ _ (calm_unless (priority_errors here t) _ refl)
       (calm_if (eqb number 136) _ _ (calm_unless (sigpending_errors here t) _ refl)
+      (calm_if (eqb number 160) _ _ (calm_unless (uname_errors here t) _ refl)
       (calm_if (eqb number 173) _ _ refl
       (calm_if (eqb number 174) _ _ refl
       (calm_if (eqb number 175) _ _ refl
       (calm_if (eqb number 176) _ _ refl
       (calm_if (eqb number 177) _ _ refl
       (calm_if (eqb number 261) _ _ (calm_unless (prlimit_errors here t) _ refl)
-      refl)))))))))))
+      refl)))))))))))))
 
   -- THE TWO THAT KILL
 

@@ -33,11 +33,11 @@ use Rattle.block_model.specs.Kernel.{signalled}
 use Rattle.block_model.specs.Sequences.{area_here, can_write_words, interruption_here, is_inside_here}
 use Rattle.block_model.specs.Setting.{Setting}
 use Rattle.block_model.proofs.Laws.{allowed_at, has_thread, interrupts_none, needs_thread}
+use Rattle.fact_types.specs.declared.facts.Fact.{Fact}
+use Rattle.fact_types.specs.declared.facts.Fact.TheVariants.{Killed}
+use Rattle.fact_types.specs.declared.killing.KillWhy.{KillWhy}
+use Rattle.fact_types.specs.declared.killing.KillWhy.TheVariants.{AreaWords, CallInside, FrameNotWritable, Masked, NoHandler}
 use Rattle.event_facts.specs.Killing.{IsReason, call_kills, called_kills, came_bad, delivery_kills, fault_kills, found_bad, instruction_kills, is_killed, killed_facts, killing, killing_of, kills, kills_by, told_at, unhandled, unwritable_words}
-use Rattle.event_facts.specs.declared.facts.Fact.{Fact}
-use Rattle.event_facts.specs.declared.facts.Fact.TheVariants.{Killed}
-use Rattle.event_facts.specs.declared.killing.KillWhy.{KillWhy}
-use Rattle.event_facts.specs.declared.killing.KillWhy.TheVariants.{AreaWords, CallInside, FrameNotWritable, Masked, NoHandler}
 use Rattle.event_facts.proofs.Due.{what_is_done}
 use Rattle.event_facts.proofs.KillingCalls.{told_called}
 

@@ -6,13 +6,13 @@ use Rattle.rv_inst.specs.declared.effects.Effect.TheVariants as effect
 use Rattle.block_model.specs.Events.{done_of}
 use Rattle.block_model.specs.Run.{IsBlockRun}
 use Rattle.block_model.specs.Setting.{Seen}
+use Rattle.fact_types.specs.declared.facts.Fact.{Fact}
 use Rattle.event_facts.specs.Deeds.{IsDeedOf}
 use Rattle.event_facts.specs.Facts.{facts_of, register_fact}
 use Rattle.event_facts.specs.Lines.{next_line}
 use Rattle.event_facts.specs.Telling.{IsDecided, changed_facts, here_on, past_of, plain_event_of, registers_on}
 use Rattle.event_facts.specs.Tied.{AreLinesOf, kept_on}
 use Rattle.event_facts.specs.declared.deeds.Deed.{Deed}
-use Rattle.event_facts.specs.declared.facts.Fact.{Fact}
 use Rattle.event_facts.specs.declared.lines.Lines.{Lines}
 use Rattle.event_facts.specs.declared.telling.PlainEvent.{PlainEvent}
 use Rattle.event_facts.specs.declared.telling.PlainEvent.TheVariants.{Instruction}

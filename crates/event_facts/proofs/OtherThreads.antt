@@ -8,9 +8,9 @@ use Rattle.mach_types.specs.declared.registers.Regs.{Regs}
 use Rattle.mach_types.specs.declared.threads.Saved.{Saved}
 use Rattle.mach_types.specs.declared.threads.ThreadState.{ThreadState}
 use Rattle.mach_types.specs.declared.threads.ThreadState.TheVariants.{Ready, Running, Waiting}
+use Rattle.fact_types.specs.declared.facts.Fact.{Fact}
 use Rattle.event_facts.specs.OtherRegisters.{all_waiting, child_fact, other_registers, ready_behind, registers_of, waiting_behind, where_off, where_ready, where_waiting, woken_fact, woken_from, woken_registers}
 use Rattle.event_facts.specs.Threads.{state_behind}
-use Rattle.event_facts.specs.declared.facts.Fact.{Fact}
 use Rattle.event_facts.proofs.CallAnswers.{nothing_saved}
 use Rattle.event_facts.proofs.KeptPieces.{kept_pieces}
 use Rattle.event_facts.proofs.Lists.{nothing_in_all, two_pieces}

@@ -13,11 +13,11 @@ use Rattle.mach_types.specs.declared.threads.ThreadState.TheVariants.{Ready, Run
 use Rattle.block_model.specs.Here.{Here}
 use Rattle.block_model.specs.History.{file_among}
 use Rattle.block_model.specs.Sequences.{files_interrupted}
+use Rattle.fact_types.specs.declared.facts.Fact.{Fact}
+use Rattle.fact_types.specs.declared.facts.Fact.TheVariants.{Register}
 use Rattle.event_facts.specs.Calls.{is_it}
 use Rattle.event_facts.specs.Facts.{changed_registers, register_fact, register_facts, registers_seen}
 use Rattle.event_facts.specs.OtherRegisters.{where_off}
-use Rattle.event_facts.specs.declared.facts.Fact.{Fact}
-use Rattle.event_facts.specs.declared.facts.Fact.TheVariants.{Register}
 use Rattle.event_facts.proofs.Lists.{nothing_in_all}
 
 -- where no register changed, none is told

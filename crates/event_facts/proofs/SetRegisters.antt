@@ -14,10 +14,10 @@ use Rattle.block_model.specs.Run.{IsBlockRun}
 use Rattle.block_model.specs.Setting.{Seen}
 use Rattle.block_model.proofs.Laws.{has_registers}
 use Rattle.process.specs.Harts.{file_on}
+use Rattle.fact_types.specs.declared.facts.Fact.{Fact}
+use Rattle.fact_types.specs.declared.facts.Fact.TheVariants.{Register}
 use Rattle.event_facts.specs.Facts.{register_fact, register_facts}
 use Rattle.event_facts.specs.Telling.{here_on, past_of, register_set, registers_on}
-use Rattle.event_facts.specs.declared.facts.Fact.{Fact}
-use Rattle.event_facts.specs.declared.facts.Fact.TheVariants.{Register}
 
 -- pieces of which only that of one number has anything
 none_from : {A : Type 0} (f : ℕ → List A) (n : ℕ) → ((k : ℕ) → k ≢ n → f k ≡ []) → (count a : ℕ) → n < a → flat_map f (range_with_len a count) ≡ []

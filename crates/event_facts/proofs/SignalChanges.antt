@@ -4,9 +4,9 @@ use Rattle.std.specs.List.{flat_map, range_with_len}
 use Rattle.std.specs.Option.{option_to_list}
 use Rattle.mach_types.specs.Kernel.Signals.{Signalling, has_signal}
 use Rattle.block_model.specs.Sights.{thread}
+use Rattle.fact_types.specs.declared.facts.Fact.{Fact}
+use Rattle.fact_types.specs.declared.facts.Fact.TheVariants.{SignalDropped, SignalPosted}
 use Rattle.event_facts.specs.Pending.{all_pending, delivered_to, held_facts, is_this, pending_behind, pending_fact, signal_fact, signal_facts, signal_from}
-use Rattle.event_facts.specs.declared.facts.Fact.{Fact}
-use Rattle.event_facts.specs.declared.facts.Fact.TheVariants.{SignalDropped, SignalPosted}
 use Rattle.event_facts.proofs.KeptPieces.{kept_pieces}
 use Rattle.event_facts.proofs.Lists.{nothing_in_all}
 

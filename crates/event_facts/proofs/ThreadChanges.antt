@@ -5,8 +5,8 @@ use Rattle.std.specs.List.{flat_map, range_with_len}
 use Rattle.mach_types.specs.Kernel.Threads.{Threads}
 use Rattle.mach_types.specs.declared.threads.ThreadState.{ThreadState}
 use Rattle.mach_types.specs.declared.threads.ThreadState.TheVariants.{Ready, Running, Waiting}
+use Rattle.fact_types.specs.declared.facts.Fact.{Fact}
 use Rattle.event_facts.specs.Threads.{change_facts, changed_fact, created_fact, state_behind, states_of, thread_facts, told_from}
-use Rattle.event_facts.specs.declared.facts.Fact.{Fact}
 use Rattle.event_facts.proofs.KeptPieces.{kept_pieces}
 use Rattle.event_facts.proofs.Lists.{nothing_in_all, two_pieces}
 

@@ -22,6 +22,8 @@ use Rattle.block_model.specs.Setting.{Seen, Setting}
 use Rattle.block_model.proofs.Laws.{history-append}
 use Rattle.block_model.proofs.Swaps.PlainDone.{as_done, plain_outcome}
 use Rattle.process.specs.Harts.{file_on}
+use Rattle.fact_types.specs.declared.facts.Fact.{Fact}
+use Rattle.fact_types.specs.declared.facts.Fact.TheVariants.{Waits}
 use Rattle.event_facts.specs.Deeds.{IsDeedOf, drained_in, entered_in, executed_in}
 use Rattle.event_facts.specs.Facts.{changed_registers, entered_facts, facts_by, facts_of, memory_facts, own_registers, reading_facts, register_fact, register_facts}
 use Rattle.event_facts.specs.Lines.{line_behind, memory_source, next_line, numbered, waiting_on}
@@ -30,8 +32,6 @@ use Rattle.event_facts.specs.Sources.{source_at, source_over}
 use Rattle.event_facts.specs.Telling.{IsDecided, changed_facts, effect_in, here_on, past_of, plain_event_of, register_by, register_set, registers_on}
 use Rattle.event_facts.specs.Tied.{AreLinesOf, kept_on, kept_source, line_in}
 use Rattle.event_facts.specs.declared.deeds.Deed.{Deed}
-use Rattle.event_facts.specs.declared.facts.Fact.{Fact}
-use Rattle.event_facts.specs.declared.facts.Fact.TheVariants.{Waits}
 use Rattle.event_facts.specs.declared.lines.Lines.{Lines}
 use Rattle.event_facts.specs.declared.telling.PlainEvent.{PlainEvent}
 use Rattle.event_facts.specs.declared.telling.PlainEvent.TheVariants.{Instruction, Drain}

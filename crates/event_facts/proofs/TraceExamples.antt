@@ -13,20 +13,20 @@ use Rattle.block_model.specs.History.{History}
 use Rattle.block_model.specs.Setting.{Setting}
 use Rattle.block_model.specs.Sights.{thread}
 use Rattle.block_model.proofs.ExamplePrograms.{code_and_data, entry as by, entry_of, within_frames}
+use Rattle.fact_types.specs.declared.areas.AreaField.TheVariants.{CpuIdStart, CpuId, NodeId, MmCid}
+use Rattle.fact_types.specs.declared.calls.SystemCall.{SystemCall}
+use Rattle.fact_types.specs.declared.facts.Fact.{Fact}
+use Rattle.fact_types.specs.declared.facts.Fact.TheVariants.{Register, KernelWrote, Faulted, Called, Answered, Refused, NoAnswer, Interrupted, DeliveryKills, SignalPosted, ThreadChanged, ThreadRegister, AreaWord, Killed}
+use Rattle.fact_types.specs.declared.faults.FaultWhy.TheVariants.{NotReadable}
+use Rattle.fact_types.specs.declared.interruptions.Interruption.TheVariants.{Nothing}
+use Rattle.fact_types.specs.declared.killing.KillWhy.TheVariants.{NoHandler}
+use Rattle.fact_types.specs.declared.threads.ThreadChange.{ThreadChange}
+use Rattle.fact_types.specs.declared.threads.ThreadChange.TheVariants.{Created, Ended, Runs, MadeReady}
 use Rattle.event_facts.specs.Facts.{facts_of, read_facts}
 use Rattle.event_facts.specs.OtherRegisters.{other_registers}
 use Rattle.event_facts.specs.Pending.{signal_facts}
 use Rattle.event_facts.specs.Threads.{thread_facts}
 use Rattle.event_facts.specs.Trace.{trace_of}
-use Rattle.event_facts.specs.declared.areas.AreaField.TheVariants.{CpuIdStart, CpuId, NodeId, MmCid}
-use Rattle.event_facts.specs.declared.calls.SystemCall.{SystemCall}
-use Rattle.event_facts.specs.declared.facts.Fact.{Fact}
-use Rattle.event_facts.specs.declared.facts.Fact.TheVariants.{Register, KernelWrote, Faulted, Called, Answered, Refused, NoAnswer, Interrupted, DeliveryKills, SignalPosted, ThreadChanged, ThreadRegister, AreaWord, Killed}
-use Rattle.event_facts.specs.declared.faults.FaultWhy.TheVariants.{NotReadable}
-use Rattle.event_facts.specs.declared.interruptions.Interruption.TheVariants.{Nothing}
-use Rattle.event_facts.specs.declared.killing.KillWhy.TheVariants.{NoHandler}
-use Rattle.event_facts.specs.declared.threads.ThreadChange.{ThreadChange}
-use Rattle.event_facts.specs.declared.threads.ThreadChange.TheVariants.{Created, Ended, Runs, MadeReady}
 
 -- a program of these instructions, which stand at 0x100B0, with a page of zeros at 0x20000
 abbrev program : List ℕ → Setting

@@ -6,14 +6,14 @@ use Rattle.mach_types.proofs.Laws.{eqb_same}
 use Rattle.rv_inst.specs.Accesses.{bytes}
 use Rattle.rv_inst.specs.Words.{sum_64}
 use Rattle.block_model.specs.Footprints.{has_byte}
+use Rattle.fact_types.specs.declared.facts.Source.{Source}
+use Rattle.fact_types.specs.declared.facts.Source.TheVariants.{Start, Memory, Waiting}
 use Rattle.event_facts.specs.Cuts.{cut_by_long, cut_by_store, cuts}
 use Rattle.event_facts.specs.Facts.{is_of_one}
 use Rattle.event_facts.specs.Lines.{memory_source}
 use Rattle.event_facts.specs.Sources.{same_source, source_over}
 use Rattle.event_facts.specs.Tied.{kept_on, kept_source, line_in}
 use Rattle.event_facts.specs.Written.{IsWordOf, last_line, line_at, lines_at}
-use Rattle.event_facts.specs.declared.facts.Source.{Source}
-use Rattle.event_facts.specs.declared.facts.Source.TheVariants.{Start, Memory, Waiting}
 use Rattle.event_facts.specs.declared.lines.Lines.{Lines}
 use Rattle.event_facts.specs.declared.lines.Numbered.{Numbered}
 use Rattle.event_facts.specs.declared.long_writes.LongWrite.{LongWrite}

@@ -11,13 +11,13 @@ use Rattle.mach_types.specs.declared.sequences.TheConstants.{CPU_ID, FLAGS, MM_C
 use Rattle.rv_inst.specs.Words.{sum_64}
 use Rattle.block_model.specs.Here.{Here, memory}
 use Rattle.block_model.specs.Sequences.{area_here}
+use Rattle.fact_types.specs.declared.areas.AreaField.{AreaField}
+use Rattle.fact_types.specs.declared.areas.AreaField.TheVariants as field
+use Rattle.fact_types.specs.declared.calls.SystemCall.{SystemCall}
+use Rattle.fact_types.specs.declared.facts.Fact.{Fact}
+use Rattle.fact_types.specs.declared.facts.Fact.TheVariants.{AreaWord}
 use Rattle.event_facts.specs.declared.areas.AreaBefore.{AreaBefore}
-use Rattle.event_facts.specs.declared.areas.AreaField.{AreaField}
-use Rattle.event_facts.specs.declared.areas.AreaField.TheVariants as field
 use Rattle.event_facts.specs.declared.areas.AreaWords.{AreaWords}
-use Rattle.event_facts.specs.declared.calls.SystemCall.{SystemCall}
-use Rattle.event_facts.specs.declared.facts.Fact.{Fact}
-use Rattle.event_facts.specs.declared.facts.Fact.TheVariants.{AreaWord}
 
 -- THE WORDS OF AN AREA
 

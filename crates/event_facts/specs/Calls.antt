@@ -19,9 +19,9 @@ use Rattle.block_model.specs.Events.Exec.{next_effect, next_fault}
 use Rattle.block_model.specs.Here.{Here, runs}
 use Rattle.block_model.specs.History.{History, here_in_history}
 use Rattle.block_model.specs.Setting.{Setting}
-use Rattle.event_facts.specs.declared.calls.SystemCall.{SystemCall}
-use Rattle.event_facts.specs.declared.facts.Fact.{Fact}
-use Rattle.event_facts.specs.declared.facts.Fact.TheVariants.{Called, Answered, Refused, AnsweredLater, NoAnswer}
+use Rattle.fact_types.specs.declared.calls.SystemCall.{SystemCall}
+use Rattle.fact_types.specs.declared.facts.Fact.{Fact}
+use Rattle.fact_types.specs.declared.facts.Fact.TheVariants.{Called, Answered, Refused, AnsweredLater, NoAnswer}
 
 -- THE CALL
 

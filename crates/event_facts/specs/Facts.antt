@@ -25,14 +25,14 @@ use Rattle.block_model.specs.History.{History, file_among, here_in_history}
 use Rattle.block_model.specs.PlainEvents.{is_plain}
 use Rattle.block_model.specs.Setting.{Setting}
 use Rattle.block_model.specs.Sights.{effect_here}
+use Rattle.fact_types.specs.declared.facts.Fact.{Fact}
+use Rattle.fact_types.specs.declared.facts.Fact.TheVariants.{Read, Waits, Entered, KernelWrote, Zeroed, Register}
+use Rattle.fact_types.specs.declared.facts.Source.{Source}
 use Rattle.event_facts.specs.Calls.{is_it}
 use Rattle.event_facts.specs.Lines.{line_behind, next_line, waiting_on}
 use Rattle.event_facts.specs.OtherRegisters.{where_off}
 use Rattle.event_facts.specs.Reservations.{all_lost, own_facts}
 use Rattle.event_facts.specs.Sources.{same_source, source_at}
-use Rattle.event_facts.specs.declared.facts.Fact.{Fact}
-use Rattle.event_facts.specs.declared.facts.Fact.TheVariants.{Read, Waits, Entered, KernelWrote, Zeroed, Register}
-use Rattle.event_facts.specs.declared.facts.Source.{Source}
 
 -- READS
 

@@ -10,10 +10,10 @@ use Rattle.rv_inst.specs.declared.class.Access.{Access}
 use Rattle.rv_inst.specs.declared.effects.Effect.{Effect}
 use Rattle.block_model.specs.Events.Exec.{next_effect, next_fault}
 use Rattle.block_model.specs.Here.{Here, runs}
-use Rattle.event_facts.specs.declared.facts.Fact.{Fact}
-use Rattle.event_facts.specs.declared.facts.Fact.TheVariants.{Faulted}
-use Rattle.event_facts.specs.declared.faults.FaultWhy.{FaultWhy}
-use Rattle.event_facts.specs.declared.faults.FaultWhy.TheVariants.{NotAligned, NotExecutable, NoInstruction, Breakpoint, MisalignedJump, MisalignedAccess, NotReadable, NotWritable}
+use Rattle.fact_types.specs.declared.facts.Fact.{Fact}
+use Rattle.fact_types.specs.declared.facts.Fact.TheVariants.{Faulted}
+use Rattle.fact_types.specs.declared.faults.FaultWhy.{FaultWhy}
+use Rattle.fact_types.specs.declared.faults.FaultWhy.TheVariants.{NotAligned, NotExecutable, NoInstruction, Breakpoint, MisalignedJump, MisalignedAccess, NotReadable, NotWritable}
 
 -- where no instruction is fetched, or the word has none: by the signal
 abbrev pub fetch_why : ℕ → FaultWhy

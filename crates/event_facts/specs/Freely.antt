@@ -6,10 +6,10 @@ use Rattle.mach_types.specs.declared.events.Kind.TheVariants as kind
 use Rattle.block_model.specs.Deciding.{decide}
 use Rattle.block_model.specs.Run.{IsBlockRun}
 use Rattle.block_model.specs.Setting.{Seen}
+use Rattle.fact_types.specs.declared.facts.Fact.{Fact}
 use Rattle.event_facts.specs.Telling.{IsDecided, past_of}
 use Rattle.event_facts.specs.Tied.{AreLinesOf}
 use Rattle.event_facts.specs.Trace.{trace_of}
-use Rattle.event_facts.specs.declared.facts.Fact.{Fact}
 use Rattle.event_facts.specs.declared.lines.Lines.{Lines}
 
 -- hart h of a machine made it, and all that came of it was told behind other facts. What is kept of lines

@@ -17,12 +17,12 @@ use Rattle.rv_inst.specs.Words.{sum_64}
 use Rattle.block_model.specs.Events.{done_of}
 use Rattle.block_model.specs.Here.{Here, view}
 use Rattle.block_model.specs.Sequences.{area_here}
+use Rattle.fact_types.specs.declared.facts.Fact.{Fact}
+use Rattle.fact_types.specs.declared.facts.Fact.TheVariants.{Interrupted}
+use Rattle.fact_types.specs.declared.interruptions.Interruption.{Interruption}
+use Rattle.fact_types.specs.declared.interruptions.Interruption.TheVariants as told
+use Rattle.fact_types.specs.declared.interruptions.WrongWord.{WrongWord}
 use Rattle.event_facts.specs.declared.deeds.Range.{Range}
-use Rattle.event_facts.specs.declared.facts.Fact.{Fact}
-use Rattle.event_facts.specs.declared.facts.Fact.TheVariants.{Interrupted}
-use Rattle.event_facts.specs.declared.interruptions.Interruption.{Interruption}
-use Rattle.event_facts.specs.declared.interruptions.Interruption.TheVariants as told
-use Rattle.event_facts.specs.declared.interruptions.WrongWord.{WrongWord}
 
 -- WHICH WORD IS WRONG
 

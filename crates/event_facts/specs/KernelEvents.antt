@@ -14,11 +14,11 @@ use Rattle.rv_inst.specs.Execution.{has_reserved}
 use Rattle.block_model.specs.Here.{Here, runs}
 use Rattle.block_model.specs.History.{History, reservation}
 use Rattle.block_model.specs.Setting.{Seen}
+use Rattle.fact_types.specs.declared.facts.Fact.{Fact}
 use Rattle.event_facts.specs.Facts.{changed_registers, kernel_fact, registers_seen}
 use Rattle.event_facts.specs.Reservations.{ended_facts, lost_facts}
 use Rattle.event_facts.specs.Telling.{here_on}
 use Rattle.event_facts.specs.Pending.{is_signal}
-use Rattle.event_facts.specs.declared.facts.Fact.{Fact}
 
 -- RESERVATIONS
 

@@ -24,11 +24,11 @@ use Rattle.block_model.specs.Events.Exec.{next_effect, next_fault}
 use Rattle.block_model.specs.Events.Signal.{file_interrupted}
 use Rattle.block_model.specs.Here.{Here, is_writable, memory}
 use Rattle.block_model.specs.Sequences.{area_here, can_write_words, interruption_here, is_inside_here}
+use Rattle.fact_types.specs.declared.facts.Fact.{Fact}
+use Rattle.fact_types.specs.declared.facts.Fact.TheVariants.{Killed}
+use Rattle.fact_types.specs.declared.killing.KillWhy.{KillWhy}
+use Rattle.fact_types.specs.declared.killing.KillWhy.TheVariants.{Bad, AreaWords, NoHandler, Masked, FrameNotWritable, FrameNotReadable, CallInside}
 use Rattle.event_facts.specs.Interruptions.{came_by}
-use Rattle.event_facts.specs.declared.facts.Fact.{Fact}
-use Rattle.event_facts.specs.declared.facts.Fact.TheVariants.{Killed}
-use Rattle.event_facts.specs.declared.killing.KillWhy.{KillWhy}
-use Rattle.event_facts.specs.declared.killing.KillWhy.TheVariants.{Bad, AreaWords, NoHandler, Masked, FrameNotWritable, FrameNotReadable, CallInside}
 
 -- THE PROCESS IS KILLED
 

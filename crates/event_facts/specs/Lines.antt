@@ -5,8 +5,8 @@ use Rattle.std.specs.Option.{option_map_or}
 use Rattle.mach_types.specs.declared.user_memory.Store.{Store}
 use Rattle.block_model.specs.Footprints.{bytes_of_all, have_byte}
 use Rattle.block_model.specs.History.{History, is_of_hart}
-use Rattle.event_facts.specs.declared.facts.Source.{Source}
-use Rattle.event_facts.specs.declared.facts.Source.TheVariants.{Start, Memory}
+use Rattle.fact_types.specs.declared.facts.Source.{Source}
+use Rattle.fact_types.specs.declared.facts.Source.TheVariants.{Start, Memory}
 use Rattle.event_facts.specs.declared.lines.Numbered.{Numbered}
 
 -- the number of the line that comes after a history

@@ -13,9 +13,9 @@ use Rattle.mach_types.specs.declared.threads.ThreadState.TheVariants.{Ready, Run
 use Rattle.block_model.specs.Here.{Here, runs}
 use Rattle.block_model.specs.Sights.{thread}
 use Rattle.process.specs.Harts.{file_on}
+use Rattle.fact_types.specs.declared.facts.Fact.{Fact}
+use Rattle.fact_types.specs.declared.facts.Fact.TheVariants.{ThreadRegister}
 use Rattle.event_facts.specs.Threads.{state_behind}
-use Rattle.event_facts.specs.declared.facts.Fact.{Fact}
-use Rattle.event_facts.specs.declared.facts.Fact.TheVariants.{ThreadRegister}
 use Rattle.event_facts.specs.declared.other_registers.RegistersBefore.{RegistersBefore}
 
 -- THE REGISTERS OF A THREAD

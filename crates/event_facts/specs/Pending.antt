@@ -18,9 +18,9 @@ use Rattle.block_model.specs.History.{History, here_in_history}
 use Rattle.block_model.specs.Setting.{Setting}
 use Rattle.block_model.specs.Sights.{thread}
 use Rattle.process.specs.Harts.{file_on}
+use Rattle.fact_types.specs.declared.facts.Fact.{Fact}
+use Rattle.fact_types.specs.declared.facts.Fact.TheVariants.{DeliveryKills, HandlerEntered, SignalDropped, SignalPosted}
 use Rattle.event_facts.specs.Calls.{is_process_end}
-use Rattle.event_facts.specs.declared.facts.Fact.{Fact}
-use Rattle.event_facts.specs.declared.facts.Fact.TheVariants.{DeliveryKills, HandlerEntered, SignalDropped, SignalPosted}
 
 -- DELIVERY
 

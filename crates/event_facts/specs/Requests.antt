@@ -7,9 +7,9 @@ use Rattle.mach_types.specs.declared.events.BarrierPart.{BarrierPart}
 use Rattle.mach_types.specs.declared.events.BarrierPart.TheVariants.{Apart, Takes, Returns}
 use Rattle.mach_types.specs.declared.events.Choice.{Choice}
 use Rattle.block_model.specs.Here.{Here}
-use Rattle.event_facts.specs.declared.calls.SystemCall.{SystemCall}
-use Rattle.event_facts.specs.declared.facts.Fact.{Fact}
-use Rattle.event_facts.specs.declared.facts.Fact.TheVariants.{RequestsTaken, BarrierReturns, BarrierBegins}
+use Rattle.fact_types.specs.declared.calls.SystemCall.{SystemCall}
+use Rattle.fact_types.specs.declared.facts.Fact.{Fact}
+use Rattle.fact_types.specs.declared.facts.Fact.TheVariants.{RequestsTaken, BarrierReturns, BarrierBegins}
 
 -- the harts whose barriers' requests are taken, and whether one of these asks for a restart; or that a barrier returns
 abbrev pub request_facts_by : BarrierPart → Here → List Fact

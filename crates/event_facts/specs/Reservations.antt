@@ -8,8 +8,8 @@ use Rattle.rv_inst.specs.declared.effects.Effect.{Effect}
 use Rattle.rv_inst.specs.declared.effects.Effect.TheVariants as effect
 use Rattle.block_model.specs.Footprints.{bytes_of}
 use Rattle.block_model.specs.History.{History, lost_to, reservation}
-use Rattle.event_facts.specs.declared.facts.Fact.{Fact}
-use Rattle.event_facts.specs.declared.facts.Fact.TheVariants.{Reserved, Used, Failed, Ended, Lost}
+use Rattle.fact_types.specs.declared.facts.Fact.{Fact}
+use Rattle.fact_types.specs.declared.facts.Fact.TheVariants.{Reserved, Used, Failed, Ended, Lost}
 
 -- a reservation that an event of its hart ends, where it was this before and is that after
 abbrev pub ended_facts : Option ℕ → Option ℕ → List Fact

@@ -3,9 +3,9 @@
 use Rattle.std.specs.Prelude.{ℕ, ◌==◌, Bool, true, false, List, [], ◌∷◌, if◌then◌else◌}
 use Rattle.mach_types.specs.Bytes.{covers}
 use Rattle.block_model.specs.History.{History}
+use Rattle.fact_types.specs.declared.facts.Source.{Source}
+use Rattle.fact_types.specs.declared.facts.Source.TheVariants.{Start, Memory, Waiting}
 use Rattle.event_facts.specs.Lines.{memory_source, waiting_on, written_in}
-use Rattle.event_facts.specs.declared.facts.Source.{Source}
-use Rattle.event_facts.specs.declared.facts.Source.TheVariants.{Start, Memory, Waiting}
 use Rattle.event_facts.specs.declared.lines.Numbered.{Numbered}
 
 -- whether two are the same

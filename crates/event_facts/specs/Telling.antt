@@ -16,8 +16,8 @@ use Rattle.process.specs.Harts.{file_on}
 use Rattle.block_model.specs.Here.{Here, runs, waiting_here}
 use Rattle.block_model.specs.History.{History, here_in_history}
 use Rattle.block_model.specs.Setting.{Seen}
+use Rattle.fact_types.specs.declared.facts.Fact.{Fact}
 use Rattle.event_facts.specs.Facts.{executed_by, register_facts}
-use Rattle.event_facts.specs.declared.facts.Fact.{Fact}
 use Rattle.event_facts.specs.declared.telling.PlainEvent.{PlainEvent}
 use Rattle.event_facts.specs.declared.telling.PlainEvent.TheVariants.{Instruction, Drain}
 

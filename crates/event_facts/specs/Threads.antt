@@ -7,10 +7,10 @@ use Rattle.mach_types.specs.Kernel.Threads.{Threads, state_of}
 use Rattle.mach_types.specs.declared.threads.ThreadState.{ThreadState}
 use Rattle.mach_types.specs.declared.threads.ThreadState.TheVariants.{Ready, Running, Waiting}
 use Rattle.block_model.specs.Sights.{thread}
-use Rattle.event_facts.specs.declared.facts.Fact.{Fact}
-use Rattle.event_facts.specs.declared.facts.Fact.TheVariants.{ThreadChanged}
-use Rattle.event_facts.specs.declared.threads.ThreadChange.{ThreadChange}
-use Rattle.event_facts.specs.declared.threads.ThreadChange.TheVariants.{Created, Ended, Runs, MadeReady, Sleeps, Woken}
+use Rattle.fact_types.specs.declared.facts.Fact.{Fact}
+use Rattle.fact_types.specs.declared.facts.Fact.TheVariants.{ThreadChanged}
+use Rattle.fact_types.specs.declared.threads.ThreadChange.{ThreadChange}
+use Rattle.fact_types.specs.declared.threads.ThreadChange.TheVariants.{Created, Ended, Runs, MadeReady, Sleeps, Woken}
 use Rattle.event_facts.specs.declared.threads.ThreadsBefore.{ThreadsBefore}
 
 -- WHAT BECAME OF A THREAD

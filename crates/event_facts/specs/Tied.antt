@@ -2,10 +2,10 @@
 use Rattle.std.specs.Prelude.{ℕ, ◌≡◌, ◌<◌, List, [], Vec, length, map, max, slice_index_or}
 use Rattle.std.specs.declared.alloc.Global.{Global}
 use Rattle.block_model.specs.History.{History}
+use Rattle.fact_types.specs.declared.facts.Source.{Source}
 use Rattle.event_facts.specs.Lines.{memory_source, waiting_on, written_in}
 use Rattle.event_facts.specs.Sources.{source_over}
 use Rattle.event_facts.specs.Written.{last_line, line_at}
-use Rattle.event_facts.specs.declared.facts.Source.{Source}
 use Rattle.event_facts.specs.declared.lines.Lines.{Lines}
 use Rattle.event_facts.specs.declared.lines.Numbered.{Numbered}
 

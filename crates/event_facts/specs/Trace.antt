@@ -9,6 +9,7 @@ use Rattle.block_model.specs.Here.{Here, runs}
 use Rattle.block_model.specs.History.{History, here_in_history}
 use Rattle.block_model.specs.Setting.{Setting}
 use Rattle.process.specs.Harts.{file_on}
+use Rattle.fact_types.specs.declared.facts.Fact.{Fact}
 use Rattle.event_facts.specs.Areas.{area_before, area_facts}
 use Rattle.event_facts.specs.Calls.{answer_facts, call_by, call_facts}
 use Rattle.event_facts.specs.Facts.{facts_of}
@@ -19,7 +20,6 @@ use Rattle.event_facts.specs.OtherRegisters.{AreRegisters, other_registers}
 use Rattle.event_facts.specs.Pending.{all_pending, delivered_by, delivered_facts, signal_facts}
 use Rattle.event_facts.specs.Requests.{begun_facts, request_facts}
 use Rattle.event_facts.specs.Threads.{AreBefore, thread_facts}
-use Rattle.event_facts.specs.declared.facts.Fact.{Fact}
 use Rattle.event_facts.specs.declared.places.Before.{Before}
 
 -- before it: the fault that it makes, the requests of barriers that it takes or the barrier that returns by it, and the call that it makes

@@ -9,30 +9,12 @@ ghost use Rattle.event_facts.specs.Areas as spec;
 ghost use Rattle.event_facts.specs.Areas.{area_before, area_facts, changed_words, kept_words, word_fact};
 ghost use Rattle.event_facts.specs.Telling.{here_on};
 
-use crate::calls::SystemCall;
-use crate::facts::Fact;
+use fact_types::{AreaField, Fact, SystemCall};
 use mach_types::sequences::{CPU_ID, FLAGS, MM_CID, NODE_ID, RSEQ_CS};
 use mach_types::{Area, Entry, Kind, Tid};
 use machine_core::Machine;
 use std::alloc::AllocError;
 use sys_calls::area_of;
-
-/// A field of a `struct rseq` (uapi linux/rseq.h).
-#[derive(Clone, Copy, Drop)]
-pub enum AreaField {
-    /// `cpu_id_start`.
-    CpuIdStart,
-    /// `cpu_id`.
-    CpuId,
-    /// `rseq_cs`, the pointer.
-    RseqCs,
-    /// `flags`.
-    Flags,
-    /// `node_id`.
-    NodeId,
-    /// `mm_cid`.
-    MmCid,
-}
 
 /// The numbers in the fields of an area; None where a byte of one can't be read.
 #[derive(Clone, Copy, Drop)]

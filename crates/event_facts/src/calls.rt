@@ -14,8 +14,8 @@ ghost use Rattle.event_facts.specs.Calls as spec;
 ghost use Rattle.event_facts.specs.Calls.{answer_at, answer_facts, answer_unless, call_by, call_facts, call_in};
 ghost use Rattle.event_facts.specs.Telling.{here_on, past_of};
 
-use crate::facts::Fact;
 use crate::registers::{A0, A7};
+use fact_types::{Fact, SystemCall};
 use hart_state::HartState;
 use kernel_threads::Threads;
 use mach_types::{End, Entry, Hart, Kind, Regs, ThreadState, Tid};
@@ -29,31 +29,20 @@ pub(crate) const RT_SIGRETURN: u64 = 139;
 /// The greatest error number (Linux, MAX_ERRNO).
 const LAST_ERRNO: u64 = 4095;
 
-/// A system call (Linux for RISC-V).
-#[derive(Clone, Copy, Drop)]
-pub struct SystemCall {
-    /// Its number, which stands in a7.
-    pub number: u64,
-    /// What stands in a0 to a5. Which of them are arguments is the call's matter.
-    pub arguments: [u64; 6],
-}
-
-impl SystemCall {
-    /// That of a thread with these registers.
-    fn of(file: &Regs) -> SystemCall
-        ensures { result ≡ call_in file.now }
-    {
-        SystemCall {
-            number: file.get(A7),
-            arguments: [
-                file.get(A0),
-                file.get(A0 + 1),
-                file.get(A0 + 2),
-                file.get(A0 + 3),
-                file.get(A0 + 4),
-                file.get(A0 + 5),
-            ],
-        }
+/// The call of a thread with these registers.
+fn call_in(file: &Regs) -> SystemCall
+    ensures { result ≡ call_in file.now }
+{
+    SystemCall {
+        number: file.get(A7),
+        arguments: [
+            file.get(A0),
+            file.get(A0 + 1),
+            file.get(A0 + 2),
+            file.get(A0 + 3),
+            file.get(A0 + 4),
+            file.get(A0 + 5),
+        ],
     }
 }
 
@@ -63,7 +52,7 @@ fn call_of(effect: &Effect, fault: Option<u8>, file: &Regs) -> Option<SystemCall
     ensures { result ≡ (if is_none fault && is_call effect.now then Some (call_in file.now) else None) }
 {
     if fault.is_none() && matches!(effect, Effect::Call) {
-        Some(SystemCall::of(file))
+        Some(call_in(file))
     } else {
         None
     }

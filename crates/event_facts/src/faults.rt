@@ -6,33 +6,12 @@ ghost use Rattle.block_model.specs.Here.{runs};
 ghost use Rattle.event_facts.specs.Faults as spec;
 ghost use Rattle.event_facts.specs.{Faults.fault_of, Telling.here_on};
 
-use crate::facts::Fact;
+use fact_types::{Fact, FaultWhy};
 use mach_types::Hart;
 use mach_types::signals::{SIGBUS, SIGSEGV, SIGTRAP};
 use machine_core::Machine;
 use rv_inst::{Access, Effect, asks};
 use std::alloc::AllocError;
-
-/// Why an instruction makes a fault.
-#[derive(Clone, Copy, Drop)]
-pub enum FaultWhy {
-    /// The pc isn't a multiple of 4.
-    NotAligned,
-    /// The bytes at the pc may not be executed.
-    NotExecutable,
-    /// The word at the pc is no instruction.
-    NoInstruction,
-    /// EBREAK.
-    Breakpoint,
-    /// A jump or a branch to an address that isn't a multiple of 4.
-    MisalignedJump,
-    /// An atomic access whose address isn't a multiple of its size.
-    MisalignedAccess,
-    /// A byte of the access can't be read.
-    NotReadable,
-    /// A byte of the access can't be written.
-    NotWritable,
-}
 
 /// Why no instruction can be fetched, or the word is none.
 fn fetch_why(signal: u8) -> FaultWhy

@@ -8,35 +8,13 @@ ghost use Rattle.event_facts.specs.Interruptions as spec;
 ghost use Rattle.event_facts.specs.{Interruptions.interrupted_facts, Telling.here_on};
 
 use crate::deeds::Range;
-use crate::facts::Fact;
 use crate::reads::number_seen;
+use fact_types::{Fact, Interruption, WrongWord};
 use mach_types::address_space::USER_END;
 use mach_types::sequences::{FLAGS, RSEQ_CS};
 use mach_types::{Area, BadWhy, Entry, Hart, Outcome};
 use machine_core::Machine;
 use sys_calls::area_of;
-
-/// A word in memory for which an area is bad.
-#[derive(Clone, Copy, Drop)]
-pub struct WrongWord {
-    /// Its address.
-    pub at: u64,
-    /// Its number; None where one of its bytes can't be read.
-    pub value: Option<u64>,
-}
-
-/// What the interruption of a thread came to.
-#[derive(Clone, Copy, Drop)]
-pub enum Interruption {
-    /// Nothing: the thread had no area, or its area named nothing.
-    Nothing,
-    /// The pointer of its area became 0; it was outside of what that named.
-    Cleared,
-    /// The pointer of its area became 0, and it went on at `to`; it was inside, at `from`.
-    Aborted { from: u64, to: u64 },
-    /// The process was killed, since the area was bad.
-    Killed { why: BadWhy, wrong: WrongWord },
-}
 
 /// Where `flags` stands in a `struct rseq_cs`, 4 bytes. Before it, at the descriptor's address, stands
 /// `version`.

@@ -5,8 +5,9 @@ ghost use Rattle.std.specs.List.{flat_map, range_with_len};
 ghost use Rattle.event_facts.specs.KernelEvents as spec;
 ghost use Rattle.event_facts.specs.{KernelEvents.lost_from, Reservations.lost_facts, Telling.past_of};
 
-use crate::facts::{Fact, push_if};
+use crate::facts::push_if;
 use crate::reservations::takes;
+use fact_types::Fact;
 use mach_types::{Hart, Write};
 use machine_core::Machine;
 use std::alloc::{AllocError, Global};

@@ -7,8 +7,6 @@ ghost use Rattle.event_facts.specs.{Calls.call_by, KernelEvents.kernel_facts};
 ghost use Rattle.event_facts.specs.Telling.{IsDecided, here_on, past_of, plain_event_of};
 ghost use Rattle.event_facts.specs.{Tied.AreLinesOf, Trace.trace_of};
 
-use crate::calls::SystemCall;
-use crate::facts::Fact;
 use crate::kept_reservations::{all_reservations, push_all_lost_from, reservation_in};
 use crate::kernel_writes::push_kernel_writes;
 use crate::killing::{push_killed, why_killing};
@@ -17,6 +15,7 @@ use crate::own_registers::push_own_registers;
 use crate::places::{push_after, push_before};
 use crate::reservations::push_if_ended;
 use crate::telling::make;
+use fact_types::{Fact, SystemCall};
 use mach_types::{Entry, Regs, Write};
 use machine_core::Machine;
 use std::alloc::{AllocError, Global};

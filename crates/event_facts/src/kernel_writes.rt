@@ -3,7 +3,7 @@
 ghost use Rattle.std.specs.Prelude.{◌≡◌, ◌++◌, OnOk, map};
 ghost use Rattle.event_facts.specs.Facts as spec;
 
-use crate::facts::Fact;
+use fact_types::Fact;
 use mach_types::Write;
 use std::alloc::AllocError;
 

@@ -16,8 +16,8 @@ ghost use Rattle.event_facts.specs.Killing as spec;
 ghost use Rattle.event_facts.specs.Killing.{IsReason, call_kills, called_kills, executing_kills, fault_kills, killing, kills_by, told_at, unhandled};
 ghost use Rattle.event_facts.specs.Telling.{IsDecided, here_on, past_of};
 
-use crate::calls::{RT_SIGRETURN, SystemCall};
-use crate::facts::Fact;
+use crate::calls::RT_SIGRETURN;
+use fact_types::{Fact, KillWhy, SystemCall};
 use mach_types::signals::{SIG_DFL, SIG_IGN};
 use mach_types::{Action, BadWhy, End, Entry, Hart, Kind, Named, Outcome, Tid};
 use machine_core::Machine;
@@ -26,25 +26,6 @@ use std::alloc::AllocError;
 
 /// The number of rseq(2).
 const RSEQ: u64 = 293;
-
-/// Why an event ends its process by a signal. Where several rules would, it is the first that the kernel asks.
-#[derive(Clone, Copy, Drop)]
-pub enum KillWhy {
-    /// The interruption of its thread found this bad (rseq(2)).
-    Bad(BadWhy),
-    /// The kernel can't write the words of an area: of a thread that begins to run, or registers it (rseq(2)).
-    AreaWords,
-    /// The signal that is delivered, or of a fault, has no handler: its action is another one (sigaction(2)).
-    NoHandler,
-    /// The thread masks the signal of its fault (sigprocmask(2)).
-    Masked,
-    /// The frame of the handler of the signal that is delivered can't be written (sigaction(2)).
-    FrameNotWritable,
-    /// The frame at the stack pointer can't be read (sigreturn(2)).
-    FrameNotReadable,
-    /// A call is made inside a restartable sequence (own; Linux kills so where CONFIG_DEBUG_RSEQ is set).
-    CallInside,
-}
 
 /// What an interruption found bad, where it kills.
 fn came_bad(came: Option<Outcome>) -> Option<KillWhy>

@@ -30,22 +30,16 @@ mod reads;
 mod registers;
 mod requests;
 mod reservations;
+mod sources;
 mod telling;
 mod theorems;
 mod threads;
 mod tracing;
 mod written;
 
-pub use areas::AreaField;
-pub use calls::SystemCall;
-pub use facts::{Fact, Source};
-pub use faults::FaultWhy;
-pub use interruptions::{Interruption, WrongWord};
-pub use killing::KillWhy;
 pub use lines::Lines;
 pub use telling::PlainEvent;
 pub use theorems::{
     kills_are_told_with_their_reason, lines_are_told_rightly, plain_events_are_told_by_their_facts,
 };
-pub use threads::ThreadChange;
 pub use tracing::{trace, trace_freely};

@@ -13,9 +13,10 @@ ghost use Rattle.event_facts.specs.Written.{IsWordOf};
 
 use crate::cuts::{are_same, cut_by_long_writes, cut_by_stores};
 use crate::deeds::Deed;
-use crate::facts::Source;
 use crate::long_writes::{LongWrite, last_line};
+use crate::sources::memory_source;
 use crate::written::{Word, Written};
+use fact_types::Source;
 use mach_types::{Hart, Store, Write};
 use std::alloc::{AllocError, Global};
 
@@ -145,7 +146,7 @@ impl Lines {
         requires hart { hart.0 < length self.now.waiting.items }
         ensures { result ≡ kept_source self.now hart.0 at }
     {
-        let below = Source::of_line(self.line_of(known, at));
+        let below = memory_source(self.line_of(known, at));
         source_over(&self.waiting[usize::from(hart.0)], at, below)
     }
 

@@ -10,8 +10,8 @@ ghost use Rattle.event_facts.specs.OtherRegisters as spec;
 ghost use Rattle.event_facts.specs.OtherRegisters.{AreRegisters, child_fact, other_registers, where_off, where_ready, where_waiting, woken_from};
 
 use crate::by_number::at_place;
-use crate::facts::Fact;
 use crate::registers::REGISTERS;
+use fact_types::Fact;
 use kernel_threads::{Threads, thread_is_saved_while_it_does_not_run};
 use mach_types::{Regs, Saved, ThreadState, Tid};
 use std::alloc::{AllocError, Global};

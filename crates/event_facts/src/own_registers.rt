@@ -7,9 +7,9 @@ ghost use Rattle.event_facts.specs.KernelEvents as spec;
 ghost use Rattle.event_facts.specs.{KernelEvents.changed_own, Telling.here_on};
 
 use crate::calls::is_it;
-use crate::facts::Fact;
 use crate::other_registers::saved_registers;
 use crate::registers::push_registers;
+use fact_types::Fact;
 use mach_types::{Entry, Kind, Regs};
 use machine_core::Machine;
 use std::alloc::AllocError;

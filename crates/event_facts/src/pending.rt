@@ -11,8 +11,9 @@ ghost use Rattle.event_facts.specs.Telling.{past_of};
 
 use crate::by_number::at_place;
 use crate::calls::is_process_end;
-use crate::facts::{Fact, push_if};
+use crate::facts::push_if;
 use crate::registers::SP;
+use fact_types::Fact;
 use hart_state::HartState;
 use mach_types::{Entry, Kind, Tid};
 use machine_core::Machine;

@@ -8,14 +8,15 @@ ghost use Rattle.event_facts.specs.Telling.{IsDecided, here_on, past_of};
 ghost use Rattle.event_facts.specs.Trace.{IsBefore, facts_after, facts_before};
 
 use crate::areas::{AreaBefore, area_kept, push_area};
-use crate::calls::{SystemCall, answered, next_call, push_called};
-use crate::facts::{Fact, push_if};
+use crate::calls::{answered, next_call, push_called};
+use crate::facts::push_if;
 use crate::faults::push_fault;
 use crate::interruptions::interrupted;
 use crate::other_registers::{RegistersBefore, push_other_registers};
 use crate::pending::{all_pending, delivery, next_delivered, push_signals};
 use crate::requests::{begun, push_requests};
 use crate::threads::{ThreadsBefore, push_threads};
+use fact_types::{Fact, SystemCall};
 use mach_types::{Entry, Kind, Outcome};
 use machine_core::Machine;
 use std::alloc::{AllocError, Global};

@@ -10,9 +10,10 @@ ghost use Rattle.event_facts.specs.Facts.{byte_fact, is_of_one, read_facts, read
 ghost use Rattle.event_facts.specs.{Telling.here_on, Tied.kept_source, Written.IsWordOf};
 
 use crate::deeds::Range;
-use crate::facts::{Fact, Source};
 use crate::lines::Lines;
+use crate::sources::is_same_if;
 use crate::written::Word;
+use fact_types::{Fact, Source};
 use mach_types::Hart;
 use machine_core::Machine;
 use std::alloc::AllocError;
@@ -27,7 +28,7 @@ fn are_of_one(lines: &Lines, known: &Word, hart: Hart, at: u64, size: u8, first:
     let mut one = true;
     for k in 0..size {
         let source = lines.source(known, hart, at.wrapping_add(u64::from(k)));
-        one = source.is_same_if(one, first);
+        one = is_same_if(one, source, first);
     }
     one
 }

@@ -4,7 +4,7 @@ ghost use Rattle.std.specs.Prelude.{◌≡◌, ◌==◌, ◌++◌, ◌∷◌, []
 ghost use Rattle.event_facts.specs.Facts.{register_fact, register_facts};
 ghost use Rattle.event_facts.specs.Telling as spec;
 
-use crate::facts::Fact;
+use fact_types::Fact;
 use mach_types::Regs;
 use rv_inst::Effect;
 use std::alloc::AllocError;

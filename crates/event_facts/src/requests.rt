@@ -5,8 +5,7 @@ ghost use Rattle.mach_types.specs.Events.{choice_of};
 ghost use Rattle.event_facts.specs.Requests.{begun_facts, request_facts};
 ghost use Rattle.event_facts.specs.Telling.{here_on};
 
-use crate::calls::SystemCall;
-use crate::facts::Fact;
+use fact_types::{Fact, SystemCall};
 use hart_state::HartState;
 use mach_types::{Entry, Kind};
 use machine_core::Machine;

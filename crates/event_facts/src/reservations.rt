@@ -8,7 +8,7 @@ ghost use Rattle.event_facts.specs.Reservations.{all_lost, ended_facts, lost_fac
 ghost use Rattle.event_facts.specs.Telling.{past_of};
 
 use crate::deeds::{is_reserved, reserved_at};
-use crate::facts::Fact;
+use fact_types::Fact;
 use mach_types::{Hart, Store};
 use machine_core::Machine;
 use rv_inst::Effect;

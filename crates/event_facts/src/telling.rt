@@ -17,11 +17,11 @@ ghost use Rattle.event_facts.specs.Telling.{HasSizes, IsDecided, effect_in, here
 ghost use Rattle.event_facts.specs.Tied.{AreLinesOf, kept_on, kept_source};
 
 use crate::deeds::{Deed, read_by};
-use crate::facts::Fact;
 use crate::lines::Lines;
 use crate::reads::{number_seen, push_reading};
 use crate::registers::{push_if_other, register_set};
 use crate::reservations::{push_all_lost, push_reserving};
+use fact_types::Fact;
 use mach_types::{Entry, Hart, Kind, Store};
 use machine_core::Machine;
 use rv_inst::Effect;

@@ -7,27 +7,11 @@ ghost use Rattle.event_facts.specs.Threads as spec;
 ghost use Rattle.event_facts.specs.Threads.{AreBefore, change_facts, created_fact, created_facts, thread_facts, told_from};
 
 use crate::by_number::at_place;
-use crate::facts::{Fact, push_if};
+use crate::facts::push_if;
+use fact_types::{Fact, ThreadChange};
 use kernel_threads::Threads;
 use mach_types::{ThreadState, Tid};
 use std::alloc::{AllocError, Global};
-
-/// What became of a thread.
-#[derive(Clone, Copy, Drop)]
-pub enum ThreadChange {
-    /// It was created.
-    Created,
-    /// It ended.
-    Ended,
-    /// It began to run, on the hart of the event.
-    Runs,
-    /// It left its hart, and is ready.
-    MadeReady,
-    /// It waits at this address (futex(2)): it left its hart, or waited at another one.
-    Sleeps(u64),
-    /// It waits no longer, and is ready.
-    Woken,
-}
 
 /// The threads before an event.
 #[derive(Drop)]

@@ -13,12 +13,12 @@ ghost use Rattle.event_facts.specs.Telling.{IsDecided, here_on, past_of};
 ghost use Rattle.event_facts.specs.Tied.{AreLinesOf};
 ghost use Rattle.event_facts.specs.Trace.{trace_of};
 
-use crate::facts::Fact;
 use crate::kernel_events::tell_kernel;
 use crate::lines::Lines;
 use crate::registers::push_if_other;
 use crate::telling::{PlainEvent, plain_event, register_on, tell, tell_register};
 use crate::theorems::plain_events_are_told_by_their_facts;
+use fact_types::Fact;
 use mach_types::{Entry, Hart};
 use machine_core::Machine;
 use rv_inst::Effect;

@@ -8,6 +8,7 @@ call_name number =
     if number == 29 then codes "ioctl"
     else if number == 64 then codes "write"
     else if number == 66 then codes "writev"
+    else if number == 80 then codes "fstat"
     else if number == 93 then codes "exit"
     else if number == 94 then codes "exit_group"
     else if number == 96 then codes "set_tid_address"
@@ -25,6 +26,7 @@ call_name number =
     else if number == 135 then codes "rt_sigprocmask"
     else if number == 136 then codes "rt_sigpending"
     else if number == 139 then codes "rt_sigreturn"
+    else if number == 160 then codes "uname"
     else if number == 168 then codes "getcpu"
     else if number == 172 then codes "getpid"
     else if number == 173 then codes "getppid"
@@ -49,6 +51,7 @@ argument_count number =
     if number == 29 then 3
     else if number == 64 then 3
     else if number == 66 then 3
+    else if number == 80 then 2
     else if number == 93 then 1
     else if number == 94 then 1
     else if number == 96 then 1
@@ -64,6 +67,7 @@ argument_count number =
     else if number == 134 then 4
     else if number == 135 then 4
     else if number == 136 then 2
+    else if number == 160 then 1
     else if number == 168 then 2
     else if number == 214 then 1
     else if number == 215 then 2

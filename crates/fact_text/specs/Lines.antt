@@ -4,21 +4,21 @@ use Rattle.std.specs.Prelude.{ℕ, ◌==◌, List, [], ◌∷◌, ◌++◌, leng
 use Rattle.std.specs.Fmt.{decimal}
 use Rattle.std.specs.List.{flat_map}
 use Rattle.mach_types.specs.declared.user_memory.Store.{Store}
-use Rattle.event_facts.specs.declared.areas.AreaField.{AreaField}
-use Rattle.event_facts.specs.declared.areas.AreaField.TheVariants as field
-use Rattle.event_facts.specs.declared.calls.SystemCall.{SystemCall}
-use Rattle.event_facts.specs.declared.facts.Fact.{Fact}
-use Rattle.event_facts.specs.declared.facts.Fact.TheVariants.{Read, Waits, Entered, KernelWrote, Zeroed, Reserved, Used, Failed, Ended, Lost, Register, Faulted, RequestsTaken, BarrierReturns, Called, Answered, Refused, AnsweredLater, BarrierBegins, Interrupted, HandlerEntered, DeliveryKills, SignalPosted, SignalDropped, ThreadChanged, ThreadRegister, AreaWord, NoAnswer, Killed}
-use Rattle.event_facts.specs.declared.faults.FaultWhy.{FaultWhy}
-use Rattle.event_facts.specs.declared.faults.FaultWhy.TheVariants.{NotAligned, NotExecutable, NoInstruction, Breakpoint, MisalignedJump, MisalignedAccess, NotReadable, NotWritable}
-use Rattle.event_facts.specs.declared.facts.Source.{Source}
-use Rattle.event_facts.specs.declared.facts.Source.TheVariants.{Start, Memory, Waiting}
-use Rattle.event_facts.specs.declared.interruptions.Interruption.{Interruption}
-use Rattle.event_facts.specs.declared.interruptions.Interruption.TheVariants as came
-use Rattle.event_facts.specs.declared.killing.KillWhy.{KillWhy}
-use Rattle.event_facts.specs.declared.killing.KillWhy.TheVariants.{Bad, AreaWords, NoHandler, Masked, FrameNotWritable, FrameNotReadable, CallInside}
-use Rattle.event_facts.specs.declared.threads.ThreadChange.{ThreadChange}
-use Rattle.event_facts.specs.declared.threads.ThreadChange.TheVariants as becomes
+use Rattle.fact_types.specs.declared.areas.AreaField.{AreaField}
+use Rattle.fact_types.specs.declared.areas.AreaField.TheVariants as field
+use Rattle.fact_types.specs.declared.calls.SystemCall.{SystemCall}
+use Rattle.fact_types.specs.declared.facts.Fact.{Fact}
+use Rattle.fact_types.specs.declared.facts.Fact.TheVariants.{Read, Waits, Entered, KernelWrote, Zeroed, Reserved, Used, Failed, Ended, Lost, Register, Faulted, RequestsTaken, BarrierReturns, Called, Answered, Refused, AnsweredLater, BarrierBegins, Interrupted, HandlerEntered, DeliveryKills, SignalPosted, SignalDropped, ThreadChanged, ThreadRegister, AreaWord, NoAnswer, Killed}
+use Rattle.fact_types.specs.declared.faults.FaultWhy.{FaultWhy}
+use Rattle.fact_types.specs.declared.faults.FaultWhy.TheVariants.{NotAligned, NotExecutable, NoInstruction, Breakpoint, MisalignedJump, MisalignedAccess, NotReadable, NotWritable}
+use Rattle.fact_types.specs.declared.facts.Source.{Source}
+use Rattle.fact_types.specs.declared.facts.Source.TheVariants.{Start, Memory, Waiting}
+use Rattle.fact_types.specs.declared.interruptions.Interruption.{Interruption}
+use Rattle.fact_types.specs.declared.interruptions.Interruption.TheVariants as came
+use Rattle.fact_types.specs.declared.killing.KillWhy.{KillWhy}
+use Rattle.fact_types.specs.declared.killing.KillWhy.TheVariants.{Bad, AreaWords, NoHandler, Masked, FrameNotWritable, FrameNotReadable, CallInside}
+use Rattle.fact_types.specs.declared.threads.ThreadChange.{ThreadChange}
+use Rattle.fact_types.specs.declared.threads.ThreadChange.TheVariants as becomes
 use Rattle.fact_text.specs.CallNames.{call_name, errno_name, told_count}
 use Rattle.place_text.specs.Fields.{behind, harts_fields, line, value_or_none, value_text, yes_or_no}
 use Rattle.place_text.specs.Registers.{register_name}

@@ -7,7 +7,7 @@ ghost use Rattle.fact_text.specs.Lines as spec;
 ghost use Rattle.place_text.specs.Fields.{behind, value_text};
 
 use crate::call_names::{call_name, errno_name, told_count};
-use event_facts::{
+use fact_types::{
     AreaField, Fact, FaultWhy, Interruption, KillWhy, Source, SystemCall, ThreadChange, WrongWord,
 };
 use mach_types::{BadWhy, Hart, Store, Tid};

@@ -5,6 +5,8 @@ use Rattle.mach_types.specs.declared.events.Entry.{Entry}
 use Rattle.mach_types.specs.declared.limits.End.{End}
 use Rattle.block_model.specs.Plain.{plain_after, plain_over}
 use Rattle.block_model.specs.Setting.{Setting}
+use Rattle.prompt_runs.specs.Prompt.{IsSpokenOf}
+use Rattle.search_reductions.specs.declared.signals.Signals.{Signals}
 use Rattle.same_places.specs.Closed.{IsRunEnding}
 use Rattle.found_outcomes.specs.declared.findings.OutcomeFound.{OutcomeFound}
 
@@ -19,9 +21,9 @@ pub record HasBeenFound (os : List OutcomeFound) (end : End) (console : List ℕ
 abbrev pub IsEndFound : Setting → List OutcomeFound → List Entry → Type 0
 IsEndFound s os log = (end : End) → plain_over (plain_after s log) ≡ Some end → HasBeenFound os end (plain_after s log).kernel.console
 
--- the log of the outcome is a block run that is over, with the outcome's end and console
-abbrev pub IsShown : Setting → OutcomeFound → Type 0
-IsShown s o = IsRunEnding s o.end o.console o.log.items
+-- the log of the outcome is a block run that is spoken of and is over, with the outcome's end and console
+abbrev pub IsShown : Setting → Signals → OutcomeFound → Type 0
+IsShown s signals o = IsRunEnding s o.end o.console o.log.items × IsSpokenOf signals s o.log.items
 
 -- not both the end and the console of two outcomes are the same
 abbrev pub IsOther : OutcomeFound → OutcomeFound → Type 0

@@ -1,4 +1,5 @@
 pub mod Complete
+pub mod Endless
 pub mod Found
 pub mod Hopeless
 pub mod Reduced

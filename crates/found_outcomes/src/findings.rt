@@ -22,6 +22,9 @@ pub struct OutcomeFound {
 pub enum Closing {
     /// All places were visited: every run that ends has one of the outcomes that were found.
     Complete,
+    /// All places were visited to which runs with so many preemptions come at most: each of these runs that ends has one of the outcomes
+    /// that were found. Some event was left out that would have been one more.
+    Within(u8),
     /// As many places were visited as were allowed, and there may be others.
     Places,
     /// A run that goes on is as long as the step limit.
@@ -62,6 +65,8 @@ pub struct Findings {
     pub places: u32,
     /// How many entries the longest log has that was visited.
     pub deepest: u32,
+    /// Whether some run executes instructions without end. It says something at `Complete` alone.
+    pub endless: bool,
     /// The places from which no end can be reached. It says something at `Complete` alone.
     pub hopeless: HopelessPlaces,
     /// Why the search ended.

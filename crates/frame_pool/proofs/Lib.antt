@@ -9,4 +9,5 @@ pub mod Laws
 mod Places
 mod Pools
 mod Zeroing
+mod Shown
 mod Zeros

@@ -1,6 +1,7 @@
--- How a pool lies in memory (own): in order of their numbers the bytes of the first frames, as far as they were ever
--- written; which of the frames that were ever taken are taken now, and a stack of the numbers of the others. A frame that
--- was taken and lies behind those with bytes has zeros. The frames behind these were never taken.
+-- How a pool lies in memory (own): in order of their numbers the bytes of the first frames, as far as one was ever
+-- written; which frames were written since they were taken, and since all were made zero; which of the frames that were
+-- ever taken are taken now, and a stack of the numbers of the others. A frame that wasn't written has zeros. The frames
+-- past those that were ever taken were never taken.
 use Rattle.std.specs.Prelude.{◌≡◌, ◌-◌, ◌<◌, ◌≤◌, ◌^◌, ℕ, Bool, true, false, List, [], ◌∷◌, ◌++◌, Option, Some, None, if◌then◌else◌, length, replicate, slice_get, slice_set}
 use Rattle.std.specs.List.{AllByRecursion}
 use Rattle.frame_pool.specs.Pool.{fresh}
@@ -15,9 +16,19 @@ frames_of [] frames = []
 frames_of (t ∷ ts) [] = []
 frames_of (t ∷ ts) (bytes ∷ frames) = frame_of t bytes ∷ frames_of ts frames
 
--- so many frames: those with bytes, and then those that have zeros
+-- so many frames at least: those with bytes, and then others that have zeros
 abbrev pub with_zeros : ℕ → List (List ℕ) → List (List ℕ)
 with_zeros count region = region ++ replicate (count - length region) fresh
+
+-- the bytes of each frame that was ever taken: its own where it was written, and zeros elsewhere
+abbrev pub bytes_shown : List Bool → List (List ℕ) → List (List ℕ)
+bytes_shown [] region = []
+bytes_shown (w ∷ ws) [] = fresh ∷ bytes_shown ws []
+bytes_shown (w ∷ ws) (bytes ∷ region) = (if w then bytes else fresh) ∷ bytes_shown ws region
+
+-- each frame that was written has bytes of its own
+abbrev pub AreStored : List Bool → List (List ℕ) → Type 0
+AreStored written region = (n : ℕ) → slice_get written n ≡ Some true → n < length region
 
 -- all frames: those of the region, and then those that were never taken
 abbrev pub pool_of : ℕ → List Bool → List (List ℕ) → List (Option (List ℕ))
@@ -37,7 +48,8 @@ pub record IsLaidOut (frames : ℕ) (region : List (List ℕ)) (taken : List Boo
   pub stack : AreFree taken free
 
 -- the region, the marks and the stack each have room for all frames
-pub record HasRoom (frames region taken free : ℕ) : Type 0 where
+pub record HasRoom (frames region writes taken free : ℕ) : Type 0 where
   pub bytes : frames ≤ region
+  pub written : frames ≤ writes
   pub marks : frames ≤ taken
   pub stack : frames ≤ free

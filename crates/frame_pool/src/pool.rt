@@ -1,8 +1,9 @@
 //! The pool.
 
-ghost use Rattle.std.specs.Prelude.{◌≡◌, ◌↔◌, ◌+◌, ◌<◌, ◌≤◌, length, replicate, slice_get, slice_set, vec_capacity, Option, Some, None, IfNone, IfOk, IfSome, IsNone};
+ghost use Rattle.std.specs.Prelude.{◌≡◌, ◌↔◌, ◌+◌, ◌<◌, ◌≤◌, true, length, replicate, slice_get, slice_set, vec_capacity, Option, Some, None, IfNone, IfOk, IfSome, IsNone};
+ghost use Rattle.std.specs.Bool.{OnTrue};
 ghost use Rattle.std.specs.Borrow.{sem};
-ghost use Rattle.frame_pool.specs.Layout.{with_zeros};
+ghost use Rattle.frame_pool.specs.Layout.{AreStored, bytes_shown, with_zeros};
 ghost use Rattle.frame_pool.specs.Lending.{LendsFrame};
 ghost use Rattle.frame_pool.specs.Pool.{IsTaken, free_count, fresh, zeroed};
 
@@ -13,29 +14,32 @@ use std::marker::Model;
 /// All frames of guest memory, by number: the bytes of each frame that is taken, and nothing for one that is
 /// free.
 ///
-/// The region has the first so many frames, as far as they were ever written. A frame behind them that is taken has zero
-/// bytes, and none of its own: so a frame costs next to nothing before it is written for the first time.
+/// The region has bytes for the first so many frames, as far as one was ever written. A frame is marked where
+/// it was written since it was taken and since all were made zero. A taken frame without a mark has zero
+/// bytes, whatever the region has in its place: so it costs next to nothing before it is written.
 #[derive(Drop)]
 pub struct FramePool {
     region: Vec<[u8; 4096]>,
+    written: Vec<bool>,
     taken: Vec<bool>,
     free: Vec<u32>,
     frames: u32,
 }
 
 impl Model for FramePool {
-    ghost use Rattle.std.specs.Prelude.{ℕ, List, Option, ◌≤◌, length};
+    ghost use Rattle.std.specs.Prelude.{ℕ, List, Option};
     ghost use Rattle.std.specs.Vec.{vec_capacity};
-    ghost use Rattle.frame_pool.specs.Layout.{HasRoom, IsLaidOut, pool_of, with_zeros};
+    ghost use Rattle.frame_pool.specs.Layout.{AreStored, HasRoom, IsLaidOut, bytes_shown, pool_of};
 
     ghost Value = { List (Option (List ℕ)) };
 
-    ghost view = { λ p. pool_of p.frames p.taken.items
-        (with_zeros (length p.taken.items) p.region.items) };
+    ghost view = { λ p. pool_of p.frames p.taken.items (bytes_shown p.written.items p.region.items) };
 
-    ghost invariant = { λ p. IsLaidOut p.frames (with_zeros (length p.taken.items) p.region.items) p.taken.items p.free.items
-        × HasRoom p.frames (vec_capacity p.region) (vec_capacity p.taken) (vec_capacity p.free)
-        × (length p.region.items ≤ length p.taken.items) };
+    ghost invariant = { λ p.
+        IsLaidOut p.frames (bytes_shown p.written.items p.region.items) p.taken.items p.free.items
+        × HasRoom p.frames (vec_capacity p.region) (vec_capacity p.written) (vec_capacity p.taken)
+        (vec_capacity p.free)
+        × AreStored p.written.items p.region.items };
 }
 
 impl FramePool {
@@ -47,6 +51,7 @@ impl FramePool {
         let count = frames as usize;
         Ok(FramePool {
             region: Vec::with_capacity(alloc, count)?,
+            written: Vec::with_capacity(alloc, count)?,
             taken: Vec::with_capacity(alloc, count)?,
             free: Vec::with_capacity(alloc, count)?,
             frames,
@@ -71,7 +76,7 @@ impl FramePool {
     {
         if let Some(number) = self.free.pop() {
             self.taken[number as usize] = true;
-            clear(&mut self.region, number as usize);
+            self.written[number as usize] = false;
             return Some(Frame::new(number));
         }
         let number = self.taken.len() as u32;
@@ -79,6 +84,7 @@ impl FramePool {
             return None;
         }
         let _ = self.taken.push(true);
+        let _ = self.written.push(false);
         Some(Frame::new(number))
     }
 
@@ -96,7 +102,16 @@ impl FramePool {
     pub fn zero_taken(&mut self)
         ensures { self.new ≡ zeroed self.old }
     {
-        self.region.clear();
+        self.written.fill(false);
+    }
+
+    /// Whether a taken frame has zero bytes because nothing has written it. It looks at none of its bytes,
+    /// and is false of a frame that was written, with whatever bytes.
+    pub fn is_fresh(&self, frame: &Frame) -> bool
+        requires { IsTaken self.now frame.now }
+        ensures { OnTrue result (slice_get self.now frame.now ≡ Some (Some fresh)) }
+    {
+        !self.written[frame.place()]
     }
 
     /// The 4,096 bytes of a taken frame.
@@ -106,7 +121,7 @@ impl FramePool {
         ensures size { length result.now ≡ 4096 }
     {
         let place = frame.place();
-        if place < self.region.len() {
+        if self.written[place] {
             &self.region[place]
         } else {
             no_bytes()
@@ -122,8 +137,20 @@ impl FramePool {
     {
         prove!(self.bytes(frame).len() == 4096);
         let place = frame.place();
-        reach(&mut self.region, place);
+        own(&mut self.region, &mut self.written, place);
         self.region[place].as_mut_slice()
+    }
+
+    /// Gives a taken frame these bytes. No other frame changes. It takes no memory.
+    pub fn fill(&mut self, frame: &Frame, bytes: &[u8])
+        requires taken { IsTaken self.old frame.now }
+        requires size { length bytes.now ≡ 4096 }
+        ensures { self.new ≡ slice_set self.old frame.now (Some bytes.now) }
+    {
+        let place = frame.place();
+        reach(&mut self.region, place);
+        self.region[place].copy_from_slice(bytes);
+        self.written[place] = true;
     }
 }
 
@@ -134,14 +161,33 @@ fn no_bytes() -> &'static [u8]
     &[0; 4096]
 }
 
-/// Makes the bytes at a place zero, if some stand there.
+/// Gives a frame that isn't marked bytes of its own, which are zero, and marks it.
+fn own(region: &mut Vec<[u8; 4096]>, written: &mut Vec<bool>, place: usize)
+    requires within { place < length written.old.items }
+    requires room { place < vec_capacity region.old }
+    requires stored { AreStored written.old.items region.old.items }
+    ensures shown { bytes_shown written.new.items region.new.items
+        ≡ bytes_shown written.old.items region.old.items }
+    ensures stored { AreStored written.new.items region.new.items }
+    ensures marked { slice_get written.new.items place ≡ Some true }
+    ensures capacity { vec_capacity region.old ≤ vec_capacity region.new }
+    ensures marks { vec_capacity written.old ≤ vec_capacity written.new }
+{
+    if written[place] {
+        return;
+    }
+    clear(region, place);
+    written[place] = true;
+}
+
+/// Makes the bytes at a place zero.
 fn clear(region: &mut Vec<[u8; 4096]>, place: usize)
-    ensures items { region.new.items ≡ slice_set region.old.items place fresh }
+    requires { place < vec_capacity region.old }
+    ensures items { region.new.items ≡ slice_set (with_zeros (place + 1) region.old.items) place fresh }
     ensures capacity { vec_capacity region.old ≤ vec_capacity region.new }
 {
-    if place < region.len() {
-        region[place] = zeros();
-    }
+    reach(region, place);
+    region[place] = zeros();
 }
 
 /// Appends frames of zero bytes, until one stands at a place.

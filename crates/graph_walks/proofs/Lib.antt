@@ -1,2 +1,4 @@
+mod LongWalks
+mod Raised
 pub mod Targets
 mod Walks

@@ -7,4 +7,6 @@ pub struct Edge {
     pub from: u32,
     /// The number of the node to which it leads.
     pub to: u32,
+    /// Whether work is done along it: which work, is the caller's to say.
+    pub busy: bool,
 }

@@ -1,5 +1,5 @@
 -- A machine on which thread t is one local step ahead of where it is on another one goes on as that one does.
-use Rattle.local_steps.proofs.Common.{◌≡◌, ◌≢◌, ◌⊎◌, inl, inr, ℕ, List, [], ◌∷◌, drop, append-nil, refl, sym, ap, ◌∙◌, Bool, true, false, cond, eqb, eqb-true, eqb_same, ne_eqb, Option, Some, None, Choice, Done, Here, IsGoodHere, Kind, Plain, Saved, Setting, apply, awaits_after, awaits_of_own, by_effect, done_of, file_among, here_in_plain, is_ready, option_map, plain_over, refusal_of, running_on, runs, thread_in, with_state, on, false≢true, is_preempt, ◌++◌, ◌&&◌, ◌||◌, Effect, Hart, done_exec_by, fault_by, fetched, is_storable, reached, Barrier, option_or, without_hart, one_instruction, Store}
+use Rattle.local_steps.proofs.Common.{◌≡◌, ◌≢◌, ◌⊎◌, inl, inr, ℕ, List, [], ◌∷◌, drop, append-nil, refl, sym, ap, ◌∙◌, Bool, true, false, cond, eqb, eqb-true, eqb_same, ne_eqb, Option, Some, None, Choice, Done, Here, IsGoodHere, Kind, Plain, Saved, Setting, apply, awaits_after, awaits_of_own, by_effect, done_of, file_among, here_in_plain, is_ready, option_map, plain_over, refusal_of, running_on, runs, thread_in, with_state, on, false≢true, is_preempt, ◌++◌, ◌&&◌, ◌||◌, Effect, Hart, done_exec_by, fault_by, fetched, is_storable, reached, Barrier, option_or, without_hart, one_instruction, Store, is_call, next_fault}
 use Rattle.mach_types.specs.Events.{kind_of}
 use Rattle.mach_types.specs.declared.events.Choice.TheVariants as asked
 use Rattle.mach_types.specs.declared.events.Kind.TheVariants as kind
@@ -15,6 +15,7 @@ use Rattle.rv_inst.specs.Memory.{loaded}
 use Rattle.rv_inst.specs.Words.{sum_64}
 use Rattle.std.proofs.Common.{◌<◌, ◌+◌, arith, is_some, leb, length, ltb, zero, suc}
 use Rattle.std.proofs.lemmas.Bool.{lt-ltb}
+use Rattle.std.specs.Option.{option_map_or}
 use Rattle.mach_types.specs.Registers.{with_register}
 use Rattle.block_model.specs.Events.Exec.{is_held, others_gate, refusal_exec_by}
 use Rattle.block_model.specs.Events.Preempt.{unless_in_barrier}
@@ -383,6 +384,22 @@ module _ (s : Setting) (private : ℕ → ℕ → Bool) (t : ℕ) (g : Saved) wh
           ∙ does local.effect local.leaves
       | inr x ↦
           ap (λ (o : Option Effect). by_effect there_here t (fault_by (reached there_here) (is_storable there_here) f.pc (fetched s.program.pages f.pc) o) o) x.is ∙ loads x
+    ]
+
+    -- it makes no fault, and is no call
+    abbrev traps_with : Option Effect → Bool
+    traps_with o = is_some (fault_by (reached there_here) (is_storable there_here) f.pc (fetched s.program.pages f.pc) o) || option_map_or is_call o false
+
+    local_no_trap : (e : Effect) → local_after e f ≡ Some g → traps_with (Some e) ≡ false
+    local_no_trap (effect.Next rd value to) is = refl
+    local_no_trap (effect.Fence full) is = refl
+    local_no_trap effect.FenceI is = refl
+    local_no_trap e is = absurd cc
+
+    pub never_traps : (is_some (next_fault there_here t) || option_map_or is_call (next_effect s.program.pages f) false) ≡ false
+    never_traps = elim step_at [
+      | inl local ↦ ap traps_with local.is ∙ local_no_trap local.effect local.leaves
+      | inr x ↦ ap traps_with x.is ∙ ap (λ b. is_some (cond b None (Some SIGSEGV)) || false) (load_readable m h at good x)
     ]
 
     waiting_same : (k : ℕ) (b : Bool) → cond b (drop 0 (m.waiting k ++ [])) (m.waiting k) ≡ m.waiting k

@@ -2,13 +2,14 @@
 use Rattle.local_steps.proofs.Common.{Bool, ◌≡◌, ℕ, List, [], ◌∷◌, ◌++◌, refl, sym, ap, ◌∙◌, subst, append-nil, append_assoc, Some, Choice, Done, Entry, Plain, Setting, apply, choice_of, done_of, here_in_plain, here_of, plain_over, plain_start, refusal_of}
 use Rattle.mach_types.specs.declared.events.Choice.TheVariants as asked
 use Rattle.mach_types.specs.declared.limits.End.{End}
-use Rattle.local_steps.specs.Explorations.{AreAll, IsExplored}
+use Rattle.local_steps.specs.Explorations.{AreAll, IsExplored, budget_of}
 use Rattle.local_steps.proofs.Notions.{EndsSo}
 use Rattle.local_steps.specs.Runs.{IsReached, MayCome, choices, next_of}
 use Rattle.block_model.specs.Plain.{plain_after}
 use Rattle.block_model.specs.Run.{IsBlockRun}
 use Rattle.block_model.specs.Setting.{with_steps}
 use Rattle.block_model.proofs.Laws.{good_at, next_event, run_before, start_run, start_plain, IsGood}
+use Rattle.local_steps.proofs.Tallies.{all_paid, budget_is}
 use Rattle.local_steps.proofs.WithAreas.{complete_with_areas}
 use Rattle.block_model.proofs.Swaps.Logs.{last_decided, seen}
 use Rattle.block_model.specs.Standing.{IsSound}
@@ -82,5 +83,5 @@ explored_is_all s threads private cost k IsSeen IsOutcome x e console y =
     let limited = with_steps y.steps s in
     let start = start_plain limited in
     let ends = subst (λ (m : Plain). EndsSo s m (choices y.log) e console) start (link_from s y.steps [] y.log e console y.run y.over y.prints) in
-    complete_with_areas s threads private cost IsSeen IsOutcome x.closed (λ j m is. reached_good s m (x.reached j m is)) k (plain_start s) x.start.0 (choices y.log) e console
-    (start_good s) x.start.1 x.start.2 y.cheap ends
+    complete_with_areas s threads private (budget_of cost) (λ j m. Unit {0}) (budget_is s cost private) IsSeen IsOutcome x.closed (λ j m is. reached_good s m (x.reached j m is)) k (plain_start s)
+    x.start.0 (choices y.log) e console (start_good s) tt x.start.1 x.start.2 (all_paid s cost (choices y.log) k (plain_start s) y.cheap) ends

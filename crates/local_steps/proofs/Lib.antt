@@ -7,5 +7,6 @@ pub mod Congruence
 pub mod Notions
 pub mod Passing
 pub mod ReadsOne
+pub mod Tallies
 pub mod WithAreas
 pub mod WithoutArea

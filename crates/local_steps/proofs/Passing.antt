@@ -25,21 +25,26 @@ module _ (s : Setting) (private : ℕ → ℕ → Bool) (MayRest : ℕ → Saved
 
   -- the event is the step
   pub record HasStepped (t : ℕ) (g : Saved) (m : Plain) (a : ℕ × Choice) : Type 0 where
+    pub is_exec : a.1 ≡ asked.Exec
+    pub runs : running_on a.0 m.kernel.threads ≡ Some t
     pub calm : IsCalmAt m a
     pub next : AreAlike (next_of s m a) (moved t g m)
 
   -- the event comes on both machines, and the step is still before the one
   pub record HasPassed (t : ℕ) (g : Saved) (m : Plain) (a : ℕ × Choice) : Type 0 where
+    pub other : IsOther a.1 (here_in_plain s m a.0) t
     pub may : MayCome s (moved t g m) a
     pub calm : IsCalmAt m a
     pub next : IsAhead t g (next_of s m a) (next_of s (moved t g m) a)
     pub behind : IsBehind s private t g (next_of s m a)
     pub rests : MayRest t g (next_of s m a)
 
-  -- the step comes first, and is calm
-  pub record StepsFirst (t : ℕ) (g : Saved) (m : Plain) (h : ℕ) : Type 0 where
-    pub may : MayCome s m (h, asked.Exec)
-    pub next : AreAlike (next_of s m (h, asked.Exec)) (moved t g m)
+  -- the step comes first: the event is an instruction of the thread
+  pub record StepsFirst (t : ℕ) (g : Saved) (m : Plain) (a : ℕ × Choice) : Type 0 where
+    pub is_exec : a.1 ≡ asked.Exec
+    pub runs : running_on a.0 m.kernel.threads ≡ Some t
+    pub may : MayCome s m (a.0, asked.Exec)
+    pub next : AreAlike (next_of s m (a.0, asked.Exec)) (moved t g m)
 
   module _ (lets : LetsPass) (t : ℕ) (g : Saved) (m : Plain) (a : ℕ × Choice) (behind : IsBehind s private t g m) (rests : MayRest t g m) where
     abbrev here : Here
@@ -57,7 +62,7 @@ module _ (s : Setting) (private : ℕ → ℕ → Bool) (MayRest : ℕ → Saved
     passed : MayCome s m a → IsCalmAt (moved t g m) a → IsPassedTo s private t g m a → IsOther a.1 here t → HasPassed t g m a
     passed may calm x other =
         let still = lets.rests_on t g m a behind may other rests x calm in
-        record { may = x.may; calm = lets.calm_back t g m a x.alike calm; next = x.next; behind = behind_next s private t g m a x still.1; rests = still.0 }
+        record { other = other; may = x.may; calm = lets.calm_back t g m a x.alike calm; next = x.next; behind = behind_next s private t g m a x still.1; rests = still.0 }
 
     passed_own : MayCome s m a → IsCalmAt (moved t g m) a → thread_in a.1 here ≡ Some t → a.1 ≢ asked.Exec → HasPassed t g m a
     passed_own may calm its never = passed may calm (own_passes s private t g m a behind may its never (lets.calms t g m a behind may rests calm)) (never_exec a.1 never)
@@ -78,6 +83,8 @@ module _ (s : Setting) (private : ℕ → ℕ → Bool) (MayRest : ℕ → Saved
       by_choice its asked.Exec is =
           let at : running_on a.0 m.kernel.threads ≡ Some t = ap (λ c. thread_in c here) (sym is) ∙ its in
           inl (record {
+            is_exec = is;
+            runs = at;
             calm = subst (λ c. IsCalmAt m (a.0, c)) (sym is) (lets.calm_step m a.0 t g behind.good at behind.local);
             next = ap (λ c. uncounted (next_of s m (a.0, c))) is ∙ steps_ahead s private t g m a.0 at behind.good behind.local;
           })
@@ -102,12 +109,12 @@ module _ (s : Setting) (private : ℕ → ℕ → Bool) (MayRest : ℕ → Saved
 
     module _ (ahead : MayCome s (moved t g m) a) (calm : IsCalmAt (moved t g m) a) where
       abbrev ComesBack : Type 0
-      ComesBack = StepsFirst t g m a.0 ⊎ (MayCome s m a × HasPassed t g m a)
+      ComesBack = StepsFirst t g m a ⊎ (MayCome s m a × HasPassed t g m a)
 
       back_choice : thread_in a.1 here ≡ Some t → (c : Choice) → a.1 ≡ c → ComesBack
       back_choice its asked.Exec is =
           let at : running_on a.0 m.kernel.threads ≡ Some t = ap (λ c. thread_in c here) (sym is) ∙ its in
-          inl (record { may = may_step s private t g m a.0 at behind ahead.goes ahead.lt; next = steps_ahead s private t g m a.0 at behind.good behind.local })
+          inl (record { is_exec = is; runs = at; may = may_step s private t g m a.0 at behind ahead.goes ahead.lt; next = steps_ahead s private t g m a.0 at behind.good behind.local })
       back_choice its c is =
           let never : a.1 ≢ asked.Exec = λ exec. absurd cc in
           let may : MayCome s m a = record { goes = ahead.goes; lt = ahead.lt; free = own_refused here t m.file g a.1 never ∙ ahead.free } in

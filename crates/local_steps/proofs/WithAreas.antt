@@ -12,11 +12,11 @@ use Rattle.mach_types.specs.declared.sequences.Outcome.{Outcome}
 use Rattle.mach_types.specs.declared.sequences.Outcome.TheVariants as comes_to
 use Rattle.mach_types.specs.declared.threads.ThreadState.TheVariants.{Ready}
 use Rattle.rv_inst.specs.Execution.{seen_byte}
-use Rattle.local_steps.specs.Explorations.{IsClosed, SettlesTo}
+use Rattle.local_steps.specs.Explorations.{IsClosed, SettlesTo, Tally}
 use Rattle.local_steps.specs.LocalSteps.{IsLoadStep, IsLocalStep, IsStepAt, seen_by, seen_in}
 use Rattle.local_steps.proofs.Notions.{EndsSo, IsOutside, MayInterrupt, moved, with_file}
 use Rattle.local_steps.specs.Resting.{IsOther, IsPast, LeavesAreas, Looked, RestsOutside, looked}
-use Rattle.local_steps.specs.Runs.{MayCome, next_of, total}
+use Rattle.local_steps.specs.Runs.{MayCome, next_of}
 use Rattle.mach_types.specs.Bytes.{joined, word_at}
 use Rattle.rv_inst.specs.Memory.{loaded}
 use Rattle.rv_inst.specs.Words.{sum_64}
@@ -28,6 +28,7 @@ use Rattle.local_steps.proofs.Congruence.{IsAlikeFor}
 use Rattle.local_steps.proofs.Ahead.{IsBehind, IsPassedTo, steps_ahead}
 use Rattle.local_steps.proofs.Closed.{closed_is_complete}
 use Rattle.local_steps.proofs.Passing.{LetsPass}
+use Rattle.local_steps.proofs.Tallies.{AllPass, IsTally}
 use Rattle.local_steps.proofs.WithoutArea.{area_stays, outside}
 
 -- WHAT AN INTERRUPTION COMES TO
@@ -221,8 +222,8 @@ module _ (s : Setting) (threads : ℕ → Type 0) (private : ℕ → ℕ → Boo
     rests_on = λ t g m a behind may other rests x calm. (rests_next s threads private t g m a behind rests may other x calm, still_steps s threads private t g m a behind rests may other x calm);
   }
 
-  module _ (cost : Choice → ℕ) (IsSeen : ℕ → Plain → Type 0) (IsOutcome : End → List ℕ → Type 0) (closed : IsClosed s private (RestsOutside threads) (LeavesAreas s threads private) cost IsSeen IsOutcome)
-      (seen_good : (k : ℕ) (m : Plain) → IsSeen k m → IsGood s m) where
-    pub complete_with_areas : (k : ℕ) (m n : Plain) (log : List (ℕ × Choice)) (e : End) (console : List ℕ) → IsGood s m → IsSeen k n → SettlesTo s private (RestsOutside threads) m n
-        → total cost log ≤ k → EndsSo s m log e console → IsOutcome e console
-    complete_with_areas = closed_is_complete s private (RestsOutside threads) (LeavesAreas s threads private) cost areas_pass IsSeen IsOutcome closed seen_good
+  module _ (tally : Tally) (Fits : tally.Kept → Plain → Type 0) (tallies : IsTally s tally private Fits) (IsSeen : tally.Kept → Plain → Type 0) (IsOutcome : End → List ℕ → Type 0)
+      (closed : IsClosed s private (RestsOutside threads) (LeavesAreas s threads private) tally IsSeen IsOutcome) (seen_good : (k : tally.Kept) (m : Plain) → IsSeen k m → IsGood s m) where
+    pub complete_with_areas : (k : tally.Kept) (m n : Plain) (log : List (ℕ × Choice)) (e : End) (console : List ℕ) → IsGood s m → Fits k m → IsSeen k n → SettlesTo s private (RestsOutside threads) m n
+        → AllPass s tally k m log → EndsSo s m log e console → IsOutcome e console
+    complete_with_areas = closed_is_complete s private (RestsOutside threads) (LeavesAreas s threads private) areas_pass tally Fits tallies IsSeen IsOutcome closed seen_good

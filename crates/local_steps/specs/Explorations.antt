@@ -21,18 +21,29 @@ pub data SettlesTo (s : Setting) (private : ℕ → ℕ → Bool) (MayRest : ℕ
       → running_on h m.kernel.threads ≡ Some t → IsStepAt s private t g m → MayRest t g m
       → SettlesTo s private MayRest (next_of s m (h, asked.Exec)) n → SettlesTo s private MayRest m n
 
--- machines that were seen, each with what choices may still cost from there, are closed: each that is over
--- ended as one of the outcomes says; and each event of one that may be paid for is calm, and leads to a
--- machine that settles to a seen one
+-- what is kept along a run; which choices it lets pass at a machine; and what is kept after one
+pub record Tally : Type 1 where
+  pub Kept : Type 0
+  pub Passes : Kept → Plain → ℕ × Choice → Type 0
+  pub next : Kept → Plain → ℕ × Choice → Kept
+
+-- machines that were seen, each with what is kept there, are closed: each that is over ended as one of the
+-- outcomes says; and each event of one that passes is calm, and leads to a machine that settles to a seen one,
+-- where what is kept is the same
 pub record IsClosed (s : Setting) (private : ℕ → ℕ → Bool) (MayRest : ℕ → Saved → Plain → Type 0)
-    (IsCalmAt : Plain → ℕ × Choice → Type 0) (cost : Choice → ℕ) (IsSeen : ℕ → Plain → Type 0)
+    (IsCalmAt : Plain → ℕ × Choice → Type 0) (tally : Tally) (IsSeen : tally.Kept → Plain → Type 0)
     (IsOutcome : End → List ℕ → Type 0) : Type 0 where
-  pub ends : (k : ℕ) (m : Plain) (e : End) → IsSeen k m → plain_over m ≡ Some e
+  pub ends : (k : tally.Kept) (m : Plain) (e : End) → IsSeen k m → plain_over m ≡ Some e
       → IsOutcome e m.kernel.console
-  pub calm : (k : ℕ) (m : Plain) (a : ℕ × Choice) → IsSeen k m → MayCome s m a → cost a.1 ≤ k
-      → IsCalmAt m a
-  pub steps : (k : ℕ) (m : Plain) (a : ℕ × Choice) → IsSeen k m → MayCome s m a → cost a.1 ≤ k
-      → (n : Plain) × IsSeen (k - cost a.1) n × SettlesTo s private MayRest (next_of s m a) n
+  pub calm : (k : tally.Kept) (m : Plain) (a : ℕ × Choice) → IsSeen k m → MayCome s m a
+      → tally.Passes k m a → IsCalmAt m a
+  pub steps : (k : tally.Kept) (m : Plain) (a : ℕ × Choice) → IsSeen k m → MayCome s m a
+      → tally.Passes k m a
+      → (n : Plain) × IsSeen (tally.next k m a) n × SettlesTo s private MayRest (next_of s m a) n
+
+-- a budget is kept: what choices may still cost
+abbrev pub budget_of : (Choice → ℕ) → Tally
+budget_of cost = record { Kept = ℕ; Passes = λ k m a. cost a.1 ≤ k; next = λ k m a. k - cost a.1 }
 
 -- an exploration: each machine that was seen is one that a run comes to; the start settles to one of them,
 -- from where choices may cost k; and they are closed
@@ -40,7 +51,8 @@ pub record IsExplored (s : Setting) (threads : ℕ → Type 0) (private : ℕ �
     (k : ℕ) (IsSeen : ℕ → Plain → Type 0) (IsOutcome : End → List ℕ → Type 0) : Type 0 where
   pub reached : (j : ℕ) (m : Plain) → IsSeen j m → IsReached s m
   pub start : (n : Plain) × IsSeen k n × SettlesTo s private (RestsOutside threads) (plain_start s) n
-  pub closed : IsClosed s private (RestsOutside threads) (LeavesAreas s threads private) cost IsSeen IsOutcome
+  pub closed : IsClosed s private (RestsOutside threads) (LeavesAreas s threads private) (budget_of cost) IsSeen
+      IsOutcome
 
 -- each block run that is over and costs no more than k, however long, ended as one of these outcomes says
 abbrev pub AreAll : Setting → (Choice → ℕ) → ℕ → (End → List ℕ → Type 0) → Type 0

@@ -2,6 +2,7 @@
 use Rattle.std.specs.Prelude.{ℕ, ◌≡◌, ◌<◌, ◌≤◌, ◌+◌, map, List, [], ◌∷◌, Some, None}
 use Rattle.mach_types.specs.Events.{choice_of}
 use Rattle.mach_types.specs.declared.events.Choice.{Choice}
+use Rattle.mach_types.specs.declared.events.Choice.TheVariants as asked
 use Rattle.mach_types.specs.declared.limits.End.{End}
 use Rattle.block_model.specs.Events.{done_of, refusal_of}
 use Rattle.block_model.specs.Plain.{Plain, apply, here_in_plain, plain_after, plain_over}
@@ -31,6 +32,16 @@ AreAlike m n = uncounted m ≡ uncounted n
 abbrev pub total : (Choice → ℕ) → List (ℕ × Choice) → ℕ
 total cost [] = 0
 total cost (a ∷ log) = cost a.1 + total cost log
+
+-- how many instructions the event of a choice executes
+abbrev pub instructions_by : Choice → ℕ
+instructions_by asked.Exec = 1
+instructions_by asked.Drain = 0
+instructions_by asked.Take = 0
+instructions_by asked.Done = 0
+instructions_by asked.Preempt = 0
+instructions_by (asked.Run t) = 0
+instructions_by asked.Signal = 0
 
 -- the choices of a log
 abbrev pub choices : List Entry → List (ℕ × Choice)

@@ -31,7 +31,7 @@ use Rattle.whole_runs.specs.Asks.{asks_of}
 use Rattle.whole_runs.specs.Runs.{IsChosenRun, IsSoloRun, IsPlayedRun}
 use Rattle.run_texts.specs.Summary.{act_line, summary_text}
 use Rattle.run_texts.specs.Text.{output_text}
-use Rattle.run_texts.specs.Traces.{trace_text}
+use Rattle.trace_text.specs.Traces.{trace_text}
 
 -- what is shown of a log with this console and this end
 abbrev pub text_of : Shown → Setting → List ℕ → List Entry → End → List ℕ

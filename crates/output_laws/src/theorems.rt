@@ -1,6 +1,6 @@
 //! Laws of the outputs, each as the contract of a function that does nothing.
 
-ghost use Rattle.std.specs.Prelude.{◌≡◌, ◌++◌, codes, false, ℕ, List, Option, All, IsSome};
+ghost use Rattle.std.specs.Prelude.{◌≡◌, ◌<◌, ◌++◌, codes, false, ℕ, List, Option, Some, All, IsSome};
 ghost use Rattle.mach_types.specs.{declared.events.Entry.Entry, Limits.InRange};
 ghost use Rattle.step_log.specs.Grammar.{log_text};
 ghost use Rattle.block_model.specs.Setting.{Setting, setting_of};
@@ -23,8 +23,9 @@ ghost use Rattle.output_laws.specs.DrawnOutcomes.{HasOutcome, drawing};
 ghost use Rattle.command_words.specs.Shown.{Gathered, Output};
 ghost use Rattle.command_words.specs.declared.commands.SearchSettings.{SearchSettings};
 ghost use Rattle.command_words.specs.declared.commands.Settings.{Settings};
-ghost use Rattle.found_outcomes.specs.Complete.{IsComplete};
+ghost use Rattle.found_outcomes.specs.Complete.{IsComplete, IsCompleteWithin};
 ghost use Rattle.outcomes.specs.Searches.{IsSearchOutput};
+ghost use Rattle.place_text.specs.Ends.{number_line};
 ghost use Rattle.command_words.specs.Commands.{Command, PairRun, Run, depends_on_host};
 
 /// The log lines of the output of a run, read as a script by `play` with the same program and limits, are allowed at
@@ -111,10 +112,20 @@ pub fn calls_agree()
         → (status ≡ 0 → HasOneOutput a) → WroteOneText a b }
 {}
 
-/// Where the last line of an output of `outcomes` is `complete`, its outcomes are those of every run that ends. No other text of a
-/// search ends in this line, whatever the consoles hold.
+/// Where the last line of an output of `outcomes` is `complete`, its outcomes are those of every run that ends, of the runs that
+/// `--signals` speaks of. No other text of a search ends in this line, whatever the consoles hold.
 pub fn complete_outputs_have_every_outcome()
     ensures { (files : Files) (program written before : List ℕ) (settings : SearchSettings)
         → (output : IsSearchOutput files program settings written) → written ≡ before ++ codes "complete\n"
-        → IsComplete (setting_of output.image settings.limits) output.found.outcomes.items }
+        → IsComplete (setting_of output.image settings.limits) settings.signals output.found.outcomes.items }
+{}
+
+/// Where it is `complete preemptions P`, they are those of every run that ends and has P lines `preempt` at most; and so many were asked
+/// for. No other text of a search ends in this line either.
+pub fn limited_outputs_have_every_outcome()
+    ensures { (files : Files) (program written before : List ℕ) (settings : SearchSettings) (p : ℕ)
+        → (output : IsSearchOutput files program settings written)
+        → p < 256 → written ≡ before ++ number_line (codes "complete preemptions") p
+        → (settings.preemptions ≡ Some p)
+        × IsCompleteWithin (setting_of output.image settings.limits) settings.signals p output.found.outcomes.items }
 {}

@@ -1,6 +1,6 @@
 //! The pages of a process, each with a frame of its own.
 
-ghost use Rattle.std.specs.Prelude.{List, ◌≡◌, ◌==◌, ◌&&◌, ◌≤◌, ℕ, ◌+◌, ◌-◌, ◌*◌, ◌/◌, ◌%◌, ◌<◌, if◌then◌else◌, [], ◌++◌, ◌∷◌, Some, None, true, false, IfOk, IfSome, IsSome, is_some, length, slice_get, slice_index, slice_set, vec_capacity, vec_len};
+ghost use Rattle.std.specs.Prelude.{List, ◌≡◌, ◌==◌, ◌&&◌, ◌≤◌, ℕ, ◌+◌, ◌-◌, ◌*◌, ◌/◌, ◌%◌, ◌<◌, if◌then◌else◌, [], ◌++◌, ◌∷◌, Some, None, true, false, IfOk, IfSome, IsSome, is_some, length, replicate, slice_get, slice_index, slice_set, vec_capacity, vec_len};
 ghost use Rattle.std.specs.Bool.{OnTrue};
 ghost use Rattle.std.specs.Option.{option_copied, option_map};
 ghost use Rattle.byte_views.specs.Words.{with_word};
@@ -327,6 +327,7 @@ impl PageMap {
     }
 
     /// The bytes of a page whose permission has a bit.
+    #[inline]
     pub(crate) fn bytes_if(&self, bit: u8, number: u64) -> Option<&[u8]>
         ensures bytes { option_copied result ≡ bytes_if bit (page_in self.now number) }
         ensures size { IfSome result (λ bytes. length bytes.now ≡ 4096) }
@@ -346,6 +347,18 @@ impl PageMap {
     {
         let page = self.find(number)?;
         Some(self.pool.bytes(&page.frame))
+    }
+
+    /// Whether a page that is mapped has zero bytes because nothing has written it. It looks at none of its
+    /// bytes, and is false of a page that was written, with whatever bytes.
+    pub fn is_fresh(&self, number: u64) -> bool
+        ensures { OnTrue result (option_map (λ (p : Page). p.bytes) (page_in self.now number)
+            ≡ Some (replicate 4096 0)) }
+    {
+        match self.find(number) {
+            Some(page) => self.pool.is_fresh(&page.frame),
+            None => false,
+        }
     }
 
     /// Writes the low `size` bytes of `value`, the lowest first, in a page that is mapped.
@@ -484,7 +497,7 @@ fn write_whole(pool: &mut FramePool, frame: &Frame, bytes: &[u8])
     ensures written { pool.new ≡ slice_set pool.old frame.now (Some bytes.now) }
     ensures small { (k : ℕ) → slice_index bytes.now k < 256 }
 {
-    pool.bytes_mut(frame).copy_from_slice(bytes);
+    pool.fill(frame, bytes);
 }
 
 /// Appends a page, for which there is room.

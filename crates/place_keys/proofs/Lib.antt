@@ -1,12 +1,11 @@
 mod ActionNumbers
-mod AddingUp
 mod Alike
 mod Codes
 mod DifferenceCodes
 mod Examples
 mod FirstPages
+mod FoundPages
 mod HartCodes
-mod MappedCounts
 mod MemoryWords
 mod PackedCodes
 mod PageCodes

@@ -106,6 +106,16 @@ module _ (m : Map) (n k : ℕ) (lt : k < 512) where
   pub memory_nowhere : (start : Map) → page_in m n ≡ None → memory_word start m (512 * n + k) ≡ start_word start (512 * n + k)
   memory_nowhere start none = ap (λ o. unwrap_or o (start_word start (512 * n + k))) (word_nowhere none)
 
+-- the page of these bytes
+pub record HasBytes (o : Option Page) (bytes : List ℕ) : Type 0 where
+  pub page : Page
+  pub is : o ≡ Some page
+  pub bytes_are : page.bytes ≡ bytes
+
+pub has_bytes : (o : Option Page) (bytes : List ℕ) → option_map (λ (p : Page). p.bytes) o ≡ Some bytes → HasBytes o bytes
+has_bytes None bytes e = cc
+has_bytes (Some p) bytes e = record { page = p; is = refl; bytes_are = cc }
+
 -- the same by the number of the word
 pub unmapped_word : (start m : Map) (j : ℕ) → page_in m (j / 512) ≡ None → memory_word start m j ≡ start_word start j
 unmapped_word start m j none =

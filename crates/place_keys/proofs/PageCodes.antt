@@ -12,7 +12,7 @@ use Rattle.place_keys.specs.MappedPages.{is_page}
 use Rattle.place_keys.specs.PageWords.{ALL_WORDS, memory_word, memory_words, page_word, pages_words, permission_word, permissions_words, start_word}
 use Rattle.place_keys.specs.Words.{word}
 use Rattle.place_keys.proofs.Alike.{HoldSamePages}
-use Rattle.place_keys.proofs.MappedCounts.{past_all}
+use Rattle.place_keys.proofs.FoundPages.{past_all}
 use Rattle.place_keys.proofs.Codes.{after, word_key}
 use Rattle.place_keys.proofs.DifferenceCodes.{differences_key, ended_on, moved, skipped, then_on}
 use Rattle.place_keys.proofs.MemoryWords.{memory_there, unmapped_word, word_tells}

@@ -7,7 +7,6 @@
 
 mod differences;
 mod harts;
-mod mapped;
 mod packing;
 mod pages;
 mod parts;
@@ -15,10 +14,8 @@ mod tables;
 mod theorems;
 mod words;
 
-pub use mapped::pages_in_all;
 pub use packing::pack;
 pub use parts::write_place;
 pub use theorems::{
     equal_bytes_are_equal_words, equal_words_are_the_same_place, equal_words_lead_back,
-    pages_add_up,
 };

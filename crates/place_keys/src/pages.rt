@@ -1,22 +1,26 @@
 //! Pages as words.
 
-ghost use Rattle.std.specs.Prelude.{◌≡◌, ◌||◌, ◌<◌, ◌≤◌, ◌+◌, ◌-◌, ◌*◌, ◌^◌, ◌++◌, ℕ, IfOk, IfSome, IsSome, OnOk, length, replicate};
+ghost use Rattle.std.specs.Prelude.{◌≡◌, true, false, ◌||◌, ◌<◌, ◌≤◌, ◌+◌, ◌-◌, ◌*◌, ◌^◌, ◌++◌, ℕ, IfOk, IfSome, IsSome, OnOk, length, replicate};
+ghost use Rattle.std.specs.Bool.{OnTrue};
 ghost use Rattle.mach_types.specs.Kernel.Pages.{first_page};
 ghost use Rattle.page_map.specs.Map.{page_in};
 ghost use Rattle.place_keys.specs.Differences.{IsWrittenOn};
-ghost use Rattle.place_keys.specs.MappedPages.{IsBare, is_page};
+ghost use Rattle.place_keys.specs.MappedPages.{is_page};
 ghost use Rattle.place_keys.specs.PageWords.{memory_word, memory_words, page_word, pages_words, permissions_words, start_word};
 ghost use Rattle.place_keys.specs.PageWords as spec;
 
 use crate::differences::write_change;
-use crate::mapped::next_page;
 use crate::words::write_word;
 use byte_views::read_word;
-use page_map::{ALL_PAGES, PageMap};
+use mach_types::address_space::{FIRST_MAPPING_PAGE, FIRST_STACK_PAGE, RETURN_PAGE, STACK_PAGES};
+use page_map::{ALL_PAGES, PageMap, pages_of};
 use std::alloc::AllocError;
 
 /// How many words of 8 bytes a page has.
 const PAGE_WORDS: u64 = 512;
+
+/// The number of the page behind the stack.
+const STACK_END: u64 = FIRST_STACK_PAGE + STACK_PAGES;
 
 /// How many blocks of 64 bytes a page has.
 const BLOCKS: usize = 64;
@@ -31,23 +35,46 @@ fn permission_word(pages: &PageMap, number: u64) -> u64
     }
 }
 
-/// The first page that is mapped in one of two page maps, from one page on.
-fn next_of_both(
-    pages: &PageMap,
-    bare: bool,
-    start: &PageMap,
-    start_bare: bool,
-    from: u64,
-) -> Option<u64>
+/// Where to look on for a mapped page: past a gap that no process maps, where a page lies in it, and else at the page itself. One gap lies
+/// between the break and the mappings, and one between the stack and the page that signal handlers return to.
+fn past_gap(pages: &PageMap, from: u64) -> u64
+    ensures from { from ≤ result }
+    ensures unmapped { (n : ℕ) → from ≤ n → n < result → is_page pages.now n ≡ false }
+{
+    pages.keeps();
+    if from < FIRST_MAPPING_PAGE && pages_of(pages.break_at()) <= from {
+        FIRST_MAPPING_PAGE
+    } else if STACK_END <= from && from < RETURN_PAGE {
+        RETURN_PAGE
+    } else {
+        from
+    }
+}
+
+/// The first page that is mapped, from one page on.
+fn next_page(pages: &PageMap, from: u64) -> Option<u64>
     ensures from { IfSome result (λ n. from ≤ n) }
     ensures within { IfSome result (λ n. n < ALL_PAGES) }
-    ensures first { IsBare bare pages.now → IsBare start_bare start.now
-        → result ≡ first_page (λ n. is_page pages.now n || is_page start.now n) from (ALL_PAGES - from) }
+    ensures mapped { IfSome result (λ n. is_page pages.now n ≡ true) }
+    ensures first { result ≡ first_page (is_page pages.now) from (ALL_PAGES - from) }
 {
-    let Some(number) = next_page(pages, from, bare) else {
-        return next_page(start, from, start_bare);
+    pages.next_page(past_gap(pages, from))
+}
+
+/// The first page that is mapped in one of two page maps, from one page on.
+fn next_of_both(pages: &PageMap, start: &PageMap, from: u64) -> Option<u64>
+    ensures from { IfSome result (λ n. from ≤ n) }
+    ensures within { IfSome result (λ n. n < ALL_PAGES) }
+    ensures first { result
+        ≡ first_page (λ n. is_page pages.now n || is_page start.now n) from (ALL_PAGES - from) }
+{
+    let Some(number) = next_page(pages, from) else {
+        return next_page(start, from);
     };
-    match next_page(start, from, start_bare) {
+    if number == from {
+        return Some(number);
+    }
+    match next_page(start, from) {
         Some(other) => Some(number.min(other)),
         None => Some(number),
     }
@@ -57,16 +84,13 @@ fn next_of_both(
 fn write_permissions(
     words: &mut Vec<u64>,
     pages: &PageMap,
-    bare: bool,
     start: &PageMap,
-    start_bare: bool,
 ) -> Result<(), AllocError>
-    ensures { OnOk result (IsBare bare pages.now → IsBare start_bare start.now
-        → words.new.items ≡ words.old.items ++ permissions_words start.now pages.now) }
+    ensures { OnOk result (words.new.items ≡ words.old.items ++ permissions_words start.now pages.now) }
 {
     let mut past = 0;
     let mut from = 0;
-    while let Some(number) = next_of_both(pages, bare, start, start_bare, from) {
+    while let Some(number) = next_of_both(pages, start, from) {
         let old = permission_word(start, number);
         let now = permission_word(pages, number);
         past = write_change(words, past, number, old, now)?;
@@ -168,6 +192,33 @@ fn start_bytes(start: &PageMap, number: u64) -> &[u8]
     }
 }
 
+/// Whether a page had zero bytes at the start because nothing wrote it, or wasn't mapped.
+fn starts_fresh(start: &PageMap, number: u64) -> bool
+    ensures { OnTrue result ((k : ℕ) → k < 512
+        → start_word start.now (512 * number + k) ≡ page_word (replicate 4096 0) k) }
+{
+    if start.is_fresh(number) {
+        return true;
+    }
+    match start.permission(number) {
+        Some(_) => false,
+        None => true,
+    }
+}
+
+/// Whether a page that is mapped has zero bytes as at the start, because nothing has written it. It looks at
+/// none of its bytes, and is false of a page that was written, with whatever bytes.
+fn stays_fresh(pages: &PageMap, start: &PageMap, number: u64) -> bool
+    ensures { OnTrue result ((k : ℕ) → k < 512
+        → memory_word start.now pages.now (512 * number + k) ≡ start_word start.now (512 * number + k)) }
+{
+    if pages.is_fresh(number) {
+        starts_fresh(start, number)
+    } else {
+        false
+    }
+}
+
 /// The words of a page that is mapped, where they differ from those at the start.
 fn write_page(
     words: &mut Vec<u64>,
@@ -184,6 +235,9 @@ fn write_page(
         (record { words = words.old.items; past = past; next = 512 * number })
         (record { words = words.new.items; past = last; next = 512 * number + 512 })) }
 {
+    if stays_fresh(pages, start, number) {
+        return Ok(past);
+    }
     let Some(bytes) = pages.bytes(number) else {
         unreachable!()
     };
@@ -195,38 +249,24 @@ fn write_page(
 }
 
 /// The words of memory that differ from those at the start.
-fn write_memory(
-    words: &mut Vec<u64>,
-    pages: &PageMap,
-    bare: bool,
-    start: &PageMap,
-) -> Result<(), AllocError>
-    ensures { OnOk result (IsBare bare pages.now
-        → words.new.items ≡ words.old.items ++ memory_words start.now pages.now) }
+fn write_memory(words: &mut Vec<u64>, pages: &PageMap, start: &PageMap) -> Result<(), AllocError>
+    ensures { OnOk result (words.new.items ≡ words.old.items ++ memory_words start.now pages.now) }
 {
     let mut past = 0;
     let mut from = 0;
-    while let Some(number) = next_page(pages, from, bare) {
+    while let Some(number) = next_page(pages, from) {
         past = write_page(words, pages, start, number, past)?;
         from = number + 1;
     }
     write_word(words, 0)
 }
 
-/// Where the pages of a process differ from those at the start, how many frames are free, and the break. Of
-/// each page map it is said whether no page is mapped between the break and the stack.
-pub fn write_pages(
-    words: &mut Vec<u64>,
-    pages: &PageMap,
-    bare: bool,
-    start: &PageMap,
-    start_bare: bool,
-) -> Result<(), AllocError>
-    ensures { OnOk result (IsBare bare pages.now → IsBare start_bare start.now
-        → words.new.items ≡ words.old.items ++ pages_words start.now pages.now) }
+/// Where the pages of a process differ from those at the start, how many frames are free, and the break.
+pub fn write_pages(words: &mut Vec<u64>, pages: &PageMap, start: &PageMap) -> Result<(), AllocError>
+    ensures { OnOk result (words.new.items ≡ words.old.items ++ pages_words start.now pages.now) }
 {
-    write_permissions(words, pages, bare, start, start_bare)?;
-    write_memory(words, pages, bare, start)?;
+    write_permissions(words, pages, start)?;
+    write_memory(words, pages, start)?;
     write_word(words, u64::from(pages.free()))?;
     write_word(words, pages.break_at())
 }

@@ -1,17 +1,14 @@
 //! Laws of keys, each as the contract of a function that does nothing.
 
-ghost use Rattle.std.specs.Prelude.{◌≡◌, ℕ, [], Contains, List};
+ghost use Rattle.std.specs.Prelude.{◌≡◌, ℕ, Contains, List};
 ghost use Rattle.mach_types.specs.declared.{events.Choice.Choice, events.Entry.Entry};
 ghost use Rattle.same_places.specs.{Replayed.StandAfter, Searched.LeadsBack, Trying.IsLonger};
-ghost use Rattle.block_model.specs.Layouts.{IsLaidOut};
 ghost use Rattle.block_model.specs.Plain.{Plain};
-ghost use Rattle.block_model.specs.Run.{IsBlockRun};
 ghost use Rattle.block_model.specs.Setting.{Setting};
 ghost use Rattle.page_map.specs.Map.{Map};
 ghost use Rattle.process.specs.declared.parts.Parts.{Parts};
 ghost use Rattle.process.specs.Refinement.{IsTied};
 ghost use Rattle.same_places.specs.Places.{IsSamePlace};
-ghost use Rattle.place_keys.specs.MappedPages.{AddsUp};
 ghost use Rattle.place_keys.specs.Packed.{packed};
 ghost use Rattle.place_keys.specs.PartWords.{parts_words};
 
@@ -33,12 +30,4 @@ pub fn equal_words_lead_back()
 /// Words whose bytes are equal are equal.
 pub fn equal_bytes_are_equal_words()
     ensures { (words others : List ℕ) → packed words ≡ packed others → words ≡ others }
-{}
-
-/// At each place of a block run the free frames and the mapped pages of the parts are as many together as
-/// those of the start.
-pub fn pages_add_up()
-    ensures { (s : Setting) (log : List Entry) (first m : Parts) → IsLaidOut s.program → IsBlockRun s log
-        → StandAfter s [] first → StandAfter s log m → (total : ℕ) → AddsUp total first.pages
-        → AddsUp total m.pages }
 {}

@@ -20,7 +20,7 @@ use Rattle.settling.specs.Edges.{IsEdge, own_thread}
 use Rattle.settling.specs.Looks.{is_kept, look_in}
 use Rattle.settling.specs.declared.edges.Look.{Look}
 use Rattle.place_search.specs.Searching.{HasSights}
-use Rattle.place_search.specs.SettlingSteps.{all_or_none, none_private}
+use Rattle.place_search.specs.SettlingSteps.{Ways, all_or_none, none_private}
 use Rattle.place_search.specs.Sights.{is_left}
 use Rattle.place_search.specs.declared.visiting.Reached.{Reached}
 use Rattle.place_search.proofs.Steps.{tables_at}
@@ -48,13 +48,18 @@ edge s from h c e m own run sees longer own_is left =
           ∙ sym (ap (λ (all : List Look). list_all (is_kept m own) all) sees.sights.looks) ∙ two.1;
     }
 
-pub calm_by : (s : Setting) (settle : Bool) (from : Reached) (h : ℕ) (c : Choice) (e : Entry) (m : Parts) (own : Option Tid) → IsBlockRun s from.log.items → HasSights s from → IsLonger s from.log.items h c e m
+calm_if : (s : Setting) (settle : Bool) (from : Reached) (h : ℕ) (c : Choice) (e : Entry) (m : Parts) (own : Option Tid) → IsBlockRun s from.log.items → HasSights s from → IsLonger s from.log.items h c e m
     → own ≡ own_thread c (running_on h (plain_after s from.log.items).kernel.threads) → (settle ≡ true → is_left from.sights m own ≡ true) → EdgesAreLeft
-    → LeavesAreas s (settles_of (all_or_none settle)) none_private (plain_after s from.log.items) (h, c)
-calm_by s true from h c e m own run sees longer own_is left law =
-    law s (plain_after s from.log.items) h c sees.parts m (all_or_none true) (edge s from h c e m own run sees longer own_is (left refl))
-calm_by s false from h c e m own run sees longer own_is left law = (
+    → LeavesAreas s (settles_of (λ t. settle)) none_private (plain_after s from.log.items) (h, c)
+calm_if s true from h c e m own run sees longer own_is left law =
+    law s (plain_after s from.log.items) h c sees.parts m (λ t. true) (edge s from h c e m own run sees longer own_is (left refl))
+calm_if s false from h c e m own run sees longer own_is left law = (
   λ is t signal may at next. let bad : false ≡ true = may in absurd cc,
   λ t area may has other. let bad : false ≡ true = may in absurd cc,
   λ t b may mine other. let bad : false ≡ true = may in absurd cc,
 )
+
+pub calm_by : (s : Setting) (ways : Ways) (from : Reached) (h : ℕ) (c : Choice) (e : Entry) (m : Parts) (own : Option Tid) → IsBlockRun s from.log.items → HasSights s from → IsLonger s from.log.items h c e m
+    → own ≡ own_thread c (running_on h (plain_after s from.log.items).kernel.threads) → (ways.settle ≡ true → is_left from.sights m own ≡ true) → EdgesAreLeft
+    → LeavesAreas s (settles_of (all_or_none ways)) none_private (plain_after s from.log.items) (h, c)
+calm_by s ways from h c e m own run sees longer own_is left law = calm_if s ways.settle from h c e m own run sees longer own_is left law

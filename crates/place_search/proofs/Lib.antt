@@ -1,12 +1,14 @@
 mod Edges
 mod Findings
 mod Graphs
+mod HeldSignals
 mod Lists
 mod Logs
 mod Marked
 mod MoreSteps
 mod Nexts
 mod Outcomes
+mod Preemptions
 mod Starts
 mod Steps
 mod Stops

@@ -1,30 +1,34 @@
 -- Which places are hopeless, by the marks of those from which a walk along the edges leads to an end.
-use Rattle.std.proofs.Common.{◌≡◌, ◌≢◌, ℕ, zero, suc, ◌+◌, ◌<◌, ◌≤◌, Bool, true, false, not, cond, List, [], ◌∷◌, length, Option, Some, None, IfSome, All, Contains, position, nat_lt, count_by, get_or, slice_index_or, refl, sym, ap, ◌∙◌, subst, arith}
+use Rattle.std.proofs.Common.{◌≡◌, ◌≢◌, ℕ, ◌<◌, ◌≤◌, Bool, true, false, not, cond, List, [], ◌∷◌, length, Option, Some, None, IfSome, All, Contains, position, nat_lt, count_by, get_or, slice_index_or, refl, sym, ap, ◌∙◌, subst, arith}
 use Rattle.std.proofs.lemmas.List.{get_or_default}
 use Rattle.std.proofs.lemmas.List.Elements.{All-contains, All-weaker}
 use Rattle.std.specs.List.{position_or_len}
 use Rattle.std.proofs.lemmas.Bool.{ltb-false}
 use Rattle.std.proofs.lemmas.List.Quantifiers.{position-Some}
 use Rattle.std.proofs.lemmas.List.Sums.{fails_before_first, get_or-le-sum_by, sum_by-le}
-use Rattle.mach_types.specs.declared.events.Choice.{Choice}
 use Rattle.mach_types.specs.declared.events.Entry.{Entry}
 use Rattle.mach_types.specs.declared.limits.End.{End}
 use Rattle.block_model.specs.Plain.{plain_over}
 unfoldable use Rattle.block_model.specs.Plain.{plain_after}
 use Rattle.block_model.specs.Setting.{Setting}
 use Rattle.same_places.specs.FreeRuns.{IsFreeRun}
-use Rattle.settled_places.specs.Edges.{AreEdges, IsEdge, log_by_number}
-use Rattle.settled_places.specs.Endings.{CanEnd, IsHopeless}
+use Rattle.settled_places.specs.Edges.{AreBusyEdges, AreEdges, IsBusyEdge, IsEdge, log_by_number}
+use Rattle.settled_places.specs.Endings.{CanEnd, HasLongWork, IsHopeless, IsWorkBounded}
+use Rattle.prompt_runs.specs.Prompt.{IsSpokenOf}
+use Rattle.search_reductions.specs.declared.signals.Signals.{Signals}
 use Rattle.settled_places.specs.SettledSearch.{IsSettledSearch}
-use Rattle.settled_places.specs.Walks.{IsTrap, ReachesEnd}
+use Rattle.settled_places.specs.Walks.{AreRanks, ComesTo, GoesRound, IsTrap, ReachesEnd}
+use Rattle.settled_places.specs.Walks.ComesTo.{Further, Here}
 use Rattle.settled_places.specs.Walks.ReachesEnd.{Along, There}
+use Rattle.found_outcomes.specs.Endless.{IsEndless}
 use Rattle.found_outcomes.specs.Hopeless.{AreHopeless, IsToldOfEach}
+use Rattle.graph_walks.specs.Circles.{HasBusyCircle, HasRanks, IsRanked, busy_targets, work_of}
 use Rattle.graph_walks.specs.Walks.{AreMarks, IsMarked, IsWithin, Leads, targets}
 use Rattle.graph_walks.specs.Walks.Leads.{Along as LeadsAlong, There as LeadsThere}
 use Rattle.graph_walks.specs.declared.edge.Edge.{Edge}
-use Rattle.graph_walks.proofs.Targets.{has_target, target_has}
+use Rattle.graph_walks.proofs.Targets.{busy_target_has, has_busy_target, has_target, only as only_one, target_has}
 use Rattle.place_search.specs.Graphs.{IsEndedAt, IsMade, IsTrue, IsWhole}
-use Rattle.place_search.specs.SettlingSteps.{all_or_none, none_private}
+use Rattle.place_search.specs.SettlingSteps.{Ways, all_or_none, none_private}
 use Rattle.place_search.specs.declared.graph.Graph.{Graph}
 
 abbrev Logs : Type 0
@@ -64,20 +68,20 @@ none_counted marks is =
 -- the laws of walks, as contracts say them
 abbrev pub SomeCanEnd : Type 0
 SomeCanEnd =
-    (s : Setting) (threads : ℕ → Bool) (private : ℕ → ℕ → Bool) (logs : Logs) (edges : ℕ → List ℕ) (k : ℕ) → IsSettledSearch s threads private logs → AreEdges s threads private logs edges
-    → k < length logs → ReachesEnd s logs edges k → CanEnd s (log_by_number logs k)
+    (s : Setting) (signals : Signals) (threads : ℕ → Bool) (private : ℕ → ℕ → Bool) (logs : Logs) (edges : ℕ → List ℕ) (k : ℕ) → IsSettledSearch s signals threads private logs → AreEdges s signals threads private logs edges
+    → k < length logs → ReachesEnd s logs edges k → CanEnd s signals (log_by_number logs k)
 
 abbrev pub TrapsAreHopeless : Type 0
 TrapsAreHopeless =
-    (s : Setting) (threads : ℕ → Bool) (private : ℕ → ℕ → Bool) (logs : Logs) (edges : ℕ → List ℕ) (among : ℕ → Bool) (k : ℕ) → IsSettledSearch s threads private logs → AreEdges s threads private logs edges
-    → IsTrap s logs edges among → k < length logs → among k ≡ true → IsHopeless s (log_by_number logs k)
+    (s : Setting) (signals : Signals) (threads : ℕ → Bool) (private : ℕ → ℕ → Bool) (logs : Logs) (edges : ℕ → List ℕ) (among : ℕ → Bool) (k : ℕ) → IsSettledSearch s signals threads private logs → AreEdges s signals threads private logs edges
+    → IsTrap s logs edges among → k < length logs → among k ≡ true → IsHopeless s signals (log_by_number logs k)
 
 abbrev pub EachCanEnd : Type 0
 EachCanEnd =
-    (s : Setting) (threads : ℕ → Bool) (private : ℕ → ℕ → Bool) (logs : Logs) (edges : ℕ → List ℕ) (log : List Entry) → IsSettledSearch s threads private logs → AreEdges s threads private logs edges
-    → ((k : ℕ) → k < length logs → ReachesEnd s logs edges k) → IsFreeRun s log → CanEnd s log
+    (s : Setting) (signals : Signals) (threads : ℕ → Bool) (private : ℕ → ℕ → Bool) (logs : Logs) (edges : ℕ → List ℕ) (log : List Entry) → IsSettledSearch s signals threads private logs → AreEdges s signals threads private logs edges
+    → ((k : ℕ) → k < length logs → ReachesEnd s logs edges k) → IsFreeRun s log → IsSpokenOf signals s log → CanEnd s signals log
 
-module _ (s : Setting) (settle : Bool) (logs : Logs) (g : Graph) (is_true : IsTrue s settle logs g) (whole : IsWhole s settle logs g) where
+module _ (s : Setting) (ways : Ways) (logs : Logs) (g : Graph) (is_true : IsTrue s ways logs g) (whole : IsWhole s ways logs g) where
   abbrev edges : List Edge
   edges = g.edges.items
 
@@ -87,19 +91,37 @@ module _ (s : Setting) (settle : Bool) (logs : Logs) (g : Graph) (is_true : IsTr
   abbrev at : ℕ → List Entry
   at k = log_by_number logs k
 
-  made_at : (edge : Edge) → Contains edges edge → IsMade s settle logs edge
-  made_at edge among = All-contains (IsMade s settle logs) edges edge is_true.edges among
+  made_at : (edge : Edge) → Contains edges edge → IsMade s ways logs edge
+  made_at edge among = All-contains (IsMade s ways logs) edges edge is_true.edges among
 
-  are_edges : AreEdges s (all_or_none settle) none_private logs to
+  are_edges : AreEdges s ways.signals (all_or_none ways) none_private logs to
   are_edges = record {
     numbers = λ k j lt has. let x = target_has edges k j has in subst (λ (n : ℕ). n < length logs) x.to (made_at x.edge x.among).to;
     made = λ k j lt has.
         let x = target_has edges k j has in
-        subst (λ (n : ℕ). IsEdge s (all_or_none settle) none_private (at n) (at j)) x.from
-        (subst (λ (n : ℕ). IsEdge s (all_or_none settle) none_private (at x.edge.from) (at n)) x.to (made_at x.edge x.among).made);
+        subst (λ (n : ℕ). IsEdge s ways.signals (all_or_none ways) none_private (at n) (at j)) x.from
+        (subst (λ (n : ℕ). IsEdge s ways.signals (all_or_none ways) none_private (at x.edge.from) (at n)) x.to (made_at x.edge x.among).made);
     all = λ k h c lt opened free.
         let along = whole.edges k h c lt opened free in
-        record { to = along.edge.to; listed = has_target edges along.edge k along.from along.among; leads = along.leads };
+        record { to = along.edge.to; listed = has_target edges along.edge k along.from along.among; leads = along.along.leads };
+  }
+
+  abbrev busy : ℕ → List ℕ
+  busy k = busy_targets edges k
+
+  are_busy : AreBusyEdges s ways.signals (all_or_none ways) none_private logs to busy
+  are_busy = record {
+    numbers = λ k j lt has. let x = (busy_target_has edges k j has).to in subst (λ (n : ℕ). n < length logs) x.to (made_at x.edge x.among).to;
+    made = λ k j lt has.
+        let x = busy_target_has edges k j has in
+        subst (λ (n : ℕ). IsBusyEdge s ways.signals (all_or_none ways) none_private (at n) (at j)) x.to.from
+        (subst (λ (n : ℕ). IsBusyEdge s ways.signals (all_or_none ways) none_private (at x.to.edge.from) (at n)) x.to.to ((made_at x.to.edge x.to.among).busy x.busy));
+    all = λ k h c lt opened free.
+        let along = whole.edges k h c lt opened free in
+        record {
+          edge = record { to = along.edge.to; listed = has_target edges along.edge k along.from along.among; leads = along.along.leads };
+          told = λ some. has_busy_target edges along.edge k along.from (along.along.told.1 some) along.among;
+        };
   }
 
   -- a walk to a place at which a run is over
@@ -126,14 +148,14 @@ module _ (s : Setting) (settle : Bool) (logs : Logs) (g : Graph) (is_true : IsTr
           lost_where j (λ marked. unmarked k is ((are k).1 (LeadsAlong x.edge x.among x.from (subst (Leads edges g.ended.items) (sym x.to) ((are j).0 marked)))));
     }
 
-    module _ (searched : IsSettledSearch s (all_or_none settle) none_private logs) (size : length marks ≡ length logs) (some : SomeCanEnd) (traps : TrapsAreHopeless) (each : EachCanEnd) where
-      hopeless_at : (k : ℕ) → k < length logs → slice_index_or marks k false ≡ false → IsHopeless s (at k)
-      hopeless_at k lt is = traps s (all_or_none settle) none_private logs to lost k searched are_edges is_trap lt (ap not is)
+    module _ (searched : IsSettledSearch s ways.signals (all_or_none ways) none_private logs) (size : length marks ≡ length logs) (some : SomeCanEnd) (traps : TrapsAreHopeless) (each : EachCanEnd) where
+      hopeless_at : (k : ℕ) → k < length logs → slice_index_or marks k false ≡ false → IsHopeless s ways.signals (at k)
+      hopeless_at k lt is = traps s ways.signals (all_or_none ways) none_private logs to lost k searched are_edges is_trap lt (ap not is)
 
-      told : IsToldOfEach s logs marks
+      told : IsToldOfEach s ways.signals logs marks
       told = record {
         each = size;
-        can_end = λ k lt is. some s (all_or_none settle) none_private logs to k searched are_edges lt (reaches k ((are k).0 is));
+        can_end = λ k lt is. some s ways.signals (all_or_none ways) none_private logs to k searched are_edges lt (reaches k ((are k).0 is));
         hopeless = λ k lt is. let here : k < length marks = omega arith in hopeless_at k lt (get_or_default marks k false true here ∙ is);
       }
 
@@ -144,34 +166,93 @@ module _ (s : Setting) (settle : Bool) (logs : Logs) (g : Graph) (is_true : IsTr
           let few = get_or-le-sum_by (λ b. ones (not b)) marks k false lt in
           absurd (omega (arith, one, few)))
 
-      first_hopeless : (k : ℕ) → position not marks ≡ Some k → IsHopeless s (at k)
+      first_hopeless : (k : ℕ) → position not marks ≡ Some k → IsHopeless s ways.signals (at k)
       first_hopeless k is =
           let first = position-Some not marks k false is in
           let lt = first.0 in
           let alone : slice_index_or marks k false ≡ false = not_marked (slice_index_or marks k false) (unmarked k first.1) in
           hopeless_at k (omega arith) alone
 
-      hopeless_by : (n : ℕ) (nearest : List Entry) → n ≡ count_by not marks → (n ≢ 0 → IsHopeless s nearest) → AreHopeless s logs n nearest
+      hopeless_by : (n : ℕ) (nearest : List Entry) → n ≡ count_by not marks → (n ≢ 0 → IsHopeless s ways.signals nearest) → AreHopeless s ways.signals logs n nearest
       hopeless_by n nearest is first = record {
         counted = record { can = marks; told = told; counted = sym is };
         nearest_is = first;
-        hopes = λ none log run.
-            each s (all_or_none settle) none_private logs to log searched are_edges
-            (λ k lt. let here : k < length marks = omega arith in reaches k ((are k).0 (counted_zero k (sym is ∙ none) here))) run;
+        hopes = λ none log run spoken.
+            each s ways.signals (all_or_none ways) none_private logs to log searched are_edges
+            (λ k lt. let here : k < length marks = omega arith in reaches k ((are k).0 (counted_zero k (sym is ∙ none) here))) run spoken;
       }
 
       -- the first of them, where there is one
-      pub hopeless_of : (n : ℕ) (nearest : List Entry) (o : Option ℕ) → n ≡ count_by not marks → position not marks ≡ o → IfSome o (λ k. nearest ≡ at k) → AreHopeless s logs n nearest
+      pub hopeless_of : (n : ℕ) (nearest : List Entry) (o : Option ℕ) → n ≡ count_by not marks → position not marks ≡ o → IfSome o (λ k. nearest ≡ at k) → AreHopeless s ways.signals logs n nearest
       hopeless_of n nearest None is none log_is = hopeless_by n nearest is (λ some. absurd (some (is ∙ none_counted marks none)))
-      hopeless_of n nearest (Some k) is first log_is = hopeless_by n nearest is (λ some. subst (IsHopeless s) (sym log_is) (first_hopeless k first))
+      hopeless_of n nearest (Some k) is first log_is = hopeless_by n nearest is (λ some. subst (IsHopeless s ways.signals) (sym log_is) (first_hopeless k first))
+
+-- WHETHER SOME RUN EXECUTES INSTRUCTIONS WITHOUT END
+
+-- the laws of what runs execute, as contracts say them
+abbrev pub WorkIsBounded : Type 0
+WorkIsBounded =
+    (s : Setting) (signals : Signals) (threads : ℕ → Bool) (private : ℕ → ℕ → Bool) (logs : Logs) (edges busy : ℕ → List ℕ) (rank : ℕ → ℕ) → IsSettledSearch s signals threads private logs
+    → AreEdges s signals threads private logs edges → AreBusyEdges s signals threads private logs edges busy → AreRanks logs edges busy rank → IsWorkBounded s signals
+
+abbrev pub WorkIsEndless : Type 0
+WorkIsEndless =
+    (s : Setting) (signals : Signals) (threads : ℕ → Bool) (private : ℕ → ℕ → Bool) (logs : Logs) (edges busy : ℕ → List ℕ) → IsSettledSearch s signals threads private logs
+    → AreEdges s signals threads private logs edges → AreBusyEdges s signals threads private logs edges busy → GoesRound logs edges busy → HasLongWork s signals
+
+module _ (s : Setting) (ways : Ways) (logs : Logs) (g : Graph) (is_true : IsTrue s ways logs g) (whole : IsWhole s ways logs g)
+    (searched : IsSettledSearch s ways.signals (all_or_none ways) none_private logs) where
+  abbrev all_to : ℕ → List ℕ
+  all_to = to s ways logs g is_true whole
+
+  abbrev busy_to : ℕ → List ℕ
+  busy_to = busy s ways logs g is_true whole
+
+  -- along no edge does the rank of a node rise, and along a busy one it falls
+  are_ranks : (ranks : HasRanks g.edges.items) → AreRanks logs all_to busy_to ranks.rank
+  are_ranks ranks = record {
+    stays = λ k j lt has.
+        let x = target_has g.edges.items k j has in
+        let falls = All-contains (IsRanked ranks.rank) g.edges.items x.edge ranks.each x.among in
+        let from = ap ranks.rank x.from in
+        let to = ap ranks.rank x.to in
+        omega (arith, falls, from, to);
+    falls = λ k j lt has.
+        let x = busy_target_has g.edges.items k j has in
+        let falls = All-contains (IsRanked ranks.rank) g.edges.items x.to.edge ranks.each x.to.among in
+        let one : work_of x.to.edge ≡ 1 = ap (λ (b : Bool). cond b 1 0) x.busy in
+        let from = ap ranks.rank x.to.from in
+        let to = ap ranks.rank x.to.to in
+        omega (arith, falls, one, from, to);
+  }
+
+  comes_to : (a k : ℕ) → Leads g.edges.items (a ∷ []) k → ComesTo all_to a k
+  comes_to a k (LeadsThere among) = Here (sym (only_one a k among))
+  comes_to a k (LeadsAlong edge among from leads) = Further edge.to (has_target g.edges.items edge k from among) (comes_to a edge.to leads)
+
+  goes_round : HasBusyCircle g.edges.items → GoesRound logs all_to busy_to
+  goes_round circle = record {
+    from = circle.edge.from;
+    visited = (made_at s ways logs g is_true whole circle.edge circle.among).from;
+    to = circle.edge.to;
+    listed = has_busy_target g.edges.items circle.edge circle.edge.from refl circle.busy circle.among;
+    back = comes_to circle.edge.from circle.edge.to circle.back;
+  }
+
+  pub endless_of : (endless : Bool) → (endless ≡ true → HasBusyCircle g.edges.items) → (endless ≡ false → HasRanks g.edges.items) → WorkIsBounded → WorkIsEndless → IsEndless s ways.signals endless
+  endless_of true circle ranked bounded long =
+      long s ways.signals (all_or_none ways) none_private logs all_to busy_to searched (are_edges s ways logs g is_true whole) (are_busy s ways logs g is_true whole) (goes_round (circle refl))
+  endless_of false circle ranked bounded long =
+      let ranks = ranked refl in
+      bounded s ways.signals (all_or_none ways) none_private logs all_to busy_to ranks.rank searched (are_edges s ways logs g is_true whole) (are_busy s ways logs g is_true whole) (are_ranks ranks)
 
 -- both places of each edge, and each that is noted as ended, are among those that are counted
-pub edges_within : (s : Setting) (settle : Bool) (logs : Logs) (g : Graph) (n : ℕ) (edges : List Edge) → edges ≡ g.edges.items → n ≡ length logs → IsTrue s settle logs g → All (IsWithin n) edges
-edges_within s settle logs g n edges are is is_true =
+pub edges_within : (s : Setting) (ways : Ways) (logs : Logs) (g : Graph) (n : ℕ) (edges : List Edge) → edges ≡ g.edges.items → n ≡ length logs → IsTrue s ways logs g → All (IsWithin n) edges
+edges_within s ways logs g n edges are is is_true =
     subst (λ (es : List Edge). All (IsWithin n) es) (sym are)
-    (All-weaker (IsMade s settle logs) (IsWithin n) (λ e made. let from = made.from in let to = made.to in record { from = omega arith; to = omega arith }) g.edges.items is_true.edges)
+    (All-weaker (IsMade s ways logs) (IsWithin n) (λ e made. let from = made.from in let to = made.to in record { from = omega arith; to = omega arith }) g.edges.items is_true.edges)
 
-pub ends_within : (s : Setting) (settle : Bool) (logs : Logs) (g : Graph) (n : ℕ) (ends : List ℕ) → ends ≡ g.ended.items → n ≡ length logs → IsTrue s settle logs g → All (λ k. k < n) ends
-ends_within s settle logs g n ends are is is_true =
+pub ends_within : (s : Setting) (ways : Ways) (logs : Logs) (g : Graph) (n : ℕ) (ends : List ℕ) → ends ≡ g.ended.items → n ≡ length logs → IsTrue s ways logs g → All (λ k. k < n) ends
+ends_within s ways logs g n ends are is is_true =
     subst (λ (ks : List ℕ). All (λ k. k < n) ks) (sym are)
     (All-weaker (IsEndedAt s logs) (λ k. k < n) (λ k ended. let lt = ended.visited in omega arith) g.ended.items is_true.ended)

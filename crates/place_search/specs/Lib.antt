@@ -1,6 +1,8 @@
+pub mod Endings
 pub mod Ends
 pub mod Graphs
 pub mod Logs
+pub mod Preemptions
 pub mod Searching
 pub mod SettlingSteps
 pub mod Sights

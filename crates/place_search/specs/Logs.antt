@@ -1,5 +1,5 @@
 -- The logs of the places that were visited, each as the entries that led to it (own).
-use Rattle.std.specs.Prelude.{ℕ, ◌≡◌, ◌≤◌, ◌<◌, List, [], ◌∷◌, ◌++◌, length, reverse, slice_index_or, All}
+use Rattle.std.specs.Prelude.{ℕ, ◌≡◌, ◌≤◌, ◌<◌, List, [], ◌∷◌, ◌++◌, length, map, reverse, slice_index_or, All}
 use Rattle.mach_types.specs.declared.events.Entry.{Entry}
 use Rattle.place_search.specs.declared.row.Row.{Row}
 
@@ -18,6 +18,13 @@ logs_of rows = grown ([] ∷ []) rows
 
 abbrev pub log_at : List Row → ℕ → List Entry
 log_at rows place = slice_index_or (logs_of rows) place []
+
+-- which harts owe their thread a signal at each place, as the places say; none at the first one
+abbrev pub owed_of : List Row → List ℕ
+owed_of rows = 0 ∷ map (λ (row : Row). row.owed) rows
+
+abbrev pub owed_at : List Row → ℕ → ℕ
+owed_at rows place = slice_index_or (owed_of rows) place 0
 
 -- each place was come to by one entry
 abbrev pub AreSingle : List Row → Type 0

@@ -3,7 +3,7 @@
 ghost use Rattle.std.specs.Prelude.{◌≡◌, ◌≢◌, ◌≤◌, ◌+◌, Err, true, false, length, IfOk, IsErrOf, OnOk};
 ghost use Rattle.place_search.specs.Graphs.{IsWithMore};
 ghost use Rattle.place_search.specs.Logs.{log_at, logs_of};
-ghost use Rattle.place_search.specs.Searching.{IsExpanded, IsReached, IsSearching, IsTask, setting_for};
+ghost use Rattle.place_search.specs.Searching.{IsExpandedAt, IsReached, IsSearching, IsTask, setting_for, ways_of};
 ghost use Rattle.place_search.specs.Visiting.{AreEndsFound, IsMore};
 
 use crate::paths::log_of;
@@ -12,11 +12,12 @@ use crate::stop::Stop;
 use crate::task::Task;
 use crate::trying::Searcher;
 use crate::visiting::Reached;
+use owed_signals::Dues;
 use std::alloc::AllocError;
 
 impl Searcher {
     /// Makes the parts stand at a place that was visited.
-    fn reach(&mut self, task: &Task, place: u32) -> Result<Reached, AllocError>
+    pub(crate) fn reach(&mut self, task: &Task, place: u32) -> Result<Reached, AllocError>
         requires task { IsTask task.now }
         requires searching { IsSearching task.now self.old }
         requires place { place ≤ length self.old.visited.rows.items }
@@ -31,7 +32,16 @@ impl Searcher {
         self.made.stand_after(task.image, task.limits, &log)?;
         self.moved = false;
         let sights = Sights::of(task.alloc, &self.made.parts)?;
-        Ok(Reached { place, log, sights })
+        let owed = self.visited.owed_at(place);
+        let dues = Dues::of(&self.made.parts, owed);
+        Ok(Reached {
+            place,
+            log,
+            preemptions: self.visited.preemptions_at(place),
+            sights,
+            owed,
+            dues,
+        })
     }
 
     /// Tries each choice of each hart at a place that was visited, and visits the places to which their events lead. A place at
@@ -44,8 +54,7 @@ impl Searcher {
         ensures more { IsMore self.old.visited self.new.visited }
         ensures graph { IsWithMore self.old.graph self.new.graph }
         ensures expanded { OnOk result (self.new.visited.deep ≡ false
-            → IsExpanded (setting_for task.now) task.now.settle (logs_of self.new.visited.rows.items) self.new.graph place
-            (log_at self.new.visited.rows.items place)) }
+            → IsExpandedAt task.now self.new place (log_at self.new.visited.rows.items place)) }
         ensures ends { result ≢ Err Stop.Memory → AreEndsFound (setting_for task.now) self.old.visited
             → AreEndsFound (setting_for task.now) self.new.visited }
         ensures full { IsErrOf result Stop.Places → length self.new.visited.rows.items + 1 ≡ task.now.most }

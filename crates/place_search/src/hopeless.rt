@@ -1,17 +1,17 @@
 //! Places from which no end can be reached.
 
-ghost use Rattle.std.specs.Prelude.{◌≡◌, ◌≢◌, ◌+◌, not, length, position, Contains, IfOk, IfSome};
+ghost use Rattle.std.specs.Prelude.{◌≡◌, ◌+◌, not, length, position, Contains, IfOk, IfSome};
 ghost use Rattle.found_outcomes.specs.Hopeless.{AreHopeless};
 ghost use Rattle.settled_places.specs.SettledSearch.{IsSettledSearch};
 ghost use Rattle.place_search.specs.Graphs.{IsWhole};
 ghost use Rattle.place_search.specs.Logs.{log_at, logs_of};
-ghost use Rattle.place_search.specs.Searching.{IsSearching, IsTask, setting_for};
+ghost use Rattle.place_search.specs.Searching.{IsSearching, IsTask, setting_for, ways_of};
 ghost use Rattle.place_search.specs.SettlingSteps.{all_or_none, none_private};
 
 use crate::paths::log_of;
 use crate::task::Task;
 use crate::trying::Searcher;
-use found_outcomes::{Closing, HopelessPlaces};
+use found_outcomes::HopelessPlaces;
 use graph_walks::{count_unmarked, first_unmarked, marks_of};
 use mach_types::Entry;
 use settled_places::{each_run_can_end, walks_tell_who_can_end};
@@ -26,10 +26,10 @@ impl Searcher {
         requires task { IsTask task.now }
         requires searching { IsSearching task.now self.now }
         ensures nearest { IfOk result (λ found. Contains (logs_of self.now.visited.rows.items) found.nearest.items) }
-        ensures hopeless { IfOk result (λ found. IsSettledSearch (setting_for task.now) (all_or_none task.now.settle) none_private
+        ensures hopeless { IfOk result (λ found. IsSettledSearch (setting_for task.now) task.now.signals (all_or_none (ways_of task.now)) none_private
             (logs_of self.now.visited.rows.items)
-            → IsWhole (setting_for task.now) task.now.settle (logs_of self.now.visited.rows.items) self.now.graph
-            → AreHopeless (setting_for task.now) (logs_of self.now.visited.rows.items) found.number found.nearest.items) }
+            → IsWhole (setting_for task.now) (ways_of task.now) (logs_of self.now.visited.rows.items) self.now.graph
+            → AreHopeless (setting_for task.now) task.now.signals (logs_of self.now.visited.rows.items) found.number found.nearest.items) }
     {
         walks_tell_who_can_end();
         each_run_can_end();
@@ -57,30 +57,6 @@ impl Searcher {
         match first_unmarked(marks) {
             Some(place) => log_of(task.alloc, &self.visited.rows, place as u32),
             None => Ok(Vec::new(task.alloc)),
-        }
-    }
-
-    /// Why a search ends, and the hopeless places: they are looked for where all places were visited. Where
-    /// memory is short for that, the search ends for want of it.
-    pub(crate) fn close(&self, task: &Task, closing: Closing) -> (Closing, HopelessPlaces)
-        requires task { IsTask task.now }
-        requires searching { IsSearching task.now self.now }
-        ensures closing { result.0 ≢ Closing.Memory → result.0 ≡ closing }
-        ensures nearest { Contains (logs_of self.now.visited.rows.items) result.1.nearest.items }
-        ensures hopeless { result.0 ≡ Closing.Complete → IsSettledSearch (setting_for task.now) (all_or_none task.now.settle)
-            none_private (logs_of self.now.visited.rows.items)
-            → IsWhole (setting_for task.now) task.now.settle (logs_of self.now.visited.rows.items) self.now.graph
-            → AreHopeless (setting_for task.now) (logs_of self.now.visited.rows.items) result.1.number result.1.nearest.items }
-    {
-        let unknown = HopelessPlaces::none(task.alloc);
-        match closing {
-            Closing::Complete => match self.hopeless(task) {
-                Ok(hopeless) => (Closing::Complete, hopeless),
-                Err(_) => (Closing::Memory, unknown),
-            },
-            Closing::Places => (Closing::Places, unknown),
-            Closing::Deep => (Closing::Deep, unknown),
-            Closing::Memory => (Closing::Memory, unknown),
         }
     }
 }

@@ -1,9 +1,9 @@
 //! The keys of the places that were visited, each with the number of its place.
 
-ghost use Rattle.std.specs.Prelude.{◌≡◌, [], ◌∷◌, bytes_eq, IfOk, OnOk, OnErr, None};
-ghost use Rattle.std.specs.List.Sorted.{IsPermutation};
+ghost use Rattle.std.specs.Prelude.{◌≡◌, ◌∷◌, [], bytes_eq, IfOk, OnOk, OnErr};
 ghost use Rattle.std.specs.Map.{lookup};
-ghost use Rattle.place_keys.specs.{MappedPages.AddsUp, Packed.packed, PartWords.parts_words};
+ghost use Rattle.place_search.specs.Preemptions.{IsPut};
+ghost use Rattle.place_keys.specs.{Packed.packed, PartWords.parts_words};
 
 use page_map::PageMap;
 use place_keys::{pack, write_place};
@@ -26,19 +26,19 @@ impl Model for Keys {
     ghost view = { λ k. map (λ entry. (entry.0.items, entry.1)) k.known.entries };
 }
 
-/// The key of the place at which these parts stand, the pages against those at the start. The free frames and the mapped pages must
-/// be `total` together, there and at the start, as they are at each place of a run.
+/// The key of the place at which these parts stand and the harts of this set owe their thread a signal, the pages against those at
+/// the start.
 pub(crate) fn key_of(
     alloc: Global,
     parts: &Parts,
+    owed: u8,
     start: &PageMap,
-    total: u64,
 ) -> Result<Vec<u8>, AllocError>
-    ensures { IfOk result (λ key. AddsUp total parts.now.pages → AddsUp total start.now
-        → key.items ≡ packed (parts_words start.now parts.now)) }
+    ensures { IfOk result (λ key. key.items ≡ packed (owed ∷ parts_words start.now parts.now)) }
 {
     let mut words = Vec::new(alloc);
-    write_place(&mut words, parts, start, total)?;
+    words.push(u64::from(owed))?;
+    write_place(&mut words, parts, start)?;
     let mut key = Vec::new(alloc);
     pack(&mut key, &words)?;
     Ok(key)
@@ -70,10 +70,9 @@ impl Keys {
         self.known.get(key).copied()
     }
 
-    /// Adds a key that isn't known, with the number of its place. Where memory is short nothing changes.
-    pub(crate) fn add(&mut self, alloc: Global, key: &[u8], place: u32) -> Result<(), AllocError>
-        requires { lookup (bytes_eq key.now) self.old ≡ None }
-        ensures ok { OnOk result (IsPermutation ((key.now, place) ∷ self.old) self.new) }
+    /// Keeps a key with the number of its place, in place of the number that it had. Where memory is short nothing changes.
+    pub(crate) fn put(&mut self, alloc: Global, key: &[u8], place: u32) -> Result<(), AllocError>
+        ensures ok { OnOk result (IsPut key.now place self.old self.new) }
         ensures err { OnErr result (self.new ≡ self.old) }
     {
         let key = copy_of(alloc, key)?;

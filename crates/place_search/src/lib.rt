@@ -4,12 +4,14 @@
 //! A place is kept as the entries that led to it, from a place that was visited before, and as its key. It is made again by its events.
 #![tactic(auto)]
 
+mod endings;
 mod ends;
 mod expanding;
 mod graph;
 mod hopeless;
 mod keys;
 mod paths;
+mod paying;
 mod remade;
 mod row;
 mod saying;
@@ -19,6 +21,7 @@ mod sights;
 mod stop;
 mod task;
 mod trying;
+mod values;
 mod visited;
 mod visiting;
 

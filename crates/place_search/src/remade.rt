@@ -6,12 +6,11 @@ ghost use Rattle.elf_load.specs.Images.{IsBootable};
 ghost use Rattle.block_model.specs.Run.{IsBlockRun};
 ghost use Rattle.block_model.specs.Setting.{setting_of};
 ghost use Rattle.same_places.specs.Replayed.{StandAfter};
-ghost use Rattle.place_search.specs.Starting.{IsStart, IsStarted};
+ghost use Rattle.place_search.specs.Starting.{IsStart};
 
 use elf_load::Image;
 use mach_types::{Entry, Limits};
 use page_map::PageMap;
-use place_keys::pages_in_all;
 use process::{Code, Parts};
 use same_places::replay;
 use std::alloc::{AllocError, Global};
@@ -25,8 +24,6 @@ pub(crate) struct Remade {
     pub(crate) parts: Parts,
     /// The pages with which the program starts.
     pub(crate) start: PageMap,
-    /// How many frames are free and how many pages are mapped there, together.
-    pub(crate) total: u64,
 }
 
 /// The pages with which a program starts.
@@ -50,18 +47,12 @@ impl Remade {
         requires image { IsBootable limits.frames image.now }
         requires limits { InRange limits }
         ensures code { IfOk result (λ made. made.code ≡ image.now.pages.items) }
-        ensures started { IfOk result (λ made. IsStarted (setting_of image.now limits) made.total made.start) }
+        ensures started { IfOk result (λ made. IsStart (setting_of image.now limits) made.start) }
     {
         let code = Code::new(alloc, &image.pages)?;
         let parts = Parts::boot(alloc, image, limits)?;
         let start = start_of(alloc, image, limits)?;
-        let total = pages_in_all(&start);
-        Ok(Remade {
-            code,
-            parts,
-            start,
-            total,
-        })
+        Ok(Remade { code, parts, start })
     }
 
     /// Begins again and plays a log: the parts then stand where it has come to.
@@ -81,7 +72,6 @@ impl Remade {
         ensures stands { OnOk result (StandAfter (setting_of image.now limits) log.now self.new.parts) }
         ensures code { self.new.code ≡ self.old.code }
         ensures start { self.new.start ≡ self.old.start }
-        ensures total { self.new.total ≡ self.old.total }
     {
         if self.parts.pages.frames() != limits.frames {
             return Err(AllocError);

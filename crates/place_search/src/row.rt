@@ -10,4 +10,8 @@ pub(crate) struct Row {
     pub(crate) parent: u32,
     /// The entries, the newest one first: those of settling steps, and before them that of the event.
     pub(crate) entries: Vec<Entry>,
+    /// How many preemptions its log has, where their number is limited; else 0.
+    pub(crate) preemptions: u8,
+    /// The set of the harts that owe their thread a signal there.
+    pub(crate) owed: u8,
 }

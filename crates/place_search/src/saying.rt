@@ -39,7 +39,7 @@ pub(crate) fn say_progress<K: Sink>(
 
 /// Says, where a search takes long that stops at this place, how many places are open; or that it begins again.
 pub(crate) fn say_stop<K: Sink>(task: &Task, sink: &K, visited: &Visited, place: u32, stop: Stop) {
-    if !sink.show_progress(&progress_of(task, visited)) {
+    if !is_long(task, sink, visited) {
         return;
     }
     match stop {
@@ -50,6 +50,11 @@ pub(crate) fn say_stop<K: Sink>(task: &Task, sink: &K, visited: &Visited, place:
             }
         }
     }
+}
+
+/// Whether a search takes long.
+pub(crate) fn is_long<K: Sink>(task: &Task, sink: &K, visited: &Visited) -> bool {
+    sink.show_progress(&progress_of(task, visited))
 }
 
 /// How far a search is.

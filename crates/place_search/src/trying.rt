@@ -3,11 +3,11 @@
 ghost use Rattle.std.specs.Prelude.{◌≡◌, ◌≢◌, ◌<◌, ◌+◌, ℕ, Err, true, false, length, All, IsErrOf, OnOk};
 ghost use Rattle.same_places.specs.Replayed.{StandAfter};
 ghost use Rattle.place_search.specs.Graphs.{IsWithMore};
-ghost use Rattle.place_search.specs.Logs.{logs_of};
-ghost use Rattle.place_search.specs.Searching.{IsExpanded, IsOpenAt, IsTask, IsTriedAt, setting_for};
+ghost use Rattle.place_search.specs.Searching.{ComesInTime, IsExpandedAt, IsOpenAt, IsTask, IsTriedWhereDue, setting_for, ways_of};
 ghost use Rattle.place_search.specs.Visiting.{AreEndsFound, IsMore};
 
-use crate::graph::Graph;
+use crate::graph::{Graph, is_busy};
+use crate::paying::paid_with;
 use crate::remade::Remade;
 use crate::stop::Stop;
 use crate::task::Task;
@@ -15,6 +15,7 @@ use crate::visited::Visited;
 use crate::visiting::Reached;
 use graph_walks::Edge;
 use mach_types::{Choice, Hart};
+use owed_signals::{dues_say_what_comes_in_time, owed_after, sets_say_what_is_owed, traps};
 use place_keys::{equal_bytes_are_equal_words, equal_words_are_the_same_place};
 use same_places::{all_choices_are_listed, choices_at, try_choice};
 use settling::{kept_areas_are_left, own_of};
@@ -43,7 +44,6 @@ impl Searcher {
         ensures visited { self.new.visited ≡ self.old.visited }
         ensures graph { self.new.graph ≡ self.old.graph }
         ensures start { self.new.made.start ≡ self.old.made.start }
-        ensures total { self.new.made.total ≡ self.old.made.total }
     {
         if self.moved {
             self.made.stand_after(task.image, task.limits, &from.log)?;
@@ -52,9 +52,73 @@ impl Searcher {
         Ok(())
     }
 
-    /// Tries a choice of a hart at a place, and visits the place to which its event leads, and the settling steps after it. Stops where
-    /// the event may reach a thread that has settled.
+    /// Tries a choice of a hart at a place, which comes in time, and visits the place to which its event leads, and the settling steps
+    /// after it. Leaves a preemption out, where it would be one more than a run may have, and that is kept in mind. Stops where the event
+    /// may reach a thread that has settled.
     fn try_one(
+        &mut self,
+        task: &Task,
+        from: &Reached,
+        hart: Hart,
+        choice: Choice,
+    ) -> Result<(), Stop>
+        requires task { IsTask task.now }
+        requires open { IsOpenAt task.now self.old from.now }
+        requires hart { hart.0 < task.now.limits.harts }
+        requires in_time { ComesInTime (setting_for task.now) (ways_of task.now) from.now.log.items hart.0 choice }
+        ensures open { IsOpenAt task.now self.new from.now }
+        ensures more { IsMore self.old.visited self.new.visited }
+        ensures graph { IsWithMore self.old.graph self.new.graph }
+        ensures tried { OnOk result (IsTriedWhereDue task.now self.new from.now hart.0 choice) }
+        ensures ends { result ≢ Err Stop.Memory → AreEndsFound (setting_for task.now) self.old.visited
+            → AreEndsFound (setting_for task.now) self.new.visited }
+        ensures full { IsErrOf result Stop.Places → length self.new.visited.rows.items + 1 ≡ task.now.most }
+        ensures unsettled { IsErrOf result Stop.Unsettled → task.now.settle ≡ true }
+    {
+        let paid = paid_with(task.preemptions, from.preemptions, choice);
+        if paid.is_none() && self.visited.left_out {
+            return Ok(());
+        }
+        self.return_to(task, from)?;
+        equal_bytes_are_equal_words();
+        equal_words_are_the_same_place();
+        kept_areas_are_left();
+        sets_say_what_is_owed();
+        let own = own_of(&self.made.parts, hart, choice);
+        let trapped = traps(&self.made.parts, &self.made.code, hart);
+        match try_choice(&mut self.made.parts, &self.made.code, hart, choice) {
+            Ok(entry) => {
+                self.moved = true;
+                let Some(preemptions) = paid else {
+                    self.visited.left_out = true;
+                    return Ok(());
+                };
+                if task.settle && !from.sights.is_left(&self.made.parts, own) {
+                    return Err(Stop::Unsettled);
+                }
+                let parts = &self.made.parts;
+                let owed = owed_after(task.signals, parts, from.owed, hart, choice, trapped);
+                let entries = self.made.settle(task, &from.log, entry, owed)?;
+                let busy = is_busy(choice, &entries);
+                let to = self.visited.visit(
+                    task.alloc,
+                    task.most,
+                    from,
+                    entries,
+                    owed,
+                    preemptions,
+                    &self.made,
+                )?;
+                let from = from.place;
+                self.graph.add_edge(Edge { from, to, busy })?;
+                Ok(())
+            }
+            Err(_) => Ok(()),
+        }
+    }
+
+    /// Tries a choice of a hart at a place if it comes in time: where the hart owes its thread a signal, what is due there comes first.
+    fn try_in_time(
         &mut self,
         task: &Task,
         from: &Reached,
@@ -67,34 +131,17 @@ impl Searcher {
         ensures open { IsOpenAt task.now self.new from.now }
         ensures more { IsMore self.old.visited self.new.visited }
         ensures graph { IsWithMore self.old.graph self.new.graph }
-        ensures tried { OnOk result (IsTriedAt (setting_for task.now) task.now.settle (logs_of self.new.visited.rows.items)
-            self.new.graph from.now.place from.now.log.items hart.0 choice) }
+        ensures tried { OnOk result (IsTriedWhereDue task.now self.new from.now hart.0 choice) }
         ensures ends { result ≢ Err Stop.Memory → AreEndsFound (setting_for task.now) self.old.visited
             → AreEndsFound (setting_for task.now) self.new.visited }
         ensures full { IsErrOf result Stop.Places → length self.new.visited.rows.items + 1 ≡ task.now.most }
         ensures unsettled { IsErrOf result Stop.Unsettled → task.now.settle ≡ true }
     {
-        self.return_to(task, from)?;
-        equal_bytes_are_equal_words();
-        equal_words_are_the_same_place();
-        kept_areas_are_left();
-        let own = own_of(&self.made.parts, hart, choice);
-        match try_choice(&mut self.made.parts, &self.made.code, hart, choice) {
-            Ok(entry) => {
-                self.moved = true;
-                if task.settle && !from.sights.is_left(&self.made.parts, own) {
-                    return Err(Stop::Unsettled);
-                }
-                let entries = self.made.settle(task, &from.log, entry)?;
-                let to = self
-                    .visited
-                    .visit(task.alloc, task.most, from, entries, &self.made)?;
-                let from = from.place;
-                self.graph.add_edge(Edge { from, to })?;
-                Ok(())
-            }
-            Err(_) => Ok(()),
+        dues_say_what_comes_in_time();
+        if !from.dues.is_in_time(hart, choice) {
+            return Ok(());
         }
+        self.try_one(task, from, hart, choice)
     }
 
     /// Tries choices of a hart at a place.
@@ -111,15 +158,14 @@ impl Searcher {
         ensures open { IsOpenAt task.now self.new from.now }
         ensures more { IsMore self.old.visited self.new.visited }
         ensures graph { IsWithMore self.old.graph self.new.graph }
-        ensures tried { OnOk result (All (IsTriedAt (setting_for task.now) task.now.settle (logs_of self.new.visited.rows.items)
-            self.new.graph from.now.place from.now.log.items hart.0) choices.now) }
+        ensures tried { OnOk result (All (IsTriedWhereDue task.now self.new from.now hart.0) choices.now) }
         ensures ends { result ≢ Err Stop.Memory → AreEndsFound (setting_for task.now) self.old.visited
             → AreEndsFound (setting_for task.now) self.new.visited }
         ensures full { IsErrOf result Stop.Places → length self.new.visited.rows.items + 1 ≡ task.now.most }
         ensures unsettled { IsErrOf result Stop.Unsettled → task.now.settle ≡ true }
     {
         for choice in choices {
-            self.try_one(task, from, hart, *choice)?;
+            self.try_in_time(task, from, hart, *choice)?;
         }
         Ok(())
     }
@@ -132,8 +178,7 @@ impl Searcher {
         ensures open { IsOpenAt task.now self.new from.now }
         ensures more { IsMore self.old.visited self.new.visited }
         ensures graph { IsWithMore self.old.graph self.new.graph }
-        ensures expanded { OnOk result (IsExpanded (setting_for task.now) task.now.settle (logs_of self.new.visited.rows.items)
-            self.new.graph from.now.place from.now.log.items) }
+        ensures expanded { OnOk result (IsExpandedAt task.now self.new from.now.place from.now.log.items) }
         ensures ends { result ≢ Err Stop.Memory → AreEndsFound (setting_for task.now) self.old.visited
             → AreEndsFound (setting_for task.now) self.new.visited }
         ensures full { IsErrOf result Stop.Places → length self.new.visited.rows.items + 1 ≡ task.now.most }

@@ -25,6 +25,8 @@ const OPTIONS: &str = "  --harts N   how many harts there are: 1 to 8 (default 2
   --deep N    how many events lead to a place at most: 1 to 1000000 (default 100000)
   --scripts W whether a script of each outcome is printed: yes or no (default yes)
   --without R which reduction is left out: local-steps, and each instruction of each thread leads to a place of its own (default none)
+  --preemptions P how many preemptions a run has at most: 0 to 255 (default any number)
+  --signals W when a signal comes that a thread causes itself: prompt, before the thread goes on, or any, whenever the rules allow (default prompt)
 ";
 
 /// The version (own).
@@ -39,7 +41,7 @@ fn words_behind(kind: CommandKind) -> &'static str {
         CommandKind::Explores =>
             "FILE [--harts N] [--frames N] [--steps N] [--seed N] [--policy P] [--calm N] [--runs N] [--until K] [--by B] [--jobs N] [--expect E]",
         CommandKind::Searches =>
-            "FILE [--harts N] [--frames N] [--places N] [--deep N] [--scripts W] [--without R]",
+            "FILE [--harts N] [--frames N] [--places N] [--deep N] [--scripts W] [--without R] [--preemptions P] [--signals W]",
         CommandKind::Pairs => "FILE1 FILE2 SCRIPT [--harts N] [--frames N] [--steps N]",
     }
 }

@@ -2,4 +2,3 @@ pub mod Digits
 mod Examples
 pub mod OutputTexts
 mod PlaceTexts
-mod TraceTexts

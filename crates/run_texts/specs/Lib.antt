@@ -4,4 +4,3 @@ pub mod Pieces
 pub mod Places
 pub mod Summary
 pub mod Text
-pub mod Traces

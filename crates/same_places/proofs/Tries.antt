@@ -67,5 +67,7 @@ longer s log code m m' h c e at answer tied =
     record {
       run = run_on v h c e at.run decided;
       stands = subst (λ (p : Plain). IsTied s (rested p) m') (sym next) tied;
+      hart = of.0;
+      choice = of.1;
       next = next;
     }

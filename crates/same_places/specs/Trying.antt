@@ -1,5 +1,6 @@
 -- The end of a run at which parts stand with no counts, and what a choice that is made there shows (own).
 use Rattle.std.specs.Prelude.{ℕ, ◌≡◌, ◌<◌, List, [], ◌∷◌, ◌++◌, length, None}
+use Rattle.mach_types.specs.Events.{choice_of}
 use Rattle.mach_types.specs.Limits.{InRange}
 use Rattle.mach_types.specs.declared.events.Choice.{Choice}
 use Rattle.mach_types.specs.declared.events.Entry.{Entry}
@@ -28,9 +29,11 @@ pub record MayTry (code : List ImagePage) (m : Parts) (h : ℕ) : Type 0 where
   pub log : List Entry
   pub going : IsGoing setting log code m h
 
--- the run with one entry more, by a choice of hart h
+-- the run with one entry more, that of a choice of hart h
 pub record IsLonger (s : Setting) (log : List Entry) (h : ℕ) (c : Choice) (e : Entry) (m' : Parts)
     : Type 0 where
   pub run : IsBlockRun s (log ++ e ∷ [])
   pub stands : StandAfter s (log ++ e ∷ []) m'
+  pub hart : e.hart.0 ≡ h
+  pub choice : choice_of e ≡ c
   pub next : plain_after s (log ++ e ∷ []) ≡ plain_after_choice s (plain_after s log) h c

@@ -2,10 +2,12 @@
 use Rattle.std.specs.Prelude.{ℕ, ◌+◌, ◌<◌, ◌&&◌, ◌==◌, Bool, true, false, not, All, List, [], ◌∷◌, ◌++◌, length, codes}
 use Rattle.mach_types.specs.declared.events.Entry.{Entry}
 use Rattle.found_outcomes.specs.declared.findings.Closing.{Closing}
-use Rattle.found_outcomes.specs.declared.findings.Closing.TheVariants.{Complete, Places, Deep, Memory}
+use Rattle.found_outcomes.specs.declared.findings.Closing.TheVariants.{Complete, Within, Places, Deep, Memory}
 use Rattle.found_outcomes.specs.declared.findings.Findings.{Findings}
 use Rattle.found_outcomes.specs.declared.findings.HopelessPlaces.{HopelessPlaces}
 use Rattle.found_outcomes.specs.declared.findings.OutcomeFound.{OutcomeFound}
+use Rattle.search_reductions.specs.declared.signals.Signals.{Signals}
+use Rattle.search_reductions.specs.declared.signals.Signals.TheVariants.{Any, Prompt}
 use Rattle.place_text.specs.Ends.{console_text, end_line, number_line}
 use Rattle.step_log.specs.Grammar.{log_text}
 
@@ -24,33 +26,48 @@ abbrev pub outcomes_text : Bool → ℕ → List OutcomeFound → List ℕ
 outcomes_text scripts before [] = []
 outcomes_text scripts before (o ∷ more) = outcome_text scripts (before + 1) o ++ outcomes_text scripts (before + 1) more
 
--- why the search ended
+-- why the search ended; a number of preemptions is said where runs with more were left out
 abbrev pub closing_line : Closing → List ℕ
 closing_line Complete = codes "complete\n"
+closing_line (Within most) = number_line (codes "complete preemptions") most
 closing_line Places = codes "unfinished places\n"
 closing_line Deep = codes "unfinished deep\n"
 closing_line Memory = codes "unfinished memory\n"
 
--- where all places were visited, how many of them are hopeless, and where there is one the script that leads to the nearest
-unfoldable pub hopeless_text : Bool → Closing → HopelessPlaces → List ℕ
-hopeless_text scripts Complete h =
-    number_line (codes "hopeless") h.number ++ script_text (scripts && not (h.number == 0)) h.nearest.items
-hopeless_text scripts Places h = []
-hopeless_text scripts Deep h = []
-hopeless_text scripts Memory h = []
+-- whether some run executes instructions without end
+abbrev pub endless_line : Bool → List ℕ
+endless_line true = codes "endless yes\n"
+endless_line false = codes "endless no\n"
 
--- how many places were visited, how long the longest log is that was, and which are hopeless; `signals any`: runs in which a signal of a
--- thread's own comes later are among the runs that are spoken of
-abbrev pub places_text : Bool → Findings → List ℕ
-places_text scripts found =
+-- how many places are hopeless, and where there is one the script that leads to the nearest
+abbrev pub hopeless_text : Bool → HopelessPlaces → List ℕ
+hopeless_text scripts h =
+    number_line (codes "hopeless") h.number ++ script_text (scripts && not (h.number == 0)) h.nearest.items
+
+-- where runs end, if all places were visited
+unfoldable pub endings_text : Bool → Closing → Bool → HopelessPlaces → List ℕ
+endings_text scripts Complete endless h = endless_line endless ++ hopeless_text scripts h
+endings_text scripts (Within most) endless h = []
+endings_text scripts Places endless h = []
+endings_text scripts Deep endless h = []
+endings_text scripts Memory endless h = []
+
+-- of which runs is spoken: of those in which a signal of a thread's own comes before the thread goes on, or of all
+abbrev pub signals_line : Signals → List ℕ
+signals_line Prompt = codes "signals prompt\n"
+signals_line Any = codes "signals any\n"
+
+-- how many places were visited, how long the longest log is that was, where runs end, and of which runs is spoken
+abbrev pub places_text : Signals → Bool → Findings → List ℕ
+places_text signals scripts found =
     number_line (codes "places") found.places ++ number_line (codes "deepest") found.deepest
-    ++ hopeless_text scripts found.closing found.hopeless ++ codes "signals any\n"
+    ++ endings_text scripts found.closing found.endless found.hopeless ++ signals_line signals
 
 -- the whole text
-unfoldable pub findings_text : Bool → Findings → List ℕ
-findings_text scripts found =
+unfoldable pub findings_text : Signals → Bool → Findings → List ℕ
+findings_text signals scripts found =
     number_line (codes "outcomes") (length found.outcomes.items) ++ outcomes_text scripts 0 found.outcomes.items
-    ++ places_text scripts found ++ closing_line found.closing
+    ++ places_text signals scripts found ++ closing_line found.closing
 
 -- the number of each hart in a log is one digit
 abbrev pub AreDigits : List Entry → Type 0

@@ -1,5 +1,5 @@
 -- A run by choices from the end of a run that no step limit ends goes on with it.
-use Rattle.std.proofs.Common.{◌≡◌, ℕ, ◌<◌, List, [], ◌∷◌, ◌++◌, length, Option, Ok, fold, refl, sym, ap, ◌∙◌, subst, arith, append_assoc}
+use Rattle.std.proofs.Common.{◌≡◌, ℕ, ◌+◌, ◌<◌, Bool, List, [], ◌∷◌, ◌++◌, length, Option, Ok, fold, refl, sym, ap, ◌∙◌, subst, arith, append_assoc, zero-add}
 use Rattle.std.proofs.lemmas.Bool.{lt-leb}
 use Rattle.std.proofs.lemmas.List.Sums.{fold-append}
 use Rattle.mach_types.specs.Events.{choice_of}
@@ -14,13 +14,21 @@ use Rattle.block_model.specs.Run.{IsBlockRun}
 use Rattle.block_model.specs.Setting.{Setting}
 use Rattle.block_model.proofs.Laws.{run_before, start_plain}
 unfoldable use Rattle.block_model.specs.Plain.{plain_after}
-use Rattle.local_steps.specs.Runs.{MayCome, choices, next_of}
+use Rattle.local_steps.specs.Runs.{MayCome, choices, instructions_by, next_of, total}
+use Rattle.local_steps.specs.Explorations.{Tally}
 use Rattle.local_steps.proofs.CanEnd.{CanEndFrom}
 use Rattle.local_steps.proofs.Notions.{Goes, gone}
+use Rattle.local_steps.proofs.Tallies.{AllPass, kept_after}
+use Rattle.prompt_runs.specs.Owed.{owed_after, owed_from, owed_next}
+use Rattle.prompt_runs.specs.Prompt.{AreInTime, IsInTime, IsSpokenOf}
+use Rattle.search_reductions.specs.declared.signals.Signals.{Signals}
+use Rattle.prompt_runs.proofs.InTime.{spoken_more, spoken_parts}
 use Rattle.same_places.specs.FreeRuns.{IsFreeFrom, IsFreeRun}
 use Rattle.same_places.proofs.Laws.{IsAllowed}
-use Rattle.settled_places.specs.Endings.{CanEnd}
-use Rattle.settled_places.proofs.Runs.{may_come}
+use Rattle.settled_places.specs.Endings.{CanEnd, executed}
+use Rattle.settled_places.proofs.Closed.{free_of_charge}
+use Rattle.settled_places.proofs.OwedSignals.{run_tally}
+use Rattle.settled_places.proofs.Runs.{may_come, pass_from}
 use Rattle.settled_places.proofs.Settled.{last_event}
 
 -- WHAT IS DECIDED WHERE NO EVENT COUNTS
@@ -63,10 +71,10 @@ pub gone_from : (s : Setting) (log : List Entry) (p : Plain) → gone s p (choic
 gone_from s [] p = refl
 gone_from s (x ∷ log) p = gone_from s log (plain_next s p x)
 
--- as many
-pub many_choices : (log : List Entry) → length (choices log) ≡ length log
-many_choices [] = refl
-many_choices (x ∷ log) = let rest = many_choices log in omega arith
+-- a run executes what its parts execute
+pub executed_joined : (log more : List Entry) → executed (log ++ more) ≡ executed log + executed more
+executed_joined [] more = sym (zero-add (executed more))
+executed_joined (x ∷ log) more = let rest = executed_joined log more in omega (arith, rest)
 
 -- where the parts of a run lead
 pub after_more : (s : Setting) (log more : List Entry) → plain_after s (log ++ more) ≡ fold (plain_next s) (plain_after s log) more
@@ -95,9 +103,13 @@ abbrev pub entries : Setting → Plain → List (ℕ × Choice) → List Entry
 entries s p [] = []
 entries s p (a ∷ log) = entry_in a.1 (here_in_plain s p a.0) ∷ entries s (next_of s p a) log
 
-pub many_entries : (s : Setting) (log : List (ℕ × Choice)) (p : Plain) → length (entries s p log) ≡ length log
-many_entries s [] p = refl
-many_entries s (a ∷ log) p = let rest = many_entries s log (next_of s p a) in omega arith
+-- and they execute as many instructions
+pub executed_entries : (s : Setting) (log : List (ℕ × Choice)) (p : Plain) → executed (entries s p log) ≡ total instructions_by log
+executed_entries s [] p = refl
+executed_entries s (a ∷ log) p =
+    let first = ap instructions_by (choice_in a.1 (here_in_plain s p a.0)) in
+    let rest = executed_entries s log (next_of s p a) in
+    omega (arith, first, rest)
 
 module _ (s : Setting) (some : 0 < s.limits.steps) where
   entry_next : (p : Plain) (a : ℕ × Choice) → plain_next s p (entry_in a.1 (here_in_plain s p a.0)) ≡ next_of s p a
@@ -132,18 +144,47 @@ free_more s log more first second = free_joined s log more (plain_start s) first
 pub free_block : (s : Setting) (log : List Entry) → IsBlockRun s log → IsFreeRun s log
 free_block s log run = subst (λ (p : Plain). IsFreeFrom s p log) (start_plain s) (free_rest s log [] run)
 
+-- WHICH OF THEM COME IN TIME
+
+module _ (s : Setting) (signals : Signals) (private : ℕ → ℕ → Bool) where
+  -- what is kept along runs where choices cost nothing
+  abbrev tally : Tally
+  tally = run_tally s signals private (λ c. 0)
+
+  pub pass_all : (log : List Entry) (owed : ℕ → Bool) (p : Plain) → AreInTime signals s p owed log → AllPass s tally (0, owed) p (choices log)
+  pass_all log owed p in_time = pass_from s signals private (λ c. 0) log 0 owed p (free_of_charge (choices log)) in_time
+
+  pub kept_all : (log : List Entry) (owed : ℕ → Bool) (p : Plain) → kept_after s tally (0, owed) p (choices log) ≡ (0, owed_from signals s p owed log)
+  kept_all [] owed p = refl
+  kept_all (x ∷ log) owed p = kept_all log (owed_next signals s p owed x.hart.0 (choice_of x)) (plain_next s p x)
+
+  pub entries_in_time : (log : List (ℕ × Choice)) (owed : ℕ → Bool) (p : Plain) → AllPass s tally (0, owed) p log → AreInTime signals s p owed (entries s p log)
+  entries_in_time [] owed p pass = tt
+  entries_in_time (a ∷ log) owed p pass =
+      let rest = entries s (next_of s p a) log in
+      subst (λ c. IsInTime p owed a.0 c × AreInTime signals s (next_of s p (a.0, c)) (owed_next signals s p owed a.0 c) rest) (sym (choice_in a.1 (here_in_plain s p a.0)))
+      (pass.0.1, entries_in_time log (owed_next signals s p owed a.0 a.1) (next_of s p a) pass.1)
+
 -- WHETHER IT CAN END
 
-module _ (s : Setting) (log : List Entry) where
-  pub can_from : CanEnd s log → CanEndFrom s (plain_after s log)
+module _ (s : Setting) (signals : Signals) (private : ℕ → ℕ → Bool) (log : List Entry) where
+  -- what is kept after the log
+  abbrev kept : ℕ × (ℕ → Bool)
+  kept = (0, owed_after signals s log)
+
+  abbrev here_tally : Tally
+  here_tally = run_tally s signals private (λ c. 0)
+
+  pub can_from : CanEnd s signals log → CanEndFrom s here_tally kept (plain_after s log)
   can_from can = record {
     log = choices can.more;
+    passes = pass_all s signals private can.more (owed_after signals s log) (plain_after s log) (spoken_parts signals s log can.more can.spoken).1;
     goes = goes_from s can.more (plain_after s log) (free_after s log can.more can.run);
     end = can.end;
     over = ap plain_over (gone_from s can.more (plain_after s log) ∙ sym (after_more s log can.more)) ∙ can.over;
   }
 
-  module _ (run : IsFreeRun s log) (some : (a : ℕ × Choice) → MayCome s (plain_after s log) a → 0 < s.limits.steps) where
+  module _ (run : IsFreeRun s log) (spoken : IsSpokenOf signals s log) (some : (a : ℕ × Choice) → MayCome s (plain_after s log) a → 0 < s.limits.steps) where
     some_goes : (more : List (ℕ × Choice)) → Goes s (plain_after s log) more → IsFreeFrom s (plain_after s log) (entries s (plain_after s log) more)
     some_goes [] goes = tt
     some_goes (a ∷ more) goes = free_entries s (some a goes.0) (a ∷ more) (plain_after s log) goes
@@ -152,16 +193,20 @@ module _ (s : Setting) (log : List Entry) where
     some_gone [] goes = refl
     some_gone (a ∷ more) goes = gone_entries s (some a goes.0) (a ∷ more) (plain_after s log)
 
-    pub can_of : CanEndFrom s (plain_after s log) → CanEnd s log
+    -- or go on so long
+    pub run_of : (more : List (ℕ × Choice)) → Goes s (plain_after s log) more → IsFreeRun s (log ++ entries s (plain_after s log) more)
+    run_of more goes = free_more s log (entries s (plain_after s log) more) run (some_goes more goes)
+
+    pub spoken_of : (more : List (ℕ × Choice)) → AllPass s here_tally kept (plain_after s log) more → IsSpokenOf signals s (log ++ entries s (plain_after s log) more)
+    spoken_of more pass = spoken_more signals s log (entries s (plain_after s log) more) spoken (entries_in_time s signals private more (owed_after signals s log) (plain_after s log) pass)
+
+    pub can_of : CanEndFrom s here_tally kept (plain_after s log) → CanEnd s signals log
     can_of can =
         let more = entries s (plain_after s log) can.log in
         record {
           more = more;
-          run = free_more s log more run (some_goes can.log can.goes);
+          run = run_of can.log can.goes;
+          spoken = spoken_of can.log can.passes;
           end = can.end;
           over = ap plain_over (after_more s log more ∙ some_gone can.log can.goes) ∙ can.over;
         }
-
-    -- or go on so long
-    pub run_of : (more : List (ℕ × Choice)) → Goes s (plain_after s log) more → IsFreeRun s (log ++ entries s (plain_after s log) more)
-    run_of more goes = free_more s log (entries s (plain_after s log) more) run (some_goes more goes)

@@ -3,6 +3,7 @@ use Rattle.std.proofs.Common.{◌≡◌, ℕ, zero, suc, ◌<◌, Bool, List, []
 use Rattle.mach_types.specs.declared.events.Choice.{Choice}
 use Rattle.mach_types.specs.declared.events.Entry.{Entry}
 use Rattle.block_model.specs.Setting.{Setting}
+use Rattle.search_reductions.specs.declared.signals.Signals.{Signals}
 use Rattle.settled_places.specs.Edges.{LeadsTo}
 use Rattle.settled_places.specs.SettledSearch.{LeadsToStored}
 
@@ -17,10 +18,12 @@ pub only : (log l : List Entry) → Contains (log ∷ []) l → l ≡ log
 only log l has = only_at log l has.0 has.1 has.2
 
 -- what leads to one of the logs that are stored leads to them
-pub leads_stored : (s : Setting) (threads : ℕ → Bool) (private : ℕ → ℕ → Bool) (logs : List (List Entry)) (log other : List Entry) (h : ℕ) (c : Choice) → Contains logs other
-    → LeadsTo s threads private log other h c → LeadsToStored s threads private logs log h c
-leads_stored s threads private logs log other h c has x = record {
+pub leads_stored : (s : Setting) (signals : Signals) (threads : ℕ → Bool) (private : ℕ → ℕ → Bool) (logs : List (List Entry)) (log other : List Entry) (h : ℕ) (c : Choice) → Contains logs other
+    → LeadsTo s signals threads private log other h c → LeadsToStored s signals threads private logs log h c
+leads_stored s signals threads private logs log other h c has x = record {
   entry = x.entry;
+  hart = x.hart;
+  choice = x.choice;
   next = x.next;
   settles = record {
     more = x.settles.more;
@@ -28,5 +31,6 @@ leads_stored s threads private logs log other h c has x = record {
     other = x.settles.other;
     stored = subst (Contains logs) (sym (only other x.settles.other x.settles.stored)) has;
     same = x.settles.same;
+    owed = x.settles.owed;
   };
 }

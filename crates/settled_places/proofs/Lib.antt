@@ -1,8 +1,9 @@
 mod Closed
-mod Events
+pub mod Events
 mod FreeRuns
 pub mod Leads
+mod OwedSignals
 mod RunEnds
 mod Runs
 mod SameSteps
-mod Settled
+pub mod Settled

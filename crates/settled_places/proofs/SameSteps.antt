@@ -3,7 +3,7 @@ use Rattle.std.proofs.Common.{◌≡◌, ℕ, ◌<◌, ◌/◌, inl, inr, Bool, 
 use Rattle.std.specs.Option.{option_map}
 use Rattle.mach_types.specs.declared.address_space.TheConstants.{PAGE_SIZE}
 use Rattle.mach_types.specs.Kernel.Areas.{area_of, pointer_of}
-use Rattle.mach_types.specs.Kernel.Pages.{can_read, permission_of}
+use Rattle.mach_types.specs.Kernel.Pages.{can_read, can_write, permission_of}
 use Rattle.mach_types.specs.Kernel.Signals.{Signalling, action_of, is_handler, next_for}
 use Rattle.mach_types.specs.Kernel.Threads.{Threads, running_on, state_of}
 use Rattle.mach_types.specs.Registers.{with_register}
@@ -15,15 +15,18 @@ use Rattle.mach_types.specs.declared.threads.ThreadState.TheVariants.{Ready, Run
 use Rattle.rv_inst.specs.Execution.{is_readable, seen_byte, word_seen}
 use Rattle.rv_inst.specs.Memory.{loaded}
 use Rattle.rv_inst.specs.Words.{sum_64}
-use Rattle.block_model.specs.Here.{memory_in}
-use Rattle.block_model.specs.Instruction.{next_effect}
+use Rattle.block_model.specs.Here.{is_storable, memory_in}
+use Rattle.block_model.specs.Instruction.{next_effect, next_fault}
 use Rattle.block_model.specs.Plain.{Plain, here_in_plain}
 use Rattle.block_model.specs.Setting.{Setting}
+use Rattle.block_model.specs.Sights.{effect_on, fault_on}
 use Rattle.block_model.specs.Tables.{IsTables}
 use Rattle.process.specs.Harts.{file_of, file_on}
 use Rattle.local_steps.specs.LocalSteps.{IsLoadStep, IsLocalStep, IsStepAt, seen_by, seen_in}
 use Rattle.local_steps.specs.Resting.{IsPast, LeavesAreas, RestsOutside, looked}
 use Rattle.local_steps.specs.Runs.{next_of}
+use Rattle.prompt_runs.specs.Owed.{traps, traps_by}
+use Rattle.prompt_runs.specs.Prompt.{IsInTime, due}
 use Rattle.same_places.specs.Places.{IsSamePlace}
 
 -- a byte that is mapped alike can be read alike
@@ -45,6 +48,33 @@ module _ (s : Setting) (p q : Plain) (same : IsSamePlace s p q) where
   memory_same : memory_in q.kernel q.byte ≡ memory_in p.kernel p.byte
   memory_same = λ i a. readable (permission_of p.kernel.pages.runs (a / PAGE_SIZE)) (permission_of q.kernel.pages.runs (a / PAGE_SIZE)) (p.byte a) (q.byte a)
       (same.pages.permissions (a / PAGE_SIZE)) (same.pages.bytes a) i
+
+  -- whether the next instruction of a hart's thread traps
+  storable_same : (h : ℕ) → is_storable (here_in_plain s q h) ≡ is_storable (here_in_plain s p h)
+  storable_same h = λ i a. can_write (same.pages.permissions (a / PAGE_SIZE) i)
+
+  traps_by_thread : (h : ℕ) → h < s.limits.harts → (o : Option ℕ) → running_on h p.kernel.threads ≡ o
+      → traps_by (effect_on (here_in_plain s q h) o) (fault_on (here_in_plain s q h) o) ≡ traps_by (effect_on (here_in_plain s p h) o) (fault_on (here_in_plain s p h) o)
+  traps_by_thread h lt None at = refl
+  traps_by_thread h lt (Some t) at = λ i. traps_by (next_effect s.program.pages (file_same h t lt at i)) (next_fault s.program.pages (memory_same i) (storable_same h i) (file_same h t lt at i))
+
+  pub traps_same : (h : ℕ) → h < s.limits.harts → traps (here_in_plain s q h) ≡ traps (here_in_plain s p h)
+  traps_same h lt =
+      let here = here_in_plain s q h in
+      ap (λ (ts : Threads). traps_by (effect_on here (running_on h ts)) (fault_on here (running_on h ts))) same.tables.threads ∙ traps_by_thread h lt (running_on h p.kernel.threads) refl
+
+  -- and what comes in time
+  pub in_time_same : (owed other : ℕ → Bool) (h : ℕ) (c : Choice) → h < s.limits.harts → other h ≡ owed h → IsInTime p owed h c → IsInTime q other h c
+  in_time_same owed other h c lt is in_time owes apart =
+      let awaited : q.awaits h ≡ p.awaits h = λ i. (same.harts h lt i).waits in
+      let stores : due (q.waiting h) ≡ due (p.waiting h) = λ i. due (same.harts h lt i).buffer in
+      in_time (sym is ∙ owes) (sym awaited ∙ apart) ∙ sym stores
+
+  pub in_time_back : (owed other : ℕ → Bool) (h : ℕ) (c : Choice) → h < s.limits.harts → other h ≡ owed h → IsInTime q other h c → IsInTime p owed h c
+  in_time_back owed other h c lt is in_time owes apart =
+      let awaited : q.awaits h ≡ p.awaits h = λ i. (same.harts h lt i).waits in
+      let stores : due (q.waiting h) ≡ due (p.waiting h) = λ i. due (same.harts h lt i).buffer in
+      in_time (is ∙ owes) (awaited ∙ apart) ∙ stores
 
   module _ (tables : IsTables s.limits.harts p.kernel.threads p.kernel.scheduling) where
     seen_so : (t : ℕ) (o : Option ThreadState) → state_of t p.kernel.threads ≡ o → seen_in q o ≡ seen_in p o

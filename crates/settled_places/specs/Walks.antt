@@ -1,5 +1,5 @@
 -- Walks along edges between stored logs, of which each is known by its number (own).
-use Rattle.std.specs.Prelude.{ℕ, ◌≡◌, ◌≢◌, ◌<◌, Bool, true, List, length, None, Contains}
+use Rattle.std.specs.Prelude.{ℕ, ◌≡◌, ◌≢◌, ◌<◌, ◌≤◌, Bool, true, List, length, None, Contains}
 use Rattle.mach_types.specs.declared.events.Entry.{Entry}
 use Rattle.block_model.specs.Plain.{plain_after, plain_over}
 use Rattle.block_model.specs.Setting.{Setting}
@@ -17,11 +17,20 @@ pub record IsTrap (s : Setting) (logs : List (List Entry)) (edges : ℕ → List
       → plain_over (plain_after s (log_by_number logs k)) ≡ None
   pub stays : (k j : ℕ) → k < length logs → among k ≡ true → Contains (edges k) j → among j ≡ true
 
--- each walk from here ends
-pub data EachWalkEnds (edges : ℕ → List ℕ) : ℕ → Type 0 where
-  Each : {k : ℕ} → ((j : ℕ) → Contains (edges k) j → EachWalkEnds edges j) → EachWalkEnds edges k
+-- some walk from here comes to this number
+pub data ComesTo (edges : ℕ → List ℕ) (to : ℕ) : ℕ → Type 0 where
+  Here : {k : ℕ} → k ≡ to → ComesTo edges to k
+  Further : {k : ℕ} (j : ℕ) → Contains (edges k) j → ComesTo edges to j → ComesTo edges to k
 
--- some of the numbers, from each of which an edge leads to another of them, or to itself
-abbrev pub GoesOn : List (List Entry) → (ℕ → List ℕ) → (ℕ → Bool) → Type 0
-GoesOn logs edges among =
-    (k : ℕ) → k < length logs → among k ≡ true → (j : ℕ) × Contains (edges k) j × (among j ≡ true)
+-- a busy edge from which some walk leads back to where it begins: so a walk can go round and round
+pub record GoesRound (logs : List (List Entry)) (edges busy : ℕ → List ℕ) : Type 0 where
+  pub from : ℕ
+  pub visited : from < length logs
+  pub to : ℕ
+  pub listed : Contains (busy from) to
+  pub back : ComesTo edges from to
+
+-- ranks of the numbers: along no edge does the rank rise, and along a busy one it falls
+pub record AreRanks (logs : List (List Entry)) (edges busy : ℕ → List ℕ) (rank : ℕ → ℕ) : Type 0 where
+  pub stays : (k j : ℕ) → k < length logs → Contains (edges k) j → rank j ≤ rank k
+  pub falls : (k j : ℕ) → k < length logs → Contains (busy k) j → rank j < rank k

@@ -2,6 +2,7 @@ pub mod ActionWords
 mod AreaRegistration
 pub mod AreaWords
 pub mod Barriers
+pub mod ByteRanges
 pub mod CallAnswers
 pub mod CallLaws
 pub mod CallNumbers

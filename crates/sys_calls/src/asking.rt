@@ -14,13 +14,16 @@ use crate::policies::{
     sched_get_priority_max, sched_get_priority_min, sched_getparam, sched_getscheduler,
 };
 use crate::signal_calls::rt_sigpending;
-use crate::terminal::ioctl;
+use crate::system::uname;
+use crate::terminal::{fstat, ioctl};
 use mach_types::errors::ENOSYS;
 use mach_types::{Errno, Saved, Tid};
 use page_map::PageMap;
 
 /// Their numbers (Linux for RISC-V).
 const IOCTL: u64 = 29;
+
+const FSTAT: u64 = 80;
 
 const SCHED_GETSCHEDULER: u64 = 120;
 
@@ -31,6 +34,8 @@ const SCHED_GET_PRIORITY_MAX: u64 = 125;
 const SCHED_GET_PRIORITY_MIN: u64 = 126;
 
 const RT_SIGPENDING: u64 = 136;
+
+const UNAME: u64 = 160;
 
 const GETPPID: u64 = 173;
 
@@ -67,11 +72,13 @@ pub fn asked(
 {
     match number {
         IOCTL => ioctl(pages, written, saved),
+        FSTAT => fstat(pages, written, saved),
         SCHED_GETSCHEDULER => sched_getscheduler(&kernel.threads, saved),
         SCHED_GETPARAM => sched_getparam(&kernel.threads, pages, written, saved),
         SCHED_GET_PRIORITY_MAX => sched_get_priority_max(saved),
         SCHED_GET_PRIORITY_MIN => sched_get_priority_min(saved),
         RT_SIGPENDING => rt_sigpending(&kernel.signals, pages, written, tid, saved),
+        UNAME => uname(pages, written, saved),
         GETPPID => Ok(PARENT),
         GETUID => Ok(ROOT),
         GETEUID => Ok(ROOT),

@@ -25,18 +25,18 @@ use Rattle.block_view.specs.declared.passing.Ahead.{Ahead}
 use Rattle.block_view.specs.Turns.{turns}
 use Rattle.block_view.specs.declared.turns.Turn.{Turn}
 use Rattle.command_words.specs.declared.commands.LineSpan.{LineSpan}
+use Rattle.fact_types.specs.declared.facts.Fact.{Fact}
 use Rattle.event_facts.specs.Lines.{next_line}
 use Rattle.event_facts.specs.Telling.{IsDecided, past_of}
 use Rattle.event_facts.specs.Trace.{trace_of}
 use Rattle.event_facts.specs.Tied.{AreLinesOf}
-use Rattle.event_facts.specs.declared.facts.Fact.{Fact}
 use Rattle.event_facts.specs.declared.lines.Lines.{Lines}
 use Rattle.fact_text.specs.Lines.{facts_text}
 use Rattle.place_text.specs.Ends.{number_line}
 use Rattle.step_log.specs.Text.{entry_text}
 use Rattle.whole_runs.specs.Asks.{ask_of}
 use Rattle.whole_runs.specs.BadLines.{decided_fault, line_fault}
-use Rattle.run_texts.specs.Traces.{event_text, events_text, is_within, turn_line}
+use Rattle.trace_text.specs.Traces.{event_text, events_text, is_within, turn_line}
 use Rattle.call_reasons.specs.declared.reasons.LineFault.{LineFault}
 use Rattle.call_reasons.specs.declared.reasons.LineFault.TheVariants.{Differs}
 use Rattle.traced_runs.specs.Tracing.{IsFollowed, IsFree, IsMadeLine, IsMadeNext, IsTraced, turn_text}

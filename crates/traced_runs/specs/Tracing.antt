@@ -9,15 +9,15 @@ use Rattle.block_view.specs.Ledgers.{kept_in}
 use Rattle.block_view.specs.Following.{IsFollowing}
 use Rattle.block_view.specs.Passing.{IsAhead, IsMadeBy}
 use Rattle.block_view.specs.declared.turns.Turn.{Turn}
+use Rattle.fact_types.specs.declared.facts.Fact.{Fact}
 use Rattle.event_facts.specs.Telling.{past_of}
 use Rattle.event_facts.specs.Tied.{AreLinesOf}
 use Rattle.event_facts.specs.Freely.{IsMadeFreely}
 use Rattle.event_facts.specs.Trace.{trace_of}
-use Rattle.event_facts.specs.declared.facts.Fact.{Fact}
 use Rattle.event_facts.specs.declared.lines.Lines.{Lines}
 use Rattle.command_words.specs.declared.commands.LineSpan.{LineSpan}
 use Rattle.whole_runs.specs.Asks.{ask_of}
-use Rattle.run_texts.specs.Traces.{events_text, turn_line}
+use Rattle.trace_text.specs.Traces.{events_text, turn_line}
 use Rattle.traced_runs.specs.declared.tracing.Followed.{Followed}
 use Rattle.traced_runs.specs.declared.tracing.Made.{Made}
 

@@ -3,7 +3,7 @@
 ghost use Rattle.std.specs.Prelude.{◌≡◌, ◌++◌, OnOk};
 ghost use Rattle.std.specs.List.{flat_map};
 ghost use Rattle.traced_runs.specs.Tracing.{turn_text};
-ghost use Rattle.run_texts.specs.Traces.{begins_line, ends_line};
+ghost use Rattle.trace_text.specs.Traces.{begins_line, ends_line};
 
 use block_view::{Act, Turn};
 use mach_types::Seq;

@@ -27,8 +27,8 @@ ghost use Rattle.whole_runs.specs.PlayReasons.{IsPlayReason};
 ghost use Rattle.whole_runs.specs.Asks.{ask_of};
 ghost use Rattle.whole_runs.specs.BadLines.{line_fault};
 ghost use Rattle.whole_runs.specs.Runs.{IsWholePlay};
-ghost use Rattle.run_texts.specs.Traces as spec;
-ghost use Rattle.run_texts.specs.Traces.{ends_line, event_text, open_text, stuck_text, trace_tail, waiting_line, waiting_text};
+ghost use Rattle.trace_text.specs.Traces as spec;
+ghost use Rattle.trace_text.specs.Traces.{ends_line, event_text, open_text, stuck_text, trace_tail, waiting_line, waiting_text};
 
 use crate::line_numbers::Hundreds;
 use crate::sequences::{push_ends, push_turn};
@@ -36,8 +36,9 @@ use block_view::{Ahead, Ledger, Turn, ahead_of, seen_after, seen_ahead};
 use call_reasons::{LineFault, Reason};
 use command_words::LineSpan;
 use elf_load::Image;
-use event_facts::{Fact, Lines, trace, trace_freely};
+use event_facts::{Lines, trace, trace_freely};
 use fact_text::{push_facts, put_changed};
+use fact_types::Fact;
 use log_lines::push_lines;
 use mach_types::{Choice, End, Entry, Kind, Limits, ThreadState, Tid};
 use machine_core::Machine;
@@ -330,7 +331,7 @@ fn push_waiting(
 }
 
 /// Appends the lines of the threads of a machine that wait, in rising order of number.
-#[tactic(auto, unfolding(run_texts::specs::Traces::waiting_text))]
+#[tactic(auto, unfolding(trace_text::specs::Traces::waiting_text))]
 fn push_all_waiting(text: &mut Vec<u8>, machine: &Machine) -> Result<(), AllocError>
     ensures { let s = machine.now.setting in OnOk result (text.new.items ≡ text.old.items
         ++ waiting_text (kernel s (history s machine.now.log)).threads) }
@@ -374,7 +375,7 @@ pub struct TracedRun {
 /// Plays a script as [`play`](crate::play) does, and tells the lines of a span, event by event.
 ///
 /// Refused as that is.
-#[tactic(auto, unfolding(run_texts::specs::Traces::trace_text))]
+#[tactic(auto, unfolding(trace_text::specs::Traces::trace_text))]
 pub fn play_traced(
     alloc: Global,
     image: &Image,

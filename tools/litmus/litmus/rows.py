@@ -15,18 +15,19 @@ EXAMPLES = Path(__file__).resolve().parents[3] / 'examples'
 TABLE = EXAMPLES / 'all_outcomes.tsv'
 UNKNOWN = '-'
 YES, SLOW, NO = 'yes', 'slow', 'no'
-HOPELESS = {YES: True, NO: False, UNKNOWN: None}
+KNOWN = {YES: True, NO: False, UNKNOWN: None}
 
 
 class Row(NamedTuple):
     """An example on so many harts: how many outcomes it has, where that is known; whether a search ends
-    within 2,000,000 places; whether it has hopeless places, where that is known; and why the search doesn't
-    end."""
+    within 2,000,000 places; whether some run executes instructions without end, and whether it has hopeless
+    places, where that is known; and why the search doesn't end."""
 
     example: str
     harts: int
     outcomes: int | None
     closes: str
+    is_endless: bool | None
     is_hopeless: bool | None
     why_not: str
 
@@ -67,9 +68,9 @@ def end_in(path: Path) -> str:
 
 
 def is_row(fields: list[str]) -> bool:
-    if len(fields) not in (5, 6):
+    if len(fields) not in (6, 7):
         return False
-    return fields[1].isdecimal() and fields[3] in (YES, SLOW, NO) and fields[4] in HOPELESS
+    return fields[1].isdecimal() and fields[3] in (YES, SLOW, NO) and {fields[4], fields[5]} <= set(KNOWN)
 
 
 def row_of(line: str) -> Row:
@@ -77,7 +78,8 @@ def row_of(line: str) -> Row:
     if not is_row(fields):
         raise LensFault(f'{TABLE.name}: {line[:60]!r} is no row')
     outcomes = None if fields[2] == UNKNOWN else int(fields[2])
-    return Row(fields[0], int(fields[1]), outcomes, fields[3], HOPELESS[fields[4]], ''.join(fields[5:]))
+    is_endless, is_hopeless = KNOWN[fields[4]], KNOWN[fields[5]]
+    return Row(fields[0], int(fields[1]), outcomes, fields[3], is_endless, is_hopeless, ''.join(fields[6:]))
 
 
 def rows() -> list[Row]:

@@ -1,6 +1,7 @@
 """What `rseq_run outcomes` prints, read; and compared with all outcomes that there are."""
 from __future__ import annotations
 
+import re
 import subprocess
 import tempfile
 from collections import Counter
@@ -18,6 +19,9 @@ from .showing import Shown
 
 COMPLETE = 'complete'
 CLOSINGS = (COMPLETE, 'unfinished places', 'unfinished deep', 'unfinished memory')
+PROMPT, ANY = 'prompt', 'any'
+LIMITED = re.compile(r'complete preemptions \d+')
+"""The last line where runs with more preemptions were left out."""
 EQUAL, UNEQUAL, UNFINISHED, LEFT_OUT = 'equal', 'unequal', 'unfinished', 'seeds left out'
 
 
@@ -32,8 +36,9 @@ class Ended:
 @dataclass(frozen=True)
 class Search:
     """The outcomes that were found; how many places were visited; how many lines the longest way to one of
-    them has; the last line, which says whether there may be other outcomes; and from how many of the places no
-    end can be reached, which is told at `complete` alone, with the script that leads to the nearest."""
+    them has; the last line, which says whether there may be other outcomes; from how many of the places no
+    end can be reached, which is told at `complete` alone, with the script that leads to the nearest; and of which
+    runs it speaks, by when the signals come that a thread causes itself."""
 
     ended: list[Ended]
     places: int
@@ -41,6 +46,8 @@ class Search:
     closing: str
     hopeless: int | None = None
     nearest: bytes | None = None
+    signals: str = PROMPT
+    endless: bool | None = None
 
     @property
     def is_complete(self) -> bool:
@@ -70,6 +77,16 @@ def read_script(reader: Reader) -> bytes | None:
     return b''.join(line.encode() + b'\n' for line in lines)
 
 
+def read_endless(reader: Reader) -> bool | None:
+    """Whether some run executes instructions without end; None where it isn't told."""
+    if not reader.rest.startswith(b'endless '):
+        return None
+    word = reader.line('a line "endless"').removeprefix('endless ')
+    if word not in ('yes', 'no'):
+        raise reader.fault(f'"endless {word[:40]}" is neither yes nor no')
+    return word == 'yes'
+
+
 def read_hopeless(reader: Reader) -> tuple[int | None, bytes | None]:
     """How many places are hopeless, and the script that leads to the nearest; None where it isn't told."""
     if not reader.rest.startswith(b'hopeless '):
@@ -78,18 +95,30 @@ def read_hopeless(reader: Reader) -> tuple[int | None, bytes | None]:
     return number, read_script(reader) if number else None
 
 
+def read_signals(reader: Reader) -> str:
+    """Of which runs the search speaks: `prompt` or `any`."""
+    line = reader.line('a line "signals prompt" or "signals any"')
+    if line not in (f'signals {PROMPT}', f'signals {ANY}'):
+        raise reader.fault(f'a line "signals prompt" or "signals any" is due, and {line[:40]!r} came')
+    return line.removeprefix('signals ')
+
+
+def is_closing(line: str) -> bool:
+    return line in CLOSINGS or LIMITED.fullmatch(line) is not None
+
+
 def read_search(name: str, text: bytes) -> Search:
     """The text of a search; a fault that names it where it is none, or finds the same outcome twice."""
     reader = Reader(name, text)
     ended = [read_ended(reader, number) for number in range(1, reader.number('outcomes') + 1)]
     places, deepest = reader.number('places'), reader.number('deepest')
+    endless = read_endless(reader)
     hopeless, nearest = read_hopeless(reader)
-    signals, closing = reader.line('a line "signals any"'), reader.line('the last line')
-    told = hopeless is not None
-    if signals != 'signals any' or closing not in CLOSINGS or told != (closing == COMPLETE) or reader.rest:
-        words = f'{signals[:40]!r}, {closing[:40]!r} and {len(reader.rest)} bytes'
-        raise reader.fault(f'{words} are no end of a search')
-    search = Search(ended, places, deepest, closing, hopeless, nearest)
+    signals, closing = read_signals(reader), reader.line('the last line')
+    told = {endless is not None, hopeless is not None}
+    if not is_closing(closing) or told != {closing == COMPLETE} or reader.rest:
+        raise reader.fault(f'{closing[:40]!r} and {len(reader.rest)} bytes are no end of a search')
+    search = Search(ended, places, deepest, closing, hopeless, nearest, signals, endless)
     if len(search.shown) != len(ended):
         raise reader.fault('two outcomes are the same')
     return search
@@ -102,11 +131,21 @@ class Searcher:
         self.program = program
         self.places = places
 
-    def search(self, elf: Path, harts: int, has_scripts: bool = False, without: str | None = None) -> Search:
-        """The search of a program, without a reduction where one is named."""
+    def search(
+        self,
+        elf: Path,
+        harts: int,
+        has_scripts: bool = False,
+        without: str | None = None,
+        preemptions: int | None = None,
+        signals: str = PROMPT,
+    ) -> Search:
+        """The search of a program, without a reduction where one is named, and of runs with so many preemptions
+        at most where a number is given."""
         scripts = 'yes' if has_scripts else 'no'
-        words = [f'--harts={harts}', f'--places={self.places}', f'--scripts={scripts}']
+        words = [f'--harts={harts}', f'--places={self.places}', f'--scripts={scripts}', f'--signals={signals}']
         words += [f'--without={without}'] if without else []
+        words += [] if preemptions is None else [f'--preemptions={preemptions}']
         return read_search(elf.name, answered([self.program, 'outcomes', str(elf), *words]))
 
     def played(self, elf: Path, harts: int, ended: Ended) -> str | None:

@@ -3,9 +3,11 @@ scripts that play."""
 from __future__ import annotations
 
 import os
+import re
 import subprocess
 import tempfile
 import unittest
+from dataclasses import replace
 from pathlib import Path
 
 from lens.faults import LensFault
@@ -14,7 +16,7 @@ from litmus.instructions import Litmus, Store
 from litmus.listing import assembler
 from litmus.named import NAMED
 from litmus.rows import SLOW, YES, Row, row_of, rows
-from litmus.searching import EQUAL, Comparison, Ended, Search, Searcher, read_search, wrong_in
+from litmus.searching import ANY, EQUAL, PROMPT, Comparison, Ended, Search, Searcher, read_search, wrong_in
 from litmus.showing import Shown, all_shown
 
 from .test_programs import PROGRAM, needs_toolchain
@@ -26,6 +28,20 @@ PLACES_OF_TESTS, PLACES_OF_EXAMPLES = 20_000, 2_000_000
 SMALL = (
     'SB', 'MP', 'LB', 'CoRR', 'SB with fence w, r', 'SB with fence.tso', 'SC that fails alone',
     'two pairs of LR and SC',
+)
+COUNTING = '''
+    .text
+    .globl _start
+_start:
+    li t0, 0
+again:
+    ld a0, (sp)
+    addi t0, t0, 1
+    j again
+'''
+"""A program that counts without an end, in one register."""
+MOST_VALUES = re.compile(
+    r'rseq_run: most values: (\d+) of t0 at [0-9a-f]+ \(thread 1\), at (\d+) of 8000 places'
 )
 TEXT = b'''outcomes 2
 outcome 1
@@ -42,10 +58,11 @@ console 0
 script 0
 places 7
 deepest 3
+endless yes
 hopeless 2
 script 1
 0 run 1
-signals any
+signals prompt
 complete
 '''
 
@@ -58,6 +75,10 @@ def has_command() -> bool:
     return 'there is no such command' not in ran.stderr
 
 
+def preemptions_in(ended: Ended) -> int:
+    return sum(line.split()[1] == b'preempt' for line in (ended.script or b'').splitlines())
+
+
 needs_command = unittest.skipUnless(has_command(), f'{PROGRAM} isn\'t built, or has no command outcomes')
 
 
@@ -65,17 +86,23 @@ class Texts(unittest.TestCase):
     def test_its_parts(self) -> None:
         search = read_search('t', TEXT)
         ended = [Ended(Shown(b'a\n', 'exit 0'), b'0 run 1\n'), Ended(Shown(b'', 'stuck'), b'')]
-        self.assertEqual(search, Search(ended, 7, 3, 'complete', 2, b'0 run 1\n'))
+        self.assertEqual(search, Search(ended, 7, 3, 'complete', 2, b'0 run 1\n', endless=True))
         without = read_search('t', TEXT.replace(b'script 1\n0 run 1\n', b'').replace(b'script 0\n', b''))
         self.assertEqual([it.script for it in without.ended], [None, None])
         self.assertEqual((without.hopeless, without.nearest), (2, None))
 
+    def test_of_which_runs_it_speaks(self) -> None:
+        self.assertEqual(read_search('t', TEXT).signals, PROMPT)
+        self.assertEqual(read_search('t', TEXT.replace(b'signals prompt', b'signals any')).signals, ANY)
+
     def test_what_is_told_where_it_is_finished_alone(self) -> None:
-        hopeless = b'hopeless 2\nscript 1\n0 run 1\n'
-        none = read_search('t', TEXT.replace(hopeless, b'hopeless 0\n'))
-        self.assertEqual((none.hopeless, none.nearest), (0, None))
-        unfinished = read_search('t', TEXT.replace(hopeless, b'').replace(b'complete', b'unfinished places'))
-        self.assertEqual((unfinished.hopeless, unfinished.nearest), (None, None))
+        told = b'endless yes\nhopeless 2\nscript 1\n0 run 1\n'
+        none = read_search('t', TEXT.replace(told, b'endless no\nhopeless 0\n'))
+        self.assertEqual((none.endless, none.hopeless, none.nearest), (False, 0, None))
+        unfinished = read_search('t', TEXT.replace(told, b'').replace(b'complete', b'unfinished places'))
+        self.assertEqual((unfinished.endless, unfinished.hopeless, unfinished.nearest), (None, None, None))
+        limited = read_search('t', TEXT.replace(told, b'').replace(b'complete', b'complete preemptions 12'))
+        self.assertEqual((limited.closing, limited.is_complete), ('complete preemptions 12', False))
 
     def test_what_is_no_such_text(self) -> None:
         for old, new in (
@@ -85,7 +112,12 @@ class Texts(unittest.TestCase):
             (b'script 1', b'script 2'),
             (b'complete\n', b'complete'),
             (b'complete', b'completed'),
-            (b'signals any', b'signals'),
+            (b'complete', b'complete preemptions 1'),
+            (b'complete', b'complete preemptions'),
+            (b'signals prompt', b'signals'),
+            (b'signals prompt', b'signals late'),
+            (b'endless yes\n', b''),
+            (b'endless yes', b'endless maybe'),
             (b'hopeless 2\nscript 1\n0 run 1\n', b''),
             (b'hopeless 2', b'hopeless 0'),
             (b'complete\n', b'unfinished deep\n'),
@@ -142,6 +174,35 @@ class Searches(unittest.TestCase):
                     self.assertTrue(search.is_complete)
 
     @needs_toolchain
+    def test_few_preemptions(self) -> None:
+        """Where more preemptions are allowed no outcome is lost, no script has more of them, and where none was left
+        out the outcomes are those of all runs."""
+        searcher = Searcher(str(PROGRAM), PLACES_OF_TESTS)
+        build(assembler(NAMED[SMALL[0]].litmus), self.elf)
+        fewer: set[Shown] = set()
+        for number in range(256):
+            search = searcher.search(self.elf, 1, has_scripts=True, preemptions=number)
+            self.assertLessEqual(fewer, search.shown)
+            fewer = search.shown
+            self.assertLessEqual(max(map(preemptions_in, search.ended), default=0), number)
+            if search.is_complete:
+                break
+            self.assertEqual(search.closing, f'complete preemptions {number}')
+        whole = searcher.search(self.elf, 1)
+        self.assertTrue(search.is_complete)
+        self.assertEqual(search.shown, whole.shown)
+        self.assertGreaterEqual(search.places, whole.places)
+
+    @needs_toolchain
+    def test_where_no_signal_is_caused(self) -> None:
+        """Prompt runs and any runs are the same there: the same places are visited, and the same outcomes found."""
+        searcher = Searcher(str(PROGRAM), PLACES_OF_TESTS)
+        build(assembler(NAMED[SMALL[0]].litmus), self.elf)
+        prompt, late = (searcher.search(self.elf, 2, signals=signals) for signals in (PROMPT, ANY))
+        self.assertEqual((prompt.signals, late.signals), (PROMPT, ANY))
+        self.assertEqual(replace(late, signals=PROMPT), prompt)
+
+    @needs_toolchain
     def test_random_tests(self) -> None:
         said: list[str] = []
         comparison = Comparison(Searcher(str(PROGRAM), PLACES_OF_TESTS), said.append, SECONDS)
@@ -162,6 +223,17 @@ class Searches(unittest.TestCase):
         self.assertEqual((search.closing, search.places), ('unfinished places', 100))
         self.assertLessEqual(search.shown, set(all_shown(litmus, 2)))
 
+    @needs_toolchain
+    def test_what_counts_is_said(self) -> None:
+        """A search that takes long and is unfinished says which register took the most values."""
+        build(COUNTING, self.elf)
+        words = [PROGRAM, 'outcomes', self.elf, '--harts=1', '--places=8000', '--scripts=no']
+        ran = subprocess.run(words, capture_output=True, text=True)
+        self.assertTrue(ran.stdout.endswith('\nunfinished places\n'), ran.stdout)
+        (said,) = filter(None, map(MOST_VALUES.fullmatch, ran.stderr.splitlines()))
+        values, looked_at = map(int, said.groups())
+        self.assertTrue(100 < values <= looked_at <= 1000, ran.stderr)
+
     def test_examples(self) -> None:
         for row in rows():
             if row.closes == YES or row.closes == SLOW and ARE_SLOW_SEARCHED:
@@ -170,8 +242,9 @@ class Searches(unittest.TestCase):
 
     def check_example(self, row: Row) -> None:
         """The search of an example is complete. It has the outcomes that its files have, those of its worked
-        runs among them, and each script is that of a run that ends so. It finds hopeless places where there
-        are some, and the script that leads to one is that of a run that can go on."""
+        runs among them, and each script is that of a run that ends so. It says whether some run executes
+        instructions without end. It finds hopeless places where there are some, and the script that leads to
+        one is that of a run that can go on."""
         searcher = Searcher(str(PROGRAM), PLACES_OF_EXAMPLES)
         search = searcher.search(row.elf, row.harts, has_scripts=True)
         self.assertTrue(search.is_complete, search.closing)
@@ -180,6 +253,8 @@ class Searches(unittest.TestCase):
         self.assertEqual([name for name, shown in row.worked() if shown not in search.shown], [])
         wrong = [searcher.played(row.elf, row.harts, ended) for ended in search.ended]
         self.assertEqual([words for words in wrong if words], [])
+        if row.is_endless is not None:
+            self.assertEqual(search.endless, row.is_endless)
         if row.is_hopeless is not None:
             self.assertEqual(search.hopeless != 0, row.is_hopeless, search.hopeless)
         if search.hopeless:

@@ -49,6 +49,9 @@ class Pair:
                 yield f'fewer places without {REDUCTION}: {self.full.places}, with it {self.reduced.places}'
             if bool(full.hopeless) != bool(reduced.hopeless):
                 yield f'hopeless without {REDUCTION}: {full.hopeless}, with it {reduced.hopeless}'
+            if full.endless != reduced.endless:
+                words = {True: 'yes', False: 'no', None: 'unknown'}
+                yield f'endless without {REDUCTION}: {words[full.endless]}, with it {words[reduced.endless]}'
 
 
 def told(shown: Shown) -> str:

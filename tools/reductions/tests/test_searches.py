@@ -36,9 +36,9 @@ needs_option = unittest.skipUnless(has_option(), f'{PROGRAM} isn\'t built, or ha
 needs_toolchain = unittest.skipUnless(toolchains(), 'there is no assembler of RISC-V')
 
 
-def search(closing: str, places: int, *consoles: bytes, hopeless: int = 0) -> Search:
+def search(closing: str, places: int, *consoles: bytes, hopeless: int = 0, endless: bool = False) -> Search:
     ended = [Ended(Shown(console, 'exit 0'), None) for console in consoles]
-    return Search(ended, places, 1, closing, hopeless)
+    return Search(ended, places, 1, closing, hopeless, endless=endless)
 
 
 class Pairs(unittest.TestCase):
@@ -62,6 +62,12 @@ class Pairs(unittest.TestCase):
         none, some, more = (search('complete', 2, b'a', hopeless=number) for number in (0, 3, 9))
         self.assertEqual((Pair(none, none).verdict, Pair(some, more).verdict), (EQUAL, EQUAL))
         self.assertEqual([*Pair(none, some).words()], ['hopeless without local-steps: 3, with it 0'])
+        self.assertEqual(Pair(some, none).verdict, UNEQUAL)
+
+    def test_runs_without_end_are_in_both_or_in_none(self) -> None:
+        none, some = (search('complete', 2, b'a', endless=endless) for endless in (False, True))
+        self.assertEqual((Pair(none, none).verdict, Pair(some, some).verdict), (EQUAL, EQUAL))
+        self.assertEqual([*Pair(none, some).words()], ['endless without local-steps: yes, with it no'])
         self.assertEqual(Pair(some, none).verdict, UNEQUAL)
 
     def test_what_is_unfinished_claims_nothing(self) -> None:

@@ -14,7 +14,8 @@ use Rattle.block_model.proofs.CallEffects.Numbers.{deed_getegid, deed_geteuid, d
 use Rattle.block_model.proofs.CallEffects.Policies.{deed_getparam, deed_getscheduler, deed_priority_max, deed_priority_min}
 use Rattle.block_model.proofs.CallEffects.Sequences.{deed_sequence_call}
 use Rattle.block_model.proofs.CallEffects.Signals.{deed_sigaction, deed_sigpending, deed_sigprocmask, deed_sigreturn, deed_tgkill, deed_tkill}
-use Rattle.block_model.proofs.CallEffects.Terminal.{deed_ioctl}
+use Rattle.block_model.proofs.CallEffects.System.{deed_uname}
+use Rattle.block_model.proofs.CallEffects.Terminal.{deed_fstat, deed_ioctl}
 
 -- a call that takes pages, or goes on from a frame, by its number
 at_number : (here : Here) (t number k : ℕ) (c : CallDone) → eqb number k ≡ true → CallDeed here t k c
@@ -24,18 +25,20 @@ at_number here t number k c is deed = subst (λ n. CallDeed here t n c) (sym (eq
 deed_asking_call : (here : Here) (t number : ℕ) → CallDeed here t number (asking_call_of number here t)
 deed_asking_call here t number =
     either (eqb number 29) (λ _. deed_ioctl here t number) (λ _.
+    either (eqb number 80) (λ _. deed_fstat here t number) (λ _.
     either (eqb number 120) (λ _. deed_getscheduler here t number) (λ _.
     either (eqb number 121) (λ _. deed_getparam here t number) (λ _.
     either (eqb number 125) (λ _. deed_priority_max here t number) (λ _.
     either (eqb number 126) (λ _. deed_priority_min here t number) (λ _.
     either (eqb number 136) (λ _. deed_sigpending here t number) (λ _.
+    either (eqb number 160) (λ _. deed_uname here t number) (λ _.
     either (eqb number 173) (λ _. deed_getppid here t number) (λ _.
     either (eqb number 174) (λ _. deed_getuid here t number) (λ _.
     either (eqb number 175) (λ _. deed_geteuid here t number) (λ _.
     either (eqb number 176) (λ _. deed_getgid here t number) (λ _.
     either (eqb number 177) (λ _. deed_getegid here t number) (λ _.
     either (eqb number 261) (λ _. deed_prlimit here t number) (λ _.
-    Says _))))))))))))
+    Says _))))))))))))))
 
 deed_own_call : (here : Here) (t number : ℕ) → CallDeed here t number (own_call_of number here t)
 deed_own_call here t number =

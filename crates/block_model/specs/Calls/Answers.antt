@@ -9,7 +9,7 @@ use Rattle.mach_types.specs.declared.limits.End.TheVariants.{Killed}
 use Rattle.mach_types.specs.declared.signals.TheConstants.{SIGSEGV}
 use Rattle.mach_types.specs.declared.threads.Saved.{Saved}
 use Rattle.mach_types.specs.declared.user_memory.Write.{Write}
-use Rattle.mach_types.specs.declared.user_memory.Write.TheVariants.{Stored}
+use Rattle.mach_types.specs.declared.user_memory.Write.TheVariants.{Stored, Zeroed}
 use Rattle.block_model.specs.Record.{Kernel}
 use Rattle.rv_inst.specs.Words.{sum_64}
 use Rattle.block_model.specs.Here.{Barrier, Here, memory, is_writable}
@@ -58,6 +58,10 @@ word_written at value = Stored (record { at = at; size = 4; value = value })
 
 abbrev pub double_written : ℕ → ℕ → Write
 double_written at value = Stored (record { at = at; size = 8; value = value })
+
+-- the kernel's write of so many zeros
+abbrev pub zeros_written : ℕ → ℕ → Write
+zeros_written at count = Zeroed at count
 
 -- the number of so many bytes from an address on, 0 where they can't be read
 abbrev pub number_at : Here → ℕ → ℕ → ℕ

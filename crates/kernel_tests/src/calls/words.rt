@@ -6,6 +6,8 @@ pub const WRITE: u64 = 64;
 
 pub const WRITEV: u64 = 66;
 
+pub const FSTAT: u64 = 80;
+
 pub const EXIT: u64 = 93;
 
 pub const EXIT_GROUP: u64 = 94;
@@ -39,6 +41,8 @@ pub const RT_SIGPROCMASK: u64 = 135;
 pub const RT_SIGPENDING: u64 = 136;
 
 pub const RT_SIGRETURN: u64 = 139;
+
+pub const UNAME: u64 = 160;
 
 pub const GETCPU: u64 = 168;
 

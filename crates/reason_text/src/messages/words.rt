@@ -77,7 +77,8 @@ fn push_word(text: &mut String, fault: WordsFault, words: &[String]) -> Result<(
         | WordsFault::NoSpans(word)
         | WordsFault::NoEnd(word)
         | WordsFault::NeitherYesNorNo(word)
-        | WordsFault::UnknownReduction(word) => {
+        | WordsFault::UnknownReduction(word)
+        | WordsFault::NeitherPromptNorAny(word) => {
             push_option(text, words, word)?;
             word
         }
@@ -121,6 +122,9 @@ fn push_complaint(
         WordsFault::NeitherYesNorNo(_) => text.push_str("the value is neither yes nor no\n"),
         WordsFault::UnknownReduction(_) => {
             writeln!(text, "there is no such reduction; there is {REDUCTIONS}")
+        }
+        WordsFault::NeitherPromptNorAny(_) => {
+            text.push_str("the value is neither prompt nor any\n")
         }
         WordsFault::NoNumber(_) => {
             text.push_str("the size isn't a number, of 20 digits at most and below 2^64\n")

@@ -6,13 +6,13 @@ use Rattle.asked_explorations.proofs.searching.searched_text.Goals as goal
 pub findings_text-requires-clause-outcomes : goal.findings_text-requires-clause-outcomes
 findings_text-requires-clause-outcomes g c =
     let settings = c.args.asked.now.settings in
-    found_digits (setting_of c.in_ok-image.image settings.limits) c.in_ok-findings.findings.outcomes.items
+    found_digits (setting_of c.in_ok-image.image settings.limits) settings.signals c.in_ok-findings.findings.outcomes.items
     c.requires.limits.eight_harts c.in_ok-findings.ensures.search.shown
 
 pub findings_text-requires-clause-nearest : goal.findings_text-requires-clause-nearest
 findings_text-requires-clause-nearest g c =
     let settings = c.args.asked.now.settings in
-    nearest_digits (setting_of c.in_ok-image.image settings.limits) settings.places c.in_ok-findings.findings
+    nearest_digits (setting_of c.in_ok-image.image settings.limits) settings.signals settings.places settings.preemptions c.in_ok-findings.findings
     c.requires.limits.eight_harts c.in_ok-findings.ensures.search
 
 pub returns-clause-output : goal.returns-clause-output

@@ -3,7 +3,7 @@ use Rattle.clap.proofs.WalkLemmas.{first_value-rows}
 use Rattle.clap.specs.Words.{Row, first_of, first_value, found_of, rows_of}
 use Rattle.command_words.specs.Kept.{names_kept, stated, value_kept}
 use Rattle.command_words.specs.Line.{arguments_found, names_found}
-use Rattle.command_words.specs.Options.{OptionName, Harts, Frames, Steps, Seed, Policy, Calm, After, RunCount, Until, By, Jobs, From, To, Memory, Expect, Places, Deep, Scripts, Without, long_name}
+use Rattle.command_words.specs.Options.{OptionName, Harts, Frames, Steps, Seed, Policy, Calm, After, RunCount, Until, By, Jobs, From, To, Memory, Expect, Places, Deep, Scripts, Without, Preemptions, OwnSignals, long_name}
 use Rattle.command_words.specs.declared.arguments.Arguments.{Arguments}
 use Rattle.command_words.proofs.arguments.arguments_in.Goals as goal
 
@@ -15,7 +15,7 @@ arguments_are : (rows : List Row) (kept : Arguments)
 arguments_are rows kept names value = λ i. record { names = names i; values = λ option. value option i }
 
 -- what is kept of the values of the parser
-abbrev kept : goal.After-get_str-22 → Arguments
+abbrev kept : goal.After-get_str-24 → Arguments
 kept c = record {
   names = c.names_of.result;
   harts = c.get_str-4.result;
@@ -37,13 +37,15 @@ kept c = record {
   deep = c.get_str-20.result;
   scripts = c.get_str-21.result;
   without = c.get_str-22.result;
+  preemptions = c.get_str-23.result;
+  signals = c.get_str-24.result;
 }
 
 -- what the parser found under a name
-at : (c : goal.After-get_str-22) (id : List ℕ) → first_value (found_of c.args.matches.now) id ≡ first_of id (rows_of (found_of c.args.matches.now))
+at : (c : goal.After-get_str-24) (id : List ℕ) → first_value (found_of c.args.matches.now) id ≡ first_of id (rows_of (found_of c.args.matches.now))
 at c id = first_value-rows (found_of c.args.matches.now) id
 
-values : (c : goal.After-get_str-22) (option : OptionName) → value_kept (kept c) option ≡ first_of (long_name option) (rows_of (found_of c.args.matches.now))
+values : (c : goal.After-get_str-24) (option : OptionName) → value_kept (kept c) option ≡ first_of (long_name option) (rows_of (found_of c.args.matches.now))
 values c Harts = c.get_str-4.ensures ∙ at c (codes "harts")
 values c Frames = c.get_str-5.ensures ∙ at c (codes "frames")
 values c Steps = c.get_str-6.ensures ∙ at c (codes "steps")
@@ -63,6 +65,8 @@ values c Places = c.get_str-19.ensures ∙ at c (codes "places")
 values c Deep = c.get_str-20.ensures ∙ at c (codes "deep")
 values c Scripts = c.get_str-21.ensures ∙ at c (codes "scripts")
 values c Without = c.get_str-22.ensures ∙ at c (codes "without")
+values c Preemptions = c.get_str-23.ensures ∙ at c (codes "preemptions")
+values c OwnSignals = c.get_str-24.ensures ∙ at c (codes "signals")
 
 pub returns : goal.returns
 returns c =

@@ -25,6 +25,8 @@ returns c =
     let sixteen = c.in_ok-arg-16.ensures.shape c.option-16.ensures.own ∙ ap₂ with_rule fifteen c.option-16.ensures.rule in
     let seventeen = c.in_ok-arg-17.ensures.shape c.option-17.ensures.own ∙ ap₂ with_rule sixteen c.option-17.ensures.rule in
     let eighteen = c.in_ok-arg-18.ensures.shape c.option-18.ensures.own ∙ ap₂ with_rule seventeen c.option-18.ensures.rule in
-    IfOk-weaker c.arg-19.result _ _ (λ parser added. added.shape c.option-19.ensures.own
-    ∙ ap₂ with_rule eighteen c.option-19.ensures.rule)
-    c.arg-19.ensures
+    let nineteen = c.in_ok-arg-19.ensures.shape c.option-19.ensures.own ∙ ap₂ with_rule eighteen c.option-19.ensures.rule in
+    let twenty = c.in_ok-arg-20.ensures.shape c.option-20.ensures.own ∙ ap₂ with_rule nineteen c.option-20.ensures.rule in
+    IfOk-weaker c.arg-21.result _ _ (λ parser added. added.shape c.option-21.ensures.own
+    ∙ ap₂ with_rule twenty c.option-21.ensures.rule)
+    c.arg-21.ensures

@@ -3,9 +3,9 @@ use Rattle.mach_types.specs.Kernel.Threads.{Threads, state_of}
 use Rattle.mach_types.specs.Registers.{register}
 use Rattle.block_model.specs.Deciding.{end_of}
 use Rattle.block_model.specs.Here.{runs}
+use Rattle.fact_types.specs.declared.facts.Fact.TheVariants.{NoAnswer}
 use Rattle.event_facts.specs.Calls.{answer_of, answer_off, answer_unless, has_no_answer, is_it}
 use Rattle.event_facts.specs.Telling.{here_on, past_of}
-use Rattle.event_facts.specs.declared.facts.Fact.TheVariants.{NoAnswer}
 use Rattle.event_facts.proofs.calls.answer.Goals as goal
 
 pub returns-else-is_it : goal.returns-else-is_it

@@ -2,9 +2,9 @@ use Rattle.std.proofs.Common.{◌≡◌, ◌∙◌, ◌&&◌, Option, Some, None
 use Rattle.rv_inst.specs.Class.{is_call}
 use Rattle.block_model.specs.Here.{runs}
 use Rattle.block_model.specs.Sights.{effect_here}
+use Rattle.fact_types.specs.declared.calls.SystemCall.{SystemCall}
 use Rattle.event_facts.specs.Calls.{call_in}
 use Rattle.event_facts.specs.Telling.{here_on}
-use Rattle.event_facts.specs.declared.calls.SystemCall.{SystemCall}
 use Rattle.event_facts.proofs.CallAnswers.{call_there}
 use Rattle.event_facts.proofs.calls.call_on.Goals as goal
 

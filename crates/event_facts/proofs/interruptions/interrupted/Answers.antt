@@ -5,11 +5,11 @@ use Rattle.mach_types.specs.declared.sequences.Area.{Area}
 use Rattle.mach_types.specs.declared.sequences.Outcome.{Outcome}
 use Rattle.block_model.specs.Here.{view}
 use Rattle.block_model.specs.Sequences.{area_here}
+use Rattle.fact_types.specs.declared.facts.Fact.{Fact}
+use Rattle.fact_types.specs.declared.facts.Fact.TheVariants.{Interrupted}
+use Rattle.fact_types.specs.declared.interruptions.Interruption.{Interruption}
 use Rattle.event_facts.specs.Interruptions.{interrupted_facts, interruption_of}
 use Rattle.event_facts.specs.Telling.{here_on}
-use Rattle.event_facts.specs.declared.facts.Fact.{Fact}
-use Rattle.event_facts.specs.declared.facts.Fact.TheVariants.{Interrupted}
-use Rattle.event_facts.specs.declared.interruptions.Interruption.{Interruption}
 use Rattle.event_facts.proofs.interruptions.interrupted.Goals as goal
 
 pub returns : goal.returns

@@ -3,10 +3,10 @@ use Rattle.mach_types.specs.Events.{choice_of}
 use Rattle.mach_types.specs.declared.events.Entry.{Entry}
 use Rattle.block_model.specs.Deciding.{end_of}
 use Rattle.block_model.specs.Setting.{Seen}
+use Rattle.fact_types.specs.declared.facts.Fact.{Fact}
 use Rattle.event_facts.specs.Killing.{told_at}
 use Rattle.event_facts.specs.Telling.{here_on, past_of}
 use Rattle.event_facts.specs.Trace.{facts_after, trace_of}
-use Rattle.event_facts.specs.declared.facts.Fact.{Fact}
 use Rattle.event_facts.proofs.Due.{due, few_lines, line_is, past_after}
 use Rattle.event_facts.proofs.KernelDeeds.{not_plain}
 use Rattle.event_facts.proofs.KernelFacts.{kernel_lines, kernel_told}

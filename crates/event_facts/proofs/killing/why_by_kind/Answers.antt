@@ -5,9 +5,9 @@ use Rattle.mach_types.specs.declared.events.Choice.{Choice}
 use Rattle.mach_types.specs.declared.events.Choice.TheVariants as asked
 use Rattle.mach_types.specs.declared.events.Kind.TheVariants as kind
 use Rattle.block_model.specs.Sequences.{area_here, can_write_words}
+use Rattle.fact_types.specs.declared.killing.KillWhy.TheVariants.{AreaWords}
 use Rattle.event_facts.specs.Killing.{IsReason, kills_by}
 use Rattle.event_facts.specs.Telling.{here_on}
-use Rattle.event_facts.specs.declared.killing.KillWhy.TheVariants.{AreaWords}
 use Rattle.event_facts.proofs.Due.{due}
 use Rattle.event_facts.proofs.FoundReasons.{choice_is, lives, runs_now, words_reason}
 use Rattle.event_facts.proofs.killing.why_by_kind.Goals as goal

@@ -2,10 +2,10 @@ use Rattle.std.proofs.Common.{◌≡◌, ◌∙◌, ◌∷◌, [], ℕ, Option, 
 use Rattle.std.specs.Option.{option_to_list}
 use Rattle.block_model.specs.Deciding.{end_of}
 use Rattle.process.specs.Harts.{file_of}
+use Rattle.fact_types.specs.declared.facts.Fact.{Fact}
 use Rattle.event_facts.specs.Calls.{is_process_end}
 use Rattle.event_facts.specs.Pending.{delivered_fact, delivered_facts}
 use Rattle.event_facts.specs.Telling.{past_of}
-use Rattle.event_facts.specs.declared.facts.Fact.{Fact}
 use Rattle.event_facts.proofs.pending.delivery.Goals as goal
 
 pub returns : goal.returns

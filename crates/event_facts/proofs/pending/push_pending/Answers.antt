@@ -1,7 +1,7 @@
 use Rattle.std.proofs.Common.{◌∙◌, ◌++◌, Option, ap, arith}
 use Rattle.std.specs.Option.{option_to_list}
+use Rattle.fact_types.specs.declared.facts.Fact.{Fact}
 use Rattle.event_facts.specs.Pending.{pending_fact}
-use Rattle.event_facts.specs.declared.facts.Fact.{Fact}
 use Rattle.event_facts.proofs.Lists.{all_numbers, range_step}
 use Rattle.event_facts.proofs.pending.push_pending.Goals as goal
 

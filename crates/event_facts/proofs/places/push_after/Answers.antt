@@ -2,6 +2,7 @@ use Rattle.std.proofs.Common.{◌∙◌, ◌++◌, ℕ, Option, ap}
 use Rattle.mach_types.specs.Kernel.Threads.{Threads}
 use Rattle.mach_types.specs.declared.sequences.Outcome.{Outcome}
 use Rattle.mach_types.specs.Events.{choice_of}
+use Rattle.fact_types.specs.declared.calls.SystemCall.{SystemCall}
 use Rattle.event_facts.specs.Areas.{area_facts}
 use Rattle.event_facts.specs.Calls.{answer_facts}
 use Rattle.event_facts.specs.Interruptions.{interrupted_facts}
@@ -12,7 +13,6 @@ use Rattle.event_facts.specs.Pending.{delivered_facts, signal_facts}
 use Rattle.event_facts.specs.Requests.{begun_facts}
 use Rattle.event_facts.specs.Telling.{here_on, past_of}
 use Rattle.event_facts.specs.Threads.{thread_facts}
-use Rattle.event_facts.specs.declared.calls.SystemCall.{SystemCall}
 use Rattle.event_facts.proofs.Lists.{eight_pieces, piece}
 use Rattle.event_facts.proofs.places.push_after.Goals as goal
 

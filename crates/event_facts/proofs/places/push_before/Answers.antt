@@ -4,12 +4,12 @@ use Rattle.mach_types.specs.Kernel.Signals.{Signalling}
 use Rattle.mach_types.specs.Kernel.Threads.{Threads}
 use Rattle.mach_types.specs.declared.events.Choice.{Choice}
 use Rattle.block_model.specs.Deciding.{decide}
+use Rattle.fact_types.specs.declared.calls.SystemCall.{SystemCall}
 use Rattle.event_facts.specs.Calls.{call_facts}
 use Rattle.event_facts.specs.Interruptions.{came_by}
 use Rattle.event_facts.specs.Pending.{all_pending, delivered_by}
 use Rattle.event_facts.specs.Telling.{here_on, past_of}
 use Rattle.event_facts.specs.Threads.{AreBefore}
-use Rattle.event_facts.specs.declared.calls.SystemCall.{SystemCall}
 use Rattle.event_facts.proofs.Lists.{three_pieces}
 use Rattle.event_facts.proofs.places.push_before.Goals as goal
 

@@ -2,11 +2,11 @@ use Rattle.std.proofs.Common.{◌≡◌, ◌∙◌, ◌++◌, ◌∷◌, [], ap,
 use Rattle.rv_inst.specs.Execution.{word_seen}
 use Rattle.rv_inst.specs.Words.{sum_64}
 use Rattle.block_model.specs.Here.{view}
+use Rattle.fact_types.specs.declared.facts.Fact.TheVariants.{Read}
+use Rattle.fact_types.specs.declared.facts.Source.{Source}
 use Rattle.event_facts.specs.Facts.{byte_fact}
 use Rattle.event_facts.specs.Telling.{here_on}
 use Rattle.event_facts.specs.Tied.{kept_source}
-use Rattle.event_facts.specs.declared.facts.Fact.TheVariants.{Read}
-use Rattle.event_facts.specs.declared.facts.Source.{Source}
 use Rattle.event_facts.proofs.Lists.{map_step}
 use Rattle.event_facts.proofs.reads.push_each.Goals as goal
 

@@ -3,9 +3,9 @@ use Rattle.std.specs.Option.{option_to_list}
 use Rattle.mach_types.specs.Bytes.{all_stored}
 use Rattle.mach_types.specs.declared.user_memory.Store.{Store}
 use Rattle.mach_types.specs.declared.user_memory.Write.TheVariants.{Stored}
+use Rattle.fact_types.specs.declared.facts.Fact.{Fact}
 use Rattle.event_facts.specs.Reservations.{all_lost, lost_of}
 use Rattle.event_facts.specs.Telling.{past_of}
-use Rattle.event_facts.specs.declared.facts.Fact.{Fact}
 use Rattle.event_facts.proofs.Lists.{all_numbers, range_step}
 use Rattle.event_facts.proofs.Entered.{none_lost}
 use Rattle.event_facts.proofs.reservations.push_all_lost.Goals as goal

@@ -2,10 +2,10 @@ use Rattle.std.proofs.Common.{ℕ, ◌+◌, ◌<◌, ◌∷◌, [], ◌++◌, �
 use Rattle.mach_types.specs.Registers.{register}
 use Rattle.mach_types.specs.declared.events.Entry.{Entry}
 use Rattle.block_model.specs.Setting.{Seen}
+use Rattle.fact_types.specs.declared.facts.Fact.{Fact}
+use Rattle.fact_types.specs.declared.facts.Fact.TheVariants.{Register}
 use Rattle.event_facts.specs.Facts.{register_fact}
 use Rattle.event_facts.specs.Telling.{past_of, registers_on}
-use Rattle.event_facts.specs.declared.facts.Fact.{Fact}
-use Rattle.event_facts.specs.declared.facts.Fact.TheVariants.{Register}
 use Rattle.event_facts.proofs.Due.{due, few_lines, line_is}
 use Rattle.event_facts.proofs.LinesOfBytes.{is_latest}
 use Rattle.event_facts.proofs.Lists.{two_pieces}

@@ -1,8 +1,8 @@
 use Rattle.std.proofs.Common.{◌≡◌, ◌∙◌, ◌++◌, List, Some, ap, sym}
 use Rattle.mach_types.specs.Events.{choice_of}
 use Rattle.rv_inst.specs.declared.effects.Effect.TheVariants as effect
+use Rattle.fact_types.specs.declared.facts.Fact.{Fact}
 use Rattle.event_facts.specs.Telling.{here_on, past_of, plain_event_of}
-use Rattle.event_facts.specs.declared.facts.Fact.{Fact}
 use Rattle.event_facts.specs.declared.telling.PlainEvent.TheVariants.{Instruction}
 use Rattle.event_facts.proofs.Due.{due}
 use Rattle.event_facts.proofs.LocalFacts.{local_facts, local_lines}

@@ -1,12 +1,12 @@
-//! Calls that only ask: ioctl(2), sched_getscheduler(2), sched_getparam(2), sched_get_priority_max(2), sched_get_priority_min(2),
+//! Calls that only ask: ioctl(2), fstat(2), uname(2), sched_getscheduler(2), sched_getparam(2), sched_get_priority_max(2), sched_get_priority_min(2),
 //! sigpending(2), getppid(2), getuid(2), getgid(2) and prlimit(2).
 
 use crate::calls::bench::{CODE, DATA, DATA_END, Row};
 use crate::calls::steps::{Scene, Step};
 use crate::calls::words::{
-    ABOVE, CLONE, EBADF, EFAULT, EINVAL, ENOTTY, EPERM, ESRCH, GETEGID, GETEUID, GETGID, GETPPID,
-    GETUID, IOCTL, PRLIMIT64, RT_SIGPENDING, RT_SIGPROCMASK, SCHED_GET_PRIORITY_MAX,
-    SCHED_GET_PRIORITY_MIN, SCHED_GETPARAM, SCHED_GETSCHEDULER, THREAD, TKILL,
+    ABOVE, CLONE, EBADF, EFAULT, EINVAL, ENOTTY, EPERM, ESRCH, FSTAT, GETEGID, GETEUID, GETGID,
+    GETPPID, GETUID, IOCTL, PRLIMIT64, RT_SIGPENDING, RT_SIGPROCMASK, SCHED_GET_PRIORITY_MAX,
+    SCHED_GET_PRIORITY_MIN, SCHED_GETPARAM, SCHED_GETSCHEDULER, THREAD, TKILL, UNAME,
 };
 
 /// The requests TIOCGWINSZ and TCGETS.
@@ -28,6 +28,28 @@ const IOCTLS: [Row; 12] = [
     ([0, WINDOW, DATA, 0, 0], 0),
     ([1, WINDOW, DATA_END - 8, 0, 0], 0),
     ([ABOVE + 2, ABOVE + WINDOW, DATA + 9, 0, 0], 0),
+];
+
+/// fstat(fd, p).
+const STATS: [Row; 8] = [
+    ([3, DATA, 0, 0, 0], EBADF),
+    ([u64::MAX, 0, 0, 0, 0], EBADF),
+    ([0, 0, 0, 0, 0], EFAULT),
+    ([1, CODE, 0, 0, 0], EFAULT),
+    ([2, DATA_END - 127, 0, 0, 0], EFAULT),
+    ([2, u64::MAX - 127, 0, 0, 0], EFAULT),
+    ([0, DATA, 0, 0, 0], 0),
+    ([ABOVE + 2, DATA_END - 128, 0, 0, 0], 0),
+];
+
+/// uname(p).
+const NAMES: [Row; 6] = [
+    ([0, 0, 0, 0, 0], EFAULT),
+    ([CODE, 0, 0, 0, 0], EFAULT),
+    ([DATA_END - 389, 0, 0, 0, 0], EFAULT),
+    ([u64::MAX - 388, 0, 0, 0, 0], EFAULT),
+    ([DATA, 0, 0, 0, 0], 0),
+    ([DATA_END - 390, 0, 0, 0, 0], 0),
 ];
 
 /// The lowest and the highest `int`.
@@ -139,7 +161,29 @@ const ANY: [u64; 5] = [CODE + 1, 2, 3, 4, 5];
 const CHILD: [Row; 1] = [([THREAD, 0, 0, 0, 0], 2)];
 
 /// Calls that only ask.
-pub const SCENES: [Scene; 6] = [
+pub const SCENES: [Scene; 8] = [
+    &[
+        Step::Put(DATA + 8, u64::MAX),
+        Step::Put(DATA + 128, u64::MAX),
+        Step::Answers(FSTAT, &STATS),
+        Step::Memory(DATA + 8, 0),
+        Step::Memory(DATA + 16, 0x1_0000_2190),
+        Step::Memory(DATA + 32, 0x501),
+        Step::Memory(DATA + 56, 1024),
+        Step::Memory(DATA + 128, u64::MAX),
+        Step::Memory(DATA_END - 112, 0x1_0000_2190),
+    ],
+    &[
+        Step::Put(DATA + 8, u64::MAX),
+        Step::Put(DATA + 384, u64::MAX),
+        Step::Answers(UNAME, &NAMES),
+        Step::Memory(DATA, 0x78_756e_694c),
+        Step::Memory(DATA + 8, 0),
+        Step::Memory(DATA + 130, 0x30_2e33_2e36),
+        Step::Memory(DATA + 260, 0x34_3676_6373_6972),
+        Step::Memory(DATA + 384, 0xffff_0000_0000_0000),
+        Step::Memory(DATA_END - 130, 0x34_3676_6373_6972),
+    ],
     &[
         Step::Answers(IOCTL, &IOCTLS),
         Step::Memory(DATA, 0x50_0019),

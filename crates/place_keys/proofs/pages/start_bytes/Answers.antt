@@ -2,18 +2,8 @@ use Rattle.std.proofs.Common.{◌≡◌, ◌∙◌, ℕ, List, Option, Some, Non
 use Rattle.std.specs.Option.{option_map}
 use Rattle.page_map.specs.Map.{Page, page_in}
 use Rattle.place_keys.specs.PageWords.{page_word}
-use Rattle.place_keys.proofs.MemoryWords.{start_nowhere, start_there}
+use Rattle.place_keys.proofs.MemoryWords.{has_bytes, start_nowhere, start_there}
 use Rattle.place_keys.proofs.pages.start_bytes.Goals as goal
-
--- the page of these bytes
-record HasBytes (o : Option Page) (bytes : List ℕ) : Type 0 where
-  page : Page
-  is : o ≡ Some page
-  bytes_are : page.bytes ≡ bytes
-
-has_bytes : (o : Option Page) (bytes : List ℕ) → Some bytes ≡ option_map (λ (p : Page). p.bytes) o → HasBytes o bytes
-has_bytes None bytes e = cc
-has_bytes (Some p) bytes e = record { page = p; is = refl; bytes_are = cc }
 
 no_page : (o : Option Page) → None ≡ option_map (λ (p : Page). p.bytes) o → o ≡ None
 no_page None e = refl
@@ -21,7 +11,7 @@ no_page (Some p) e = cc
 
 pub returns-in-Some-clause-words : goal.returns-in-Some-clause-words
 returns-in-Some-clause-words c = λ k lt.
-    let has = has_bytes (page_in c.args.start.now c.args.number) c.in-Some.bytes.now c.in-Some.ensures.bytes in
+    let has = has_bytes (page_in c.args.start.now c.args.number) c.in-Some.bytes.now (sym c.in-Some.ensures.bytes) in
     start_there c.args.start.now c.args.number k lt has.page has.is ∙ ap (λ (bytes : List ℕ). page_word bytes k) has.bytes_are
 
 pub returns-in-None-clause-words : goal.returns-in-None-clause-words

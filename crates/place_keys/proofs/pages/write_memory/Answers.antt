@@ -33,12 +33,12 @@ loop-number-preserved c =
     record {
       within = omega arith;
       order = omega arith;
-      written = λ bare.
+      written =
           memory_step c.args.start.now c.args.pages.now c.loop-number.from c.in-Some.number c.args.words.now.items c.loop-number.words.items c.write_page.new.words.items
-          c.loop-number.past c.in_ok-past.past c.loop-number.invariant.within (c.in-Some.ensures.first bare) (c.loop-number.invariant.written bare) c.in_ok-past.ensures.written;
+          c.loop-number.past c.in_ok-past.past c.loop-number.invariant.within c.in-Some.ensures.first c.loop-number.invariant.written c.in_ok-past.ensures.written;
     }
 
 pub returns : goal.returns
 returns c =
-    then_ok c.write_word.result _ _ (λ is bare. memory_end c.args.start.now c.args.pages.now c.loop-number.from c.args.words.now.items c.loop-number.words.items c.write_word.new.words.items
-    c.loop-number.past c.loop-number.invariant.within (c.in_default.ensures.first bare) (c.loop-number.invariant.written bare) is) c.write_word.ensures
+    then_ok c.write_word.result _ _ (λ is. memory_end c.args.start.now c.args.pages.now c.loop-number.from c.args.words.now.items c.loop-number.words.items c.write_word.new.words.items
+    c.loop-number.past c.loop-number.invariant.within c.in_default.ensures.first c.loop-number.invariant.written is) c.write_word.ensures

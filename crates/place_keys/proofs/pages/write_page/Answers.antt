@@ -1,5 +1,6 @@
 use Rattle.std.proofs.Common.{◌≡◌, ◌∙◌, ◌+◌, ◌-◌, ◌*◌, ◌<◌, ◌≤◌, ℕ, List, Option, Some, None, ap, sym, refl, arith}
 use Rattle.std.specs.Option.{option_map}
+use Rattle.std.proofs.lemmas.Bool.{OnTrue_at}
 use Rattle.std.proofs.lemmas.Bool.Decides.{Decides-eqb}
 use Rattle.std.proofs.lemmas.Slice.Eq.{slice_eq-Decides}
 use Rattle.page_map.specs.Map.{Map, Page, page_in}
@@ -23,6 +24,20 @@ same_word m start n bytes first same now old j low high =
     let place : j ≡ 512 * n + (j - 512 * n) = omega arith in
     let lt : j - 512 * n < 512 = omega arith in
     ap (memory_word start m) place ∙ now (j - 512 * n) lt ∙ ap (λ (bs : List ℕ). page_word bs (j - 512 * n)) (sym same) ∙ sym (old (j - 512 * n) lt) ∙ ap (start_word start) (sym place)
+
+pub returns-then-stays_fresh-clause-order : goal.returns-then-stays_fresh-clause-order
+returns-then-stays_fresh-clause-order c = let order : c.args.past ≤ 512 * c.args.number = c.requires.order in omega arith
+
+pub returns-then-stays_fresh-clause-written : goal.returns-then-stays_fresh-clause-written
+returns-then-stays_fresh-clause-written c =
+    let n = c.args.number in
+    let start = c.args.start.now in
+    let m = c.args.pages.now in
+    let all : (k : ℕ) → k < 512 → memory_word start m (512 * n + k) ≡ start_word start (512 * n + k) = OnTrue_at c.if-stays_fresh.true c.stays_fresh.ensures in
+    skipped (start_word start) (memory_word start m) c.args.words.now.items c.args.past (512 * n) (512 * n + 512) c.requires.order (omega arith)
+    (λ j low high.
+    let place : j ≡ 512 * n + (j - 512 * n) = omega arith in
+    ap (memory_word start m) place ∙ all (j - 512 * n) (omega arith) ∙ ap (start_word start) (sym place))
 
 pub returns-then-eq-clause-order : goal.returns-then-eq-clause-order
 returns-then-eq-clause-order c = let order : c.args.past ≤ 512 * c.args.number = c.requires.order in omega arith

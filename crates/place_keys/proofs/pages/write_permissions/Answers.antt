@@ -29,13 +29,13 @@ loop-number-preserved c =
     record {
       within = omega arith;
       order = c.in_ok-past.ensures.order;
-      written = λ bare other.
+      written =
           permission_step c.args.start.now c.args.pages.now c.loop-number.from c.in-Some.number c.args.words.now.items c.loop-number.words.items c.write_change.new.words.items
-          c.loop-number.past c.in_ok-past.past c.loop-number.invariant.within (c.in-Some.ensures.first bare other) (c.loop-number.invariant.written bare other)
+          c.loop-number.past c.in_ok-past.past c.loop-number.invariant.within c.in-Some.ensures.first c.loop-number.invariant.written
           (c.in_ok-past.ensures.written (permission_word c.args.start.now) (permission_word c.args.pages.now) (sym c.permission_word-old.ensures) (sym c.permission_word-now.ensures));
     }
 
 pub returns : goal.returns
 returns c =
-    then_ok c.write_word.result _ _ (λ is bare other. permissions_end c.args.start.now c.args.pages.now c.loop-number.from c.args.words.now.items c.loop-number.words.items c.write_word.new.words.items
-    c.loop-number.past c.loop-number.invariant.within (c.in_default.ensures.first bare other) (c.loop-number.invariant.written bare other) is) c.write_word.ensures
+    then_ok c.write_word.result _ _ (λ is. permissions_end c.args.start.now c.args.pages.now c.loop-number.from c.args.words.now.items c.loop-number.words.items c.write_word.new.words.items
+    c.loop-number.past c.loop-number.invariant.within c.in_default.ensures.first c.loop-number.invariant.written is) c.write_word.ensures

@@ -2,4 +2,4 @@ use Rattle.settled_places.proofs.RunEnds.{all_end}
 use Rattle.settled_places.proofs.endings.each_run_can_end.Goals as goal
 
 pub returns : goal.returns
-returns c = λ s threads private logs edges log found are each. all_end s threads private logs found edges are each log
+returns c = λ s signals threads private logs edges log found are each. all_end s signals threads private logs found edges are each log

@@ -20,6 +20,12 @@ silent_by_number {h = h} {t = t} {k = k} {k' = k'} {m = m} {m' = m'} {answer = a
 pub returns-in-29-clause-answered : goal.returns-in-29-clause-answered
 returns-in-29-clause-answered c = λ h told read. by_number c.in-29.is (c.ioctl.ensures.answered h c.args.kernel.now c.args.tid.0 told read)
 
+pub returns-in-80-clause-answered : goal.returns-in-80-clause-answered
+returns-in-80-clause-answered c = λ h told read. by_number c.in-80.is (c.fstat.ensures.answered h c.args.kernel.now c.args.tid.0 told read)
+
+pub returns-in-160-clause-answered : goal.returns-in-160-clause-answered
+returns-in-160-clause-answered c = λ h told read. by_number c.in-160.is (c.uname.ensures.answered h c.args.kernel.now c.args.tid.0 told read)
+
 pub returns-in-120-clause-answered : goal.returns-in-120-clause-answered
 returns-in-120-clause-answered c = λ h told read. silent_by_number c.requires.fresh c.in-120.is (answered_said h c.args.tid.0 c.args.kernel.now c.args.pages.now c.sched_getscheduler.result (sched_getscheduler h c.args.tid.0) told (c.sched_getscheduler.ensures.answered h c.args.tid.0 told.threads read.file))
 
@@ -66,11 +72,13 @@ returns-in_default-clause-answered c = λ h told read.
     let d = c.in_default in
     let is : asking_call_of n h t ≡ refused h t ENOSYS =
     is_not 29 n _ _ (λ e. absurd (omega (arith, d, e)))
+    ∙ is_not 80 n _ _ (λ e. absurd (omega (arith, d, e)))
     ∙ is_not 120 n _ _ (λ e. absurd (omega (arith, d, e)))
     ∙ is_not 121 n _ _ (λ e. absurd (omega (arith, d, e)))
     ∙ is_not 125 n _ _ (λ e. absurd (omega (arith, d, e)))
     ∙ is_not 126 n _ _ (λ e. absurd (omega (arith, d, e)))
     ∙ is_not 136 n _ _ (λ e. absurd (omega (arith, d, e)))
+    ∙ is_not 160 n _ _ (λ e. absurd (omega (arith, d, e)))
     ∙ is_not 173 n _ _ (λ e. absurd (omega (arith, d, e)))
     ∙ is_not 174 n _ _ (λ e. absurd (omega (arith, d, e)))
     ∙ is_not 175 n _ _ (λ e. absurd (omega (arith, d, e)))

@@ -1,6 +1,6 @@
 use Rattle.block_view.specs.declared.forms.Act.{Act}
 use Rattle.block_view.specs.declared.forms.Form.TheVariants.{Step}
-use Rattle.run_texts.specs.Traces.{ends_line}
+use Rattle.trace_text.specs.Traces.{ends_line}
 use Rattle.place_text.proofs.Lists.{index_step}
 use Rattle.traced_runs.proofs.sequences.push_ends.Goals as goal
 

@@ -1,6 +1,6 @@
 use Rattle.std.proofs.Common.{◌≡◌, ◌++◌, take}
 use Rattle.std.specs.List.{flat_map}
-use Rattle.run_texts.specs.Traces.{ends_line}
+use Rattle.trace_text.specs.Traces.{ends_line}
 use Rattle.traced_runs.proofs.sequences.push_ends.Given as goal
 
 -- the lines of the acts so far

@@ -1,7 +1,7 @@
 use Rattle.std.proofs.Common.{◌≡◌, List, IfErr, IfOk, Some, [], subst, sym, ◌∙◌}
 use Rattle.mach_types.specs.Limits.{InRange}
 use Rattle.block_model.specs.Setting.{Seen}
-use Rattle.event_facts.specs.declared.facts.Fact.{Fact}
+use Rattle.fact_types.specs.declared.facts.Fact.{Fact}
 use Rattle.whole_runs.specs.Asks.{ask_of}
 use Rattle.whole_runs.specs.BadLines.{line_fault}
 use Rattle.traced_runs.specs.Tracing.{IsMadeLine}

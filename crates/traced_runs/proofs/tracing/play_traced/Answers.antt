@@ -1,7 +1,7 @@
 use Rattle.std.proofs.Common.{◌∙◌, ◌++◌, List, ℕ, ap}
 use Rattle.block_model.specs.Deciding.{history}
 use Rattle.block_model.specs.Setting.{Seen}
-use Rattle.run_texts.specs.Traces.{open_text, trace_tail, trace_text}
+use Rattle.trace_text.specs.Traces.{open_text, trace_tail, trace_text}
 use Rattle.script_runs.proofs.Playing.{playing-start}
 use Rattle.traced_runs.proofs.ToldLogs.{told_at_start}
 use Rattle.traced_runs.proofs.tracing.play_traced.Goals as goal

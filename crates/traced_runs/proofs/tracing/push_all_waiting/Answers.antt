@@ -4,7 +4,7 @@ use Rattle.mach_types.specs.declared.threads.ThreadState.{ThreadState}
 use Rattle.block_model.specs.Deciding.{history}
 use Rattle.block_model.specs.History.{kernel}
 use Rattle.event_facts.specs.Threads.{state_behind}
-use Rattle.run_texts.specs.Traces.{waiting_line, waiting_text}
+use Rattle.trace_text.specs.Traces.{waiting_line, waiting_text}
 use Rattle.place_text.proofs.Lists.{all_numbers, range_step}
 use Rattle.traced_runs.proofs.tracing.push_all_waiting.Goals as goal
 

@@ -3,7 +3,7 @@ use Rattle.std.specs.List.{flat_map, range_with_len}
 use Rattle.block_model.specs.Deciding.{history}
 use Rattle.block_model.specs.History.{kernel}
 use Rattle.event_facts.specs.Threads.{state_behind}
-use Rattle.run_texts.specs.Traces.{waiting_line}
+use Rattle.trace_text.specs.Traces.{waiting_line}
 use Rattle.traced_runs.proofs.tracing.push_all_waiting.Given as goal
 
 -- the numbers so far

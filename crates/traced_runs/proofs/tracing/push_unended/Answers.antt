@@ -1,7 +1,7 @@
 use Rattle.std.proofs.Common.{◌++◌, ◌∙◌, List, ap}
 use Rattle.std.specs.List.{flat_map}
 use Rattle.block_view.specs.declared.forms.Act.{Act}
-use Rattle.run_texts.specs.Traces.{ends_line}
+use Rattle.trace_text.specs.Traces.{ends_line}
 use Rattle.traced_runs.proofs.tracing.push_unended.Goals as goal
 
 pub returns : goal.returns

@@ -1,6 +1,5 @@
-use Rattle.std.proofs.Common.{◌≡◌, ◌<◌, ◌≤◌, false, true, length, is_ok, arith}
+use Rattle.std.proofs.Common.{◌≡◌, ◌<◌, ◌≤◌, true, length, is_ok, arith}
 use Rattle.std.specs.Vec.{vec_len, vec_capacity}
-use Rattle.std.proofs.lemmas.List.{length-set}
 use Rattle.frame_pool.proofs.LaidOut.{given-laid, given-shown, held-room, held-within}
 use Rattle.frame_pool.proofs.pool.FramePool.give.Goals as goal
 
@@ -17,20 +16,17 @@ invariant_of-self c =
     let enough : p.frames ≤ vec_capacity p.free = c.self.invariant.1.stack in
     let space : vec_len p.free < vec_capacity p.free = omega (arith, p.free.ok.0) in
     let ok : is_ok c.push.result ≡ true = c.push.ensures.succeeds space in
-    let pushed = rw ok at c.push.ensures.items in
-    let few : length p.region.items ≤ length p.taken.items = c.self.invariant.2 in (
-      rw (length-set p.taken.items c.into_number-number.result false)
-          (given-laid c.self.view_is c.self.invariant.0 c.args.frame c.requires c.into_number-number.result c.push.new.self.items
-          c.into_number-number.ensures pushed),
+    let pushed = rw ok at c.push.ensures.items in (
+      given-laid c.self.view_is c.self.invariant.0 c.args.frame c.requires c.into_number-number.result c.push.new.self.items
+          c.into_number-number.ensures pushed,
       record {
         bytes = c.self.invariant.1.bytes;
+        written = c.self.invariant.1.written;
         marks = c.self.invariant.1.marks;
         stack = omega (arith, c.push.ensures.capacity);
       },
-      rw (length-set p.taken.items c.into_number-number.result false) few,
+      c.self.invariant.2,
     )
 
 pub returns : goal.returns
-returns c =
-    rw (length-set c.self.inside.taken.items c.into_number-number.result false)
-    (given-shown c.self.view_is c.self.invariant.0 c.args.frame c.requires c.into_number-number.result c.into_number-number.ensures)
+returns c = given-shown c.self.view_is c.self.invariant.0 c.args.frame c.requires c.into_number-number.result c.into_number-number.ensures

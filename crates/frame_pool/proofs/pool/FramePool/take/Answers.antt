@@ -1,9 +1,9 @@
-use Rattle.std.proofs.Common.{◌≡◌, ◌+◌, ◌<◌, ◌≤◌, true, is_ok, length, slice_get, refl, sym, ap, ◌∙◌, ◌++◌, ◌∷◌, [], List, ℕ, arith, length-append}
+use Rattle.std.proofs.Common.{◌≡◌, ◌+◌, ◌<◌, ◌≤◌, Bool, false, true, is_ok, length, slice_get, refl, sym, ap, ◌∙◌, ◌++◌, ◌∷◌, [], List, ℕ, subst, arith, length-append}
 use Rattle.std.specs.Vec.{vec_capacity}
-use Rattle.std.proofs.lemmas.List.{length-set, nil_from_length}
+use Rattle.std.proofs.lemmas.List.{nil_from_length}
 use Rattle.frame_pool.proofs.LaidOut.{free_count-is, last-counted, last-free, last-within, next-free, next-laid, next-shown, taken-laid, taken-shown}
-use Rattle.frame_pool.proofs.Zeros.{with_zeros-clear, with_zeros-more}
-use Rattle.frame_pool.specs.Layout.{with_zeros}
+use Rattle.frame_pool.proofs.Shown.{length-shown, shown-cleared, shown-more, stored-cleared, stored-more}
+use Rattle.frame_pool.specs.Layout.{AreStored, bytes_shown}
 use Rattle.frame_pool.specs.Pool.{free_count, fresh}
 use Rattle.frame_pool.proofs.pool.FramePool.take.Goals as goal
 
@@ -14,20 +14,28 @@ index_mut-requires c =
     last-within c.self.view_is c.self.invariant.0 c.pop.new.self.items c.in-Some.number c.in-Some.ensures.items in
     omega (arith, p.taken.ok.0)
 
+pub index_mut-requires-in-Some : goal.index_mut-requires-in-Some
+index_mut-requires-in-Some c =
+    let p = c.self.inside in
+    let within : c.in-Some.number < length p.taken.items =
+    last-within c.self.view_is c.self.invariant.0 c.pop.new.self.items c.in-Some.number c.in-Some.ensures.items in
+    let marks : length (bytes_shown p.written.items p.region.items) ≡ length p.taken.items = c.self.invariant.0.marks in
+    omega (arith, p.written.ok.0, length-shown p.written.items p.region.items)
+
 pub invariant_of-self : goal.invariant_of-self
 invariant_of-self c =
     let p = c.self.inside in
     let n = c.in-Some.number in
-    let enough : p.frames ≤ vec_capacity p.free = c.self.invariant.1.stack in
-    let few : length p.region.items ≤ length p.taken.items = c.self.invariant.2 in (
-      rw (c.clear.ensures.items, length-set p.taken.items n true, with_zeros-clear (length p.taken.items) p.region.items n)
+    let enough : p.frames ≤ vec_capacity p.free = c.self.invariant.1.stack in (
+      rw (shown-cleared p.written.items p.region.items n)
           (taken-laid c.self.view_is c.self.invariant.0 c.pop.new.self.items n c.in-Some.ensures.items fresh),
       record {
-        bytes = let more : p.frames ≤ vec_capacity p.region = c.self.invariant.1.bytes in omega (arith, c.clear.ensures.capacity);
+        bytes = c.self.invariant.1.bytes;
+        written = c.self.invariant.1.written;
         marks = c.self.invariant.1.marks;
         stack = omega (arith, c.in-Some.ensures.capacity);
       },
-      rw (c.clear.ensures.items, length-set p.taken.items n true, length-set p.region.items n fresh) few,
+      stored-cleared p.written.items p.region.items n c.self.invariant.2,
     )
 
 pub returns-in-Some-clause-none : goal.returns-in-Some-clause-none
@@ -45,7 +53,7 @@ pub returns-in-Some-clause-taken : goal.returns-in-Some-clause-taken
 returns-in-Some-clause-taken c =
     let p = c.self.inside in
     let n = c.in-Some.number in
-    rw (c.clear.ensures.items, length-set p.taken.items n true, with_zeros-clear (length p.taken.items) p.region.items n)
+    rw (shown-cleared p.written.items p.region.items n)
     (taken-shown c.self.view_is c.self.invariant.0 c.pop.new.self.items n c.in-Some.ensures.items c.new.result
     fresh fresh (sym c.new.ensures) refl)
 
@@ -60,36 +68,37 @@ returns-then-number-self-clause-none c =
 pub invariant_of-self-2 : goal.invariant_of-self-2
 invariant_of-self-2 c =
     let p = c.self.inside in
-    let shown : List (List ℕ) = with_zeros (length p.taken.items) p.region.items in
+    let shown : List (List ℕ) = bytes_shown p.written.items p.region.items in
     let marks : length shown ≡ length p.taken.items = c.self.invariant.0.marks in
     let within : length shown ≤ p.frames = c.self.invariant.0.within in
     let more : length shown < p.frames = omega (arith, p.taken.ok.0, c.len-number.ensures) in
     let none : length p.free.items ≡ 0 = omega (arith, p.free.ok.0, c.in_default.ensures.cases.0) in
     let still : length c.pop.new.self.items ≡ 0 = omega (arith, c.pop.new.self.ok.0, c.in_default.ensures.cases.1) in
-    let enough : p.frames ≤ vec_capacity p.region = c.self.invariant.1.bytes in
     let fits : p.frames ≤ vec_capacity p.taken = c.self.invariant.1.marks in
     let roomy : p.frames ≤ vec_capacity p.free = c.self.invariant.1.stack in
-    let few : length p.region.items ≤ length p.taken.items = c.self.invariant.2 in
     let ok : is_ok c.push.result ≡ true = c.push.ensures.succeeds (omega (arith, p.taken.ok.0)) in
     let marked = rw ok at c.push.ensures.items in
-    let size : length c.push.new.self.items ≡ length p.taken.items + 1 = ap length marked ∙ length-append p.taken.items (true ∷ []) in
-    let pushed : with_zeros (length c.push.new.self.items) p.region.items ≡ shown ++ fresh ∷ [] =
-    ap (λ (k : ℕ). with_zeros k p.region.items) size ∙ with_zeros-more (length p.taken.items) p.region.items few in (
+    let unwritten : p.frames ≤ vec_capacity p.written = c.self.invariant.1.written in
+    let well : is_ok c.push-2.result ≡ true = c.push-2.ensures.succeeds (omega (arith, p.written.ok.0, length-shown p.written.items p.region.items)) in
+    let unmarked = rw well at c.push-2.ensures.items in
+    let pushed : bytes_shown c.push-2.new.self.items p.region.items ≡ shown ++ fresh ∷ [] =
+    ap (λ (ws : List Bool). bytes_shown ws p.region.items) unmarked ∙ shown-more p.written.items p.region.items in (
       next-laid c.self.view_is c.self.invariant.0 (nil_from_length p.free.items none) more fresh
-          (with_zeros (length c.push.new.self.items) p.region.items) c.push.new.self.items pushed marked c.pop.new.self.items
+          (bytes_shown c.push-2.new.self.items p.region.items) c.push.new.self.items pushed marked c.pop.new.self.items
           (nil_from_length c.pop.new.self.items still),
       record {
-        bytes = enough;
+        bytes = c.self.invariant.1.bytes;
+        written = omega (arith, c.push-2.ensures.capacity);
         marks = omega (arith, c.push.ensures.capacity);
         stack = omega (arith, c.in_default.ensures.capacity);
       },
-      omega arith,
+      subst (λ (ws : List Bool). AreStored ws p.region.items) (sym unmarked) (stored-more p.written.items p.region.items c.self.invariant.2),
     )
 
 pub returns-clause-was_free : goal.returns-clause-was_free
 returns-clause-was_free c =
     let p = c.self.inside in
-    let shown : List (List ℕ) = with_zeros (length p.taken.items) p.region.items in
+    let shown : List (List ℕ) = bytes_shown p.written.items p.region.items in
     let marks : length shown ≡ length p.taken.items = c.self.invariant.0.marks in
     let within : length shown ≤ p.frames = c.self.invariant.0.within in
     let place : c.new-2.result ≡ length shown = c.new-2.ensures ∙ c.len-number.ensures ∙ p.taken.ok.0 ∙ sym marks in
@@ -100,18 +109,19 @@ returns-clause-was_free c =
 pub returns-clause-taken : goal.returns-clause-taken
 returns-clause-taken c =
     let p = c.self.inside in
-    let shown : List (List ℕ) = with_zeros (length p.taken.items) p.region.items in
+    let shown : List (List ℕ) = bytes_shown p.written.items p.region.items in
     let marks : length shown ≡ length p.taken.items = c.self.invariant.0.marks in
     let within : length shown ≤ p.frames = c.self.invariant.0.within in
     let place : c.new-2.result ≡ length shown = c.new-2.ensures ∙ c.len-number.ensures ∙ p.taken.ok.0 ∙ sym marks in
     let more : length shown < p.frames = omega (arith, p.taken.ok.0, c.len-number.ensures) in
     let none : length p.free.items ≡ 0 = omega (arith, p.free.ok.0, c.in_default.ensures.cases.0) in
     let fits : p.frames ≤ vec_capacity p.taken = c.self.invariant.1.marks in
-    let few : length p.region.items ≤ length p.taken.items = c.self.invariant.2 in
     let ok : is_ok c.push.result ≡ true = c.push.ensures.succeeds (omega (arith, p.taken.ok.0)) in
     let marked = rw ok at c.push.ensures.items in
-    let size : length c.push.new.self.items ≡ length p.taken.items + 1 = ap length marked ∙ length-append p.taken.items (true ∷ []) in
-    let pushed : with_zeros (length c.push.new.self.items) p.region.items ≡ shown ++ fresh ∷ [] =
-    ap (λ (k : ℕ). with_zeros k p.region.items) size ∙ with_zeros-more (length p.taken.items) p.region.items few in
+    let unwritten : p.frames ≤ vec_capacity p.written = c.self.invariant.1.written in
+    let well : is_ok c.push-2.result ≡ true = c.push-2.ensures.succeeds (omega (arith, p.written.ok.0, length-shown p.written.items p.region.items)) in
+    let unmarked = rw well at c.push-2.ensures.items in
+    let pushed : bytes_shown c.push-2.new.self.items p.region.items ≡ shown ++ fresh ∷ [] =
+    ap (λ (ws : List Bool). bytes_shown ws p.region.items) unmarked ∙ shown-more p.written.items p.region.items in
     next-shown c.self.view_is c.self.invariant.0 (nil_from_length p.free.items none) more fresh
-    (with_zeros (length c.push.new.self.items) p.region.items) c.push.new.self.items pushed marked c.new-2.result fresh (sym place) refl
+    (bytes_shown c.push-2.new.self.items p.region.items) c.push.new.self.items pushed marked c.new-2.result fresh (sym place) refl

@@ -9,13 +9,16 @@ empty_there : (rows : List Row) (log : List Entry) → log ≡ [] → Contains (
 empty_there rows log none = subst (λ (l : List Entry). Contains (logs_of rows) l) (sym none) (has_first rows)
 
 pub returns-in-Err-clause-nearest : goal.returns-in-Err-clause-nearest
-returns-in-Err-clause-nearest c = empty_there c.args.self.now.visited.rows.items c.none-unknown.result.nearest.items c.none-unknown.ensures.nearest
+returns-in-Err-clause-nearest c = empty_there c.args.self.now.visited.rows.items c.unknown-unknown.result.hopeless.nearest.items c.unknown-unknown.ensures
 
 pub returns-in-Places-clause-nearest : goal.returns-in-Places-clause-nearest
-returns-in-Places-clause-nearest c = empty_there c.args.self.now.visited.rows.items c.none-unknown.result.nearest.items c.none-unknown.ensures.nearest
+returns-in-Places-clause-nearest c = empty_there c.args.self.now.visited.rows.items c.unknown-unknown.result.hopeless.nearest.items c.unknown-unknown.ensures
 
 pub returns-in-Deep-clause-nearest : goal.returns-in-Deep-clause-nearest
-returns-in-Deep-clause-nearest c = empty_there c.args.self.now.visited.rows.items c.none-unknown.result.nearest.items c.none-unknown.ensures.nearest
+returns-in-Deep-clause-nearest c = empty_there c.args.self.now.visited.rows.items c.unknown-unknown.result.hopeless.nearest.items c.unknown-unknown.ensures
 
 pub returns-in-Memory-clause-nearest : goal.returns-in-Memory-clause-nearest
-returns-in-Memory-clause-nearest c = empty_there c.args.self.now.visited.rows.items c.none-unknown.result.nearest.items c.none-unknown.ensures.nearest
+returns-in-Memory-clause-nearest c = empty_there c.args.self.now.visited.rows.items c.unknown-unknown.result.hopeless.nearest.items c.unknown-unknown.ensures
+
+pub returns-in-Within-clause-nearest : goal.returns-in-Within-clause-nearest
+returns-in-Within-clause-nearest c = empty_there c.args.self.now.visited.rows.items c.unknown-unknown.result.hopeless.nearest.items c.unknown-unknown.ensures

@@ -1,7 +1,7 @@
 use Rattle.std.proofs.Common.{ℕ, List, Contains, sym, subst, arith}
 use Rattle.std.proofs.lemmas.List.Elements.{Contains-push}
 use Rattle.place_search.specs.Logs.{logs_of}
-use Rattle.place_search.specs.Searching.{setting_for}
+use Rattle.place_search.specs.Searching.{setting_for, ways_of}
 use Rattle.place_search.specs.Visiting.{AreEndsFound}
 use Rattle.place_search.specs.declared.visited.Visited.{Visited}
 use Rattle.place_search.proofs.Graphs.{end_added, end_more, equal_graph, more_graph, same_items}
@@ -36,10 +36,11 @@ returns-then-is_some-clause-searching c =
       visited = searching.visited;
       started = searching.started;
       code = searching.code;
-      graph = end_added (setting_for c.args.task.now) c.args.task.now.settle logs x.graph c.add_end.new.self c.args.place c.in_ok-add_end.ensures.edges c.in_ok-add_end.ensures.ok
+      graph = end_added (setting_for c.args.task.now) (ways_of c.args.task.now) logs x.graph c.add_end.new.self c.args.place c.in_ok-add_end.ensures.edges c.in_ok-add_end.ensures.ok
           (ended_at c.args.task.now x c.in_ok-from.from c.args.place c.in_ok-from.ensures.reached c.in_ok-from.ensures.place c.if-is_some.ensures) searching.graph;
       few = searching.few;
       single = searching.single;
+      paid = searching.paid;
     }
 
 pub returns-then-is_some-clause-graph : goal.returns-then-is_some-clause-graph
@@ -47,6 +48,10 @@ returns-then-is_some-clause-graph c =
     let g = c.reach.new.self.graph in
     more_graph c.args.self.now.graph g c.add_end.new.self (equal_graph c.args.self.now.graph g c.in_ok-from.ensures.graph)
     (end_more g c.add_end.new.self c.args.place c.in_ok-add_end.ensures.edges c.in_ok-add_end.ensures.ok)
+
+pub returns-then-is_some-clause-ends : goal.returns-then-is_some-clause-ends
+returns-then-is_some-clause-ends c = λ not ends.
+    subst (λ (v : Visited). AreEndsFound (setting_for c.args.task.now) v) (sym c.in_ok-from.ensures.visited) ends
 
 pub returns-then-is_some-clause-expanded : goal.returns-then-is_some-clause-expanded
 returns-then-is_some-clause-expanded c = λ shallow.
@@ -62,7 +67,7 @@ returns-then-len-task-clause-searching c =
     let x = c.reach.new.self in
     let searching = c.in_ok-from.ensures.searching in
     let at = at_limit_of c.args.task.now x c.in_ok-from.from searching c.in_ok-from.ensures.reached (c.if-is_some.ensures) (omega arith) in
-    record { visited = deep_has (setting_for c.args.task.now) x.made.start x.visited c.in_ok-from.from.log.items searching.visited at.0 at.1; started = searching.started; code = searching.code; graph = searching.graph; few = searching.few; single = searching.single }
+    record { visited = deep_has (setting_for c.args.task.now) c.args.task.now.signals x.made.start x.visited c.in_ok-from.from.log.items searching.visited at.0 at.1; started = searching.started; code = searching.code; graph = searching.graph; few = searching.few; single = searching.single; paid = searching.paid }
 
 pub returns-then-len-task-clause-more : goal.returns-then-len-task-clause-more
 returns-then-len-task-clause-more c = deep_more c.args.self.now.visited c.reach.new.self.visited (equal_more c.args.self.now.visited c.reach.new.self.visited c.in_ok-from.ensures.visited)

@@ -11,23 +11,23 @@ stand_after-requires-clause-run c =
     let s = setting_for c.args.task.now in
     let x = c.args.self.now in
     subst (IsBlockRun s) (sym c.deref-2.ensures.value)
-    (run_at s x.made.start x.visited c.args.place c.in_ok-log.log.items c.requires.searching.visited c.requires.place
+    (run_at s c.args.task.now.signals x.made.start x.visited c.args.place c.in_ok-log.log.items c.requires.searching.visited c.requires.place
     (c.in_ok-log.ensures ∙ ap (λ (rows : List Row). log_at rows c.args.place) c.deref.ensures.value))
 
 pub returns-in_err-stand_after-clause-searching : goal.returns-in_err-stand_after-clause-searching
 returns-in_err-stand_after-clause-searching c =
     let x = c.args.self.now in
     let kept = c.in_err-stand_after.ensures in
-    searching_on c.args.task.now x (record { visited = x.visited; graph = x.graph; made = c.stand_after.new.self; moved = true }) c.requires.searching refl refl kept.start kept.total kept.code
+    searching_on c.args.task.now x (record { visited = x.visited; graph = x.graph; made = c.stand_after.new.self; moved = true }) c.requires.searching refl refl kept.start kept.code
 
 pub returns-in_err-sights-clause-searching : goal.returns-in_err-sights-clause-searching
 returns-in_err-sights-clause-searching c =
     let x = c.args.self.now in
     let kept = c.in_ok-stand_after.ensures in
-    searching_on c.args.task.now x (record { visited = x.visited; graph = x.graph; made = c.stand_after.new.self; moved = false }) c.requires.searching refl refl kept.start kept.total kept.code
+    searching_on c.args.task.now x (record { visited = x.visited; graph = x.graph; made = c.stand_after.new.self; moved = false }) c.requires.searching refl refl kept.start kept.code
 
 pub returns-clause-searching : goal.returns-clause-searching
 returns-clause-searching c =
     let x = c.args.self.now in
     let kept = c.in_ok-stand_after.ensures in
-    searching_on c.args.task.now x (record { visited = x.visited; graph = x.graph; made = c.stand_after.new.self; moved = false }) c.requires.searching refl refl kept.start kept.total kept.code
+    searching_on c.args.task.now x (record { visited = x.visited; graph = x.graph; made = c.stand_after.new.self; moved = false }) c.requires.searching refl refl kept.start kept.code

@@ -1,6 +1,6 @@
-use Rattle.std.proofs.Common.{◌≡◌, ℕ, ◌<◌, ◌≤◌, ◌+◌, ◌-◌, false, length}
-use Rattle.place_search.specs.Logs.{log_at, logs_of}
-use Rattle.place_search.specs.Searching.{IsExpanded, IsSearching, setting_for}
+use Rattle.std.proofs.Common.{◌≡◌, ◌≤◌, ◌+◌, ◌-◌, false, length}
+use Rattle.place_search.specs.Searching.{IsSearching, setting_for}
+use Rattle.place_search.proofs.Steps.{AreExpanded}
 use Rattle.place_search.specs.Visiting.{AreEndsFound}
 use Rattle.place_search.proofs.trying.Searcher.run.Given as goal
 
@@ -10,7 +10,7 @@ invariant-places g l = record {
   searching : IsSearching l.task l.self;
   ends : AreEndsFound (setting_for l.task) l.self.visited;
   place : l.place ≤ length l.self.visited.rows.items + 1;
-  expanded : l.self.visited.deep ≡ false → (k : ℕ) → k < l.place → IsExpanded (setting_for l.task) l.task.settle (logs_of l.self.visited.rows.items) l.self.graph k (log_at l.self.visited.rows.items k);
+  expanded : l.self.visited.deep ≡ false → AreExpanded l.task l.self l.place;
 }
 
 abbrev pub decreases-places : goal.decreases-places

@@ -1,8 +1,7 @@
 use Rattle.std.proofs.Common.{ℕ, All, ap, subst, arith, below_more}
 use Rattle.mach_types.specs.Kernel.Scheduling.{Scheduling}
 use Rattle.block_model.specs.Plain.{plain_after}
-use Rattle.place_search.specs.Logs.{logs_of}
-use Rattle.place_search.specs.Searching.{IsTriedAt, setting_for}
+use Rattle.place_search.specs.Searching.{IsTriedWhereDue, setting_for}
 use Rattle.place_search.specs.declared.stop.Stop.TheVariants.{Memory}
 use Rattle.place_search.proofs.Stops.{passed_on}
 use Rattle.place_search.proofs.Graphs.{more_graph, same_graph}
@@ -27,22 +26,19 @@ loop-hart-init c = record {
 
 pub loop-hart-preserved : goal.loop-hart-preserved
 loop-hart-preserved c =
-    let s = setting_for c.args.task.now in
     let before = c.loop-hart.self.visited in
     let after = c.try_hart.new.self.visited in
     let g = c.loop-hart.self.graph in
     let g' = c.try_hart.new.self.graph in
-    let place = c.args.from.now.place in
-    let log = c.args.from.now.log.items in
     let choices = c.in_ok-choices.choices.items in
     let inv = c.loop-hart.invariant in
-    let P : ℕ → Type 0 = λ h. All (IsTriedAt s c.args.task.now.settle (logs_of after.rows.items) g' place log h) choices in
+    let P : ℕ → Type 0 = λ h. All (IsTriedWhereDue c.args.task.now c.try_hart.new.self c.args.from.now h) choices in
     record {
       going = c.in_ok-try_hart.ensures.open;
       more = more_more c.args.self.now.visited before after inv.more c.in_ok-try_hart.ensures.more;
       grown = more_graph c.args.self.now.graph g g' inv.grown c.in_ok-try_hart.ensures.graph;
-      tried = below_more P c.loop-hart.hart (λ h lt. all_stay s c.args.task.now.settle before after g g' place log h choices c.in_ok-try_hart.ensures.more c.in_ok-try_hart.ensures.graph (inv.tried h lt))
-          (subst (All (IsTriedAt s c.args.task.now.settle (logs_of after.rows.items) g' place log c.loop-hart.hart)) c.deref.ensures.value c.in_ok-try_hart.ensures.tried);
+      tried = below_more P c.loop-hart.hart (λ h lt. all_stay c.args.task.now c.loop-hart.self c.try_hart.new.self c.args.from.now h choices c.in_ok-try_hart.ensures.more c.in_ok-try_hart.ensures.graph (inv.tried h lt))
+          (subst (All (IsTriedWhereDue c.args.task.now c.try_hart.new.self c.args.from.now c.loop-hart.hart)) c.deref.ensures.value c.in_ok-try_hart.ensures.tried);
       ends = λ found. c.in_ok-try_hart.ensures.ends (λ is. absurd cc) (inv.ends found);
     }
 
@@ -53,7 +49,7 @@ returns-clause-expanded c =
     let at = plain_after s log in
     let inv = c.loop-hart.invariant in
     let stands = c.requires.open.stands c.requires.there in
-    expanded_by s c.args.task.now.settle (logs_of c.loop-hart.self.visited.rows.items) c.loop-hart.self.graph c.args.from.now.place log c.in_ok-choices.choices.items c.args.self.now.made.parts.kernel.ready.order
+    expanded_by c.args.task.now c.loop-hart.self c.args.from.now c.in_ok-choices.choices.items c.args.self.now.made.parts.kernel.ready.order
     (open_run c.args.task.now c.loop-hart.self c.args.from.now inv.going) c.requires.open.goes c.requires.open.room (ap (λ (sc : Scheduling). sc.order) stands.tables.scheduling) c.in_ok-choices.ensures
     (λ choice tables tried. c.all_choices_are_listed.ensures s.limits.harts at.kernel.threads at.kernel.scheduling choice tables tried)
     (λ h lt. inv.tried h (omega (arith, lt)))

@@ -1,7 +1,6 @@
 use Rattle.std.proofs.Common.{ℕ, ◌<◌, All}
 use Rattle.place_search.specs.Graphs.{IsWithMore}
-use Rattle.place_search.specs.Logs.{logs_of}
-use Rattle.place_search.specs.Searching.{IsOpenAt, IsTriedAt, setting_for}
+use Rattle.place_search.specs.Searching.{IsOpenAt, IsTriedWhereDue, setting_for}
 use Rattle.place_search.specs.Visiting.{AreEndsFound, IsMore}
 use Rattle.place_search.proofs.trying.Searcher.try_all.Given as goal
 
@@ -11,6 +10,6 @@ invariant-loop-hart l = record {
   going : IsOpenAt l.task l.self l.from;
   more : IsMore l.initial.self.visited l.self.visited;
   grown : IsWithMore l.initial.self.graph l.self.graph;
-  tried : (h : ℕ) → h < l.hart → All (IsTriedAt (setting_for l.task) l.task.settle (logs_of l.self.visited.rows.items) l.self.graph l.from.place l.from.log.items h) l.choices.items;
+  tried : (h : ℕ) → h < l.hart → All (IsTriedWhereDue l.task l.self l.from h) l.choices.items;
   ends : AreEndsFound (setting_for l.task) l.initial.self.visited → AreEndsFound (setting_for l.task) l.self.visited;
 }

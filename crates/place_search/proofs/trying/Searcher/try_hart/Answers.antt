@@ -2,8 +2,7 @@ use Rattle.std.proofs.Common.{◌≡◌, All, take, subst}
 use Rattle.std.proofs.lemmas.List.{take_all}
 use Rattle.std.proofs.lemmas.List.Elements.{All-more, All-nil}
 use Rattle.mach_types.specs.declared.events.Choice.TheVariants as asked
-use Rattle.place_search.specs.Logs.{logs_of}
-use Rattle.place_search.specs.Searching.{IsTriedAt, setting_for}
+use Rattle.place_search.specs.Searching.{IsTriedWhereDue}
 use Rattle.place_search.specs.declared.stop.Stop.TheVariants.{Memory}
 use Rattle.place_search.proofs.Stops.{passed_on}
 use Rattle.place_search.proofs.Graphs.{more_graph, same_graph}
@@ -16,43 +15,40 @@ loop-choice-init c = record {
   going = c.requires.open;
   more = same_more c.args.self.now.visited;
   grown = same_graph c.args.self.now.graph;
-  tried = All-nil (IsTriedAt (setting_for c.args.task.now) c.args.task.now.settle (logs_of c.args.self.now.visited.rows.items) c.args.self.now.graph c.args.from.now.place c.args.from.now.log.items c.args.hart.0);
+  tried = All-nil (IsTriedWhereDue c.args.task.now c.args.self.now c.args.from.now c.args.hart.0);
   ends = λ found. found;
 }
 
 pub loop-choice-preserved : goal.loop-choice-preserved
 loop-choice-preserved c =
-    let s = setting_for c.args.task.now in
     let before = c.loop-choice.self.visited in
-    let after = c.try_one.new.self.visited in
+    let after = c.try_in_time.new.self.visited in
     let g = c.loop-choice.self.graph in
-    let g' = c.try_one.new.self.graph in
-    let place = c.args.from.now.place in
-    let log = c.args.from.now.log.items in
+    let g' = c.try_in_time.new.self.graph in
     let i = c.loop-choice.choice-index in
     let inv = c.loop-choice.invariant in
     record {
-      going = c.in_ok-try_one.ensures.open;
-      more = more_more c.args.self.now.visited before after inv.more c.in_ok-try_one.ensures.more;
-      grown = more_graph c.args.self.now.graph g g' inv.grown c.in_ok-try_one.ensures.graph;
-      tried = All-more (IsTriedAt s c.args.task.now.settle (logs_of after.rows.items) g' place log c.args.hart.0) c.args.choices.now i asked.Exec c.loop-choice-test.true
-          (all_stay s c.args.task.now.settle before after g g' place log c.args.hart.0 (take i c.args.choices.now) c.in_ok-try_one.ensures.more c.in_ok-try_one.ensures.graph inv.tried) c.in_ok-try_one.ensures.tried;
-      ends = λ found. c.in_ok-try_one.ensures.ends (λ is. absurd cc) (inv.ends found);
+      going = c.in_ok-try_in_time.ensures.open;
+      more = more_more c.args.self.now.visited before after inv.more c.in_ok-try_in_time.ensures.more;
+      grown = more_graph c.args.self.now.graph g g' inv.grown c.in_ok-try_in_time.ensures.graph;
+      tried = All-more (IsTriedWhereDue c.args.task.now c.try_in_time.new.self c.args.from.now c.args.hart.0) c.args.choices.now i asked.Exec c.loop-choice-test.true
+          (all_stay c.args.task.now c.loop-choice.self c.try_in_time.new.self c.args.from.now c.args.hart.0 (take i c.args.choices.now) c.in_ok-try_in_time.ensures.more c.in_ok-try_in_time.ensures.graph inv.tried) c.in_ok-try_in_time.ensures.tried;
+      ends = λ found. c.in_ok-try_in_time.ensures.ends (λ is. absurd cc) (inv.ends found);
     }
 
-pub returns-in_err-try_one-clause-more : goal.returns-in_err-try_one-clause-more
-returns-in_err-try_one-clause-more c =
-    more_more c.args.self.now.visited c.loop-choice.self.visited c.try_one.new.self.visited c.loop-choice.invariant.more c.in_err-try_one.ensures.more
+pub returns-in_err-try_in_time-clause-more : goal.returns-in_err-try_in_time-clause-more
+returns-in_err-try_in_time-clause-more c =
+    more_more c.args.self.now.visited c.loop-choice.self.visited c.try_in_time.new.self.visited c.loop-choice.invariant.more c.in_err-try_in_time.ensures.more
 
-pub returns-in_err-try_one-clause-graph : goal.returns-in_err-try_one-clause-graph
-returns-in_err-try_one-clause-graph c =
-    more_graph c.args.self.now.graph c.loop-choice.self.graph c.try_one.new.self.graph c.loop-choice.invariant.grown c.in_err-try_one.ensures.graph
+pub returns-in_err-try_in_time-clause-graph : goal.returns-in_err-try_in_time-clause-graph
+returns-in_err-try_in_time-clause-graph c =
+    more_graph c.args.self.now.graph c.loop-choice.self.graph c.try_in_time.new.self.graph c.loop-choice.invariant.grown c.in_err-try_in_time.ensures.graph
 
 pub returns-clause-tried : goal.returns-clause-tried
 returns-clause-tried c =
     let all : take c.loop-choice.choice-index c.args.choices.now ≡ c.args.choices.now = take_all c.loop-choice.choice-index c.args.choices.now c.loop-choice-test.false in
-    subst (All (IsTriedAt (setting_for c.args.task.now) c.args.task.now.settle (logs_of c.loop-choice.self.visited.rows.items) c.loop-choice.self.graph c.args.from.now.place c.args.from.now.log.items c.args.hart.0)) all c.loop-choice.invariant.tried
+    subst (All (IsTriedWhereDue c.args.task.now c.loop-choice.self c.args.from.now c.args.hart.0)) all c.loop-choice.invariant.tried
 
-pub returns-in_err-try_one-clause-ends : goal.returns-in_err-try_one-clause-ends
-returns-in_err-try_one-clause-ends c = λ not found.
-    c.in_err-try_one.ensures.ends (λ is. not (passed_on c.from_residual.result c.in_err-try_one.field-0.0 Memory c.from_residual.ensures.1 is)) (c.loop-choice.invariant.ends found)
+pub returns-in_err-try_in_time-clause-ends : goal.returns-in_err-try_in_time-clause-ends
+returns-in_err-try_in_time-clause-ends c = λ not found.
+    c.in_err-try_in_time.ensures.ends (λ is. not (passed_on c.from_residual.result c.in_err-try_in_time.field-0.0 Memory c.from_residual.ensures.1 is)) (c.loop-choice.invariant.ends found)

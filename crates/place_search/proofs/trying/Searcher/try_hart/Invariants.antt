@@ -1,7 +1,6 @@
 use Rattle.std.proofs.Common.{All, take}
 use Rattle.place_search.specs.Graphs.{IsWithMore}
-use Rattle.place_search.specs.Logs.{logs_of}
-use Rattle.place_search.specs.Searching.{IsOpenAt, IsTriedAt, setting_for}
+use Rattle.place_search.specs.Searching.{IsOpenAt, IsTriedWhereDue, setting_for}
 use Rattle.place_search.specs.Visiting.{AreEndsFound, IsMore}
 use Rattle.place_search.proofs.trying.Searcher.try_hart.Given as goal
 
@@ -11,6 +10,6 @@ invariant-loop-choice l = record {
   going : IsOpenAt l.task l.self l.from;
   more : IsMore l.initial.self.visited l.self.visited;
   grown : IsWithMore l.initial.self.graph l.self.graph;
-  tried : All (IsTriedAt (setting_for l.task) l.task.settle (logs_of l.self.visited.rows.items) l.self.graph l.from.place l.from.log.items l.fn.hart.0) (take l.choice-index l.choices);
+  tried : All (IsTriedWhereDue l.task l.self l.from l.fn.hart.0) (take l.choice-index l.choices);
   ends : AreEndsFound (setting_for l.task) l.initial.self.visited → AreEndsFound (setting_for l.task) l.self.visited;
 }

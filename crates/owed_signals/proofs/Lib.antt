@@ -1,0 +1,4 @@
+mod DueChoices
+mod OwedSets
+mod Sets
+mod TrapReadings
