@@ -18,6 +18,7 @@ PYTHON = '/usr/bin/python3' if pathlib.Path('/usr/bin/python3').exists() else sy
 PARTS = ('lens', 'sweep', 'litmus', 'reductions', 'guests', 'compilers', 'musl', 'prove', 'docs')
 CLANG = 'clang'
 PACKAGES = {
+    'lens': {'gdb-multiarch': ('gdb-multiarch',)},
     'compilers': {'riscv64-unknown-elf-gcc': ('gcc-riscv64-unknown-elf',), CLANG: ('clang', 'lld')},
     'musl': {
         'riscv64-linux-gnu-gcc': ('gcc-riscv64-linux-gnu',),

@@ -6,7 +6,7 @@ thread goes on for its answer (`inspect`). What an address points to isn't known
 """
 from __future__ import annotations
 
-from collections.abc import Iterator
+from collections.abc import Iterator, Sequence
 from concurrent.futures import ThreadPoolExecutor
 from dataclasses import dataclass
 from os import cpu_count
@@ -16,6 +16,7 @@ from .history import History
 from .machine import Machine
 from .output import EXEC, PREEMPT, SIGNAL, Step
 from .place import OPEN
+from .program import Program
 
 A0, A7 = 10, 17
 ARGUMENTS = 6
@@ -87,25 +88,30 @@ def registers(history: History, machine: Machine, count: int, hart: int) -> list
 
 def told(history: History, call: Call, text: bytes | None) -> str:
     """A call as strace prints it, and behind it the place where it stands."""
-    form = calls.form_of(call.number, call.arguments)
-    counted = form if form is not None else zip('x' * ARGUMENTS, call.arguments)
-    words = [word(history, kind, value) for kind, value in counted]
+    program = history.program
+    return f'{asked(program, call.number, call.arguments, text)} = {answer_word(program, call)}  ({program.spot(call.step.pc)})'
+
+
+def asked(program: Program, number: int, arguments: Sequence[int], text: bytes | None = None) -> str:
+    """A call with its arguments, of which the second is shown as a text where one is given."""
+    form = calls.form_of(number, arguments)
+    counted = form if form is not None else zip('x' * ARGUMENTS, arguments)
+    words = [word(program, kind, value) for kind, value in counted]
     if text is not None and form:
         words[1] = literal(text)
-    asked = f'{calls.name_of(call.number)}({", ".join(words)})'
-    return f'{asked} = {answer_word(history, call)}  ({history.program.spot(call.step.pc)})'
+    return f'{calls.name_of(number)}({", ".join(words)})'
 
 
-def answer_word(history: History, call: Call) -> str:
+def answer_word(program: Program, call: Call) -> str:
     if call.answer is None:
         return '?'
     if call.is_error:
         error = 2**64 - call.answer
         return f'-1 {calls.ERRORS.get(error, f"error {error}")}'
-    return word(history, calls.ANSWERS.get(call.number, 'd'), call.answer)
+    return word(program, calls.ANSWERS.get(call.number, 'd'), call.answer)
 
 
-def word(history: History, kind: str, value: int) -> str:
+def word(program: Program, kind: str, value: int) -> str:
     """A value as its kind of argument is written."""
     if kind == 'd':
         low = value & 0xFFFF_FFFF
@@ -113,7 +119,7 @@ def word(history: History, kind: str, value: int) -> str:
     if kind == 'u':
         return str(value)
     if kind == 'p':
-        return 'NULL' if value == 0 else history.program.variable(value)
+        return 'NULL' if value == 0 else program.variable(value)
     names = calls.NAMES_OF.get(kind)
     return names(value) if names else f'{value:#x}'
 

@@ -14,17 +14,18 @@ from .atomics import list_atomics
 from .call_list import list_calls
 from .causes import explain
 from .command_line import Parser, add_version, end, natural, no_such, positive
+from .door import GDB, address, make_door, record
 from .faults import LensFault
 from .freed import list_freed
 from .history import History, make_history
 from .listing import CONTEXT, Selection, list_run
 from .machine import Answer, Machine
-from .output import RUN, Output
+from .output import RUN, Outline, Output, outline
 from .picture import draw_run
 from .program import Program
 from .progress import Progress
 from .races import list_races
-from .scripts import Lines, first_unreadable, read_lines
+from .scripts import OUTPUT_BEGINS, Lines, first_unreadable, read_bytes, read_lines, script_lines
 from .sequences import list_sequences
 from .shown_memory import asked, ranges_of, with_names
 from .shrinking import TRIES, Shrinking
@@ -63,6 +64,7 @@ def make_parser() -> argparse.ArgumentParser:
     add_inspect(commands)
     add_steer(commands)
     add_shrink(commands)
+    add_gdb(commands)
     return parser
 
 
@@ -221,6 +223,22 @@ def add_steer(commands) -> None:
     command.set_defaults(action=steer_command)
 
 
+def add_gdb(commands) -> None:
+    command = commands.add_parser(
+        'gdb',
+        help='gdb on the run, forwards and backwards',
+        epilog='Words after -- are for gdb: lens gdb RUN ELF -- -ex "break main".',
+    )
+    add_run_and_elf(command)
+    command.add_argument('--gdb', default=GDB, metavar='GDB', help=f'the gdb that is started ({GDB})')
+    way = command.add_mutually_exclusive_group()
+    way.add_argument(
+        '--listen', type=address, metavar='HOST:PORT', help='start no gdb, and wait there for some, one after another'
+    )
+    way.add_argument('--pipe', action='store_true', help='start no gdb: packets come on standard input')
+    command.set_defaults(action=gdb_command)
+
+
 def add_run_and_elf(command: argparse.ArgumentParser) -> None:
     command.add_argument('run', metavar='RUN', nargs='?')
     command.add_argument('elf', metavar='ELF')
@@ -284,16 +302,23 @@ def machine_of(arguments: argparse.Namespace) -> Machine:
 
 
 def output_of(arguments: argparse.Namespace) -> Output:
+    """The run that is shown, each line of its log read."""
+    return outline_of(arguments).output()
+
+
+def outline_of(arguments: argparse.Namespace) -> Outline:
     """The run that is shown: that of an output text, or of a script, which is played, or that of a seed."""
     if (arguments.run is None) == (arguments.seed is None):
         raise LensFault('either RUN or --seed is wanted')
     if arguments.seed is not None:
-        return machine_of(arguments).draw(arguments.seed)
-    lines = read_lines(arguments.run)
-    return lines.output or played(lines, machine_of(arguments))
+        return machine_of(arguments).draw_outline(arguments.seed)
+    name, text = read_bytes(arguments.run)
+    if text.startswith(OUTPUT_BEGINS):
+        return outline(name, text)
+    return played(script_lines(name, text), machine_of(arguments))
 
 
-def played(lines: Lines, machine: Machine) -> Output:
+def played(lines: Lines, machine: Machine) -> Outline:
     """The run of a script; a fault that says which of its lines is refused, and why."""
     unreadable = first_unreadable(lines.lines)
     if unreadable:
@@ -301,7 +326,7 @@ def played(lines: Lines, machine: Machine) -> Output:
     answer = machine.call('play', lines.text())
     if answer.status:
         raise LensFault(f'{lines.name}: {answer.words()}')
-    return machine.output_of(answer, lines.name)
+    return outline(lines.name, answer.text)
 
 
 def write_out(path: str | None, parts: Iterable[str]) -> None:
@@ -468,6 +493,12 @@ def why_command(arguments: argparse.Namespace) -> None:
     write_rows(explain(history, machine_of(arguments)))
 
 
+def gdb_command(arguments: argparse.Namespace) -> int:
+    door = make_door(arguments.listen, arguments.pipe, arguments.gdb, arguments.gdb_words)
+    outline_, machine, program = outline_of(arguments), machine_of(arguments), read_program(arguments.elf)
+    return door.open(record(outline_, program, machine))
+
+
 def shrink_command(arguments: argparse.Namespace) -> int:
     stop = Stop(arguments.seconds, TRIES)
     with stop.on_signals():
@@ -502,5 +533,15 @@ def main() -> int:
 
 
 def run_command() -> int:
-    arguments = make_parser().parse_args()
+    own, gdb_words = words_apart(sys.argv[1:])
+    arguments = make_parser().parse_args(own)
+    arguments.gdb_words = gdb_words
     return arguments.action(arguments) or 0
+
+
+def words_apart(words: list[str]) -> tuple[list[str], list[str]]:
+    """The words of a command, and those for gdb, which come after `--` of `lens gdb`."""
+    if words[:1] != ['gdb'] or '--' not in words:
+        return words, []
+    at = words.index('--')
+    return words[:at], words[at + 1 :]

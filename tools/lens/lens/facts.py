@@ -360,12 +360,15 @@ READERS: dict[str, Callable[[list[str]], Fact]] = {
 """By the first word of a fact."""
 
 
-@cache
-def fact_of(line: str) -> Fact:
-    """What a line behind its two spaces says. (A run tells the same again and again.)"""
+def read_fact(line: str) -> Fact:
+    """What a line behind its two spaces says."""
     words = line.split(' ')
     reader = READERS.get(words[0])
     try:
         return reader(words) if reader else Other(line)
     except (ValueError, IndexError):
         return Other(line)
+
+
+fact_of = cache(read_fact)
+"""The same. (A run tells the same again and again.)"""

@@ -4,11 +4,15 @@ from __future__ import annotations
 import os
 import subprocess
 import tempfile
+from collections.abc import Iterable, Iterator
+from contextlib import contextmanager
 from dataclasses import dataclass, replace
+from io import BufferedReader
 from pathlib import Path
+from typing import IO, cast
 
 from .faults import LensFault
-from .output import Outline, Output, outline, parse_output
+from .output import Outline, Output, outline
 from .place import Place, parse_place
 from .stopping import Stop
 from .trace_text import Trace, parse_trace
@@ -20,6 +24,10 @@ DONE, USAGE, ELF_REFUSED, SCRIPT_REFUSED = 0, 2, 3, 4
 ADVICE = {ELF_REFUSED: ' (examples/common/rvcc builds a file that is taken: docs/PROGRAMS.md)'}
 UNKNOWN = 'there is no such command'
 SECONDS = 120
+PIECE = 1 << 20
+"""So many bytes of a stream are read at once."""
+FAULT = b'fault '
+"""How the one line begins that the program prints where it refuses."""
 NAME = 'rseq_run'
 """Stands in what the program says of its version."""
 OUTSIDE_SEQUENCES = (b'step', b'kernel')
@@ -46,6 +54,14 @@ class Answer:
         """The status, the text and the first line on standard error, on one line."""
         text = ' '.join(self.text.decode('ascii', 'replace').split())
         return f'status {self.status}, "{text}"{said(self.said.encode())}'
+
+
+class LineRefused(LensFault):
+    """A line of a script is refused."""
+
+    def __init__(self, words: str, line: int):
+        super().__init__(words)
+        self.line = line
 
 
 @dataclass(frozen=True)
@@ -126,10 +142,6 @@ class Machine:
             )
         raise self.fault('trace', answer)
 
-    def output_of(self, answer: Answer, name: str) -> Output:
-        """The run that an answer of status 0 has."""
-        return parse_output(name, answer.text)
-
     def inspect(self, lines: list[str]) -> Place:
         """The place that a script comes to, each line of which is allowed."""
         return self.inspect_script(text_of(lines))
@@ -141,11 +153,55 @@ class Machine:
             return parse_place(answer.text)
         raise self.fault('inspect', answer)
 
+    def place_of(self, script: bytes, words: tuple[str, ...] = ()) -> Place:
+        """The place that a script comes to, with what further words ask for; LineRefused where one of its lines
+        is."""
+        answer = self.call('inspect', script, words=words)
+        if answer.status == DONE:
+            return parse_place(answer.text)
+        raise self.refusal('inspect', answer)
+
+    def text_of(self, command: str, script: bytes, words: tuple[str, ...] = ()) -> str:
+        """What a command prints of a script, each line of which is allowed."""
+        answer = self.call(command, script, words=words)
+        if answer.status != DONE:
+            raise self.fault(command, answer)
+        return answer.text.decode('ascii', 'replace')
+
+    @contextmanager
+    def stream(self, command: str, script: bytes) -> Iterator[Iterable[bytes]]:
+        """The lines that a command prints of a script, each as it comes, so that they needn't all be kept;
+        LineRefused where a line of the script is."""
+        with tempfile.NamedTemporaryFile('wb', suffix='.script') as file, tempfile.TemporaryFile() as said_there:
+            file.write(script)
+            file.flush()
+            text = b''
+            with self.started([command, self.elf, file.name, *self.options], said_there) as ran:
+                lines = cast(BufferedReader, ran.stdout)
+                if lines.peek(1).startswith(FAULT):
+                    text = lines.read()
+                else:
+                    yield lines
+            said_there.seek(0)
+            answer = Answer(ran.returncode, text, said_there.read().decode('utf-8', 'replace'))
+        if answer.status != DONE:
+            raise self.refusal(command, answer)
+
+    def refusal(self, command: str, answer: Answer) -> LensFault:
+        """Why a script has no answer."""
+        refused = answer.refused_line()
+        fault = self.fault(command, answer)
+        return fault if refused is None else LineRefused(f'{fault}', refused)
+
     def draw(self, seed: int) -> Output:
         """The run that a seed draws."""
+        return self.draw_outline(seed).output()
+
+    def draw_outline(self, seed: int) -> Outline:
+        """The same, its log not yet taken apart."""
         answer = self.answer(['draw', self.elf, f'--seed={seed}', *self.options])
         if answer.status == DONE:
-            return parse_output(f'the run of seed {seed}', answer.text)
+            return outline(f'the run of seed {seed}', answer.text)
         raise self.fault('draw', answer)
 
     def fault(self, command: str, answer: Answer) -> LensFault:
@@ -160,6 +216,24 @@ class Machine:
             named = 'RSEQ_RUN or --program names the one that is called'
             raise LensFault(f'{self.program} is another program than rseq_run ({named})')
 
+    def started(self, words: list[str], said_there: IO[bytes]) -> subprocess.Popen[bytes]:
+        """The program while it answers some words."""
+        try:
+            return subprocess.Popen(
+                [self.program, *words],
+                stdin=subprocess.DEVNULL,
+                stdout=subprocess.PIPE,
+                stderr=said_there,
+                bufsize=PIECE,
+                start_new_session=True,
+            )
+        except OSError as error:
+            raise self.absent(error) from None
+
+    def absent(self, error: OSError) -> LensFault:
+        """Why the program can't be called."""
+        return LensFault(f'{self.program}: {error.strerror} (`rt ci` builds it; --program names another)')
+
     def answer(self, words: list[str]) -> Answer:
         """What the program answers to some words."""
         try:
@@ -171,9 +245,7 @@ class Machine:
                 start_new_session=True,  # (Ctrl-C on a terminal is for this program, which says what it has)
             )
         except OSError as error:
-            raise LensFault(
-                f'{self.program}: {error.strerror} (`rt ci` builds it; --program names another)'
-            ) from None
+            raise self.absent(error) from None
         except subprocess.TimeoutExpired:
             raise LensFault(f'{self.program} had not ended after {SECONDS} seconds') from None
         return Answer(ran.returncode, ran.stdout, ran.stderr.decode('utf-8', 'replace'))

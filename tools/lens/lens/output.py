@@ -4,7 +4,7 @@ from __future__ import annotations
 import re
 import sys
 from dataclasses import dataclass
-from functools import cache
+from functools import cache, cached_property
 from pathlib import Path
 from typing import NamedTuple
 
@@ -72,13 +72,13 @@ class Outline:
 
     name: str
     console: bytes
-    lines: list[bytes]
+    log: bytes
+    """The log as it stands in the text, which is a script."""
     end: str
 
-    @property
-    def log(self) -> bytes:
-        """The log as it stands in the text, which is a script."""
-        return b''.join(line + b'\n' for line in self.lines)
+    @cached_property
+    def lines(self) -> list[bytes]:
+        return self.log.split(b'\n')[:-1]
 
     def output(self) -> Output:
         """The same with each line of the log read."""
@@ -130,17 +130,20 @@ class Reader:
         self.rest = self.rest[length + 1 :]
         return console
 
-    def log(self) -> list[bytes]:
+    def log(self) -> bytes:
         if self.rest.startswith(b'console '):
             raise self.fault('it is an output of `pair`, and lens shows the run of one process')
         length = self.number('log')
-        lines = self.rest.split(b'\n', length)
-        if len(lines) <= length:
-            raise self.fault(
-                f'it is cut off: line {len(lines)} of the {length} of its log is due where it ends'
-            )
-        self.rest = lines.pop()
-        return lines
+        last = self.rest.rfind(b'\n', 0, -1) + 1
+        if self.rest.count(b'\n', 0, last) != length:  # (else all but the last line is the log)
+            lines = self.rest.split(b'\n', length)
+            if len(lines) <= length:
+                raise self.fault(
+                    f'it is cut off: line {len(lines)} of the {length} of its log is due where it ends'
+                )
+            last = len(self.rest) - len(lines[-1])
+        found, self.rest = self.rest[:last], self.rest[last:]
+        return found
 
     def end(self) -> str:
         line = self.line('the line of its end')

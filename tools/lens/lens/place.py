@@ -6,6 +6,7 @@ from dataclasses import dataclass, field
 from .output import RUN, SIGNAL, TAKE
 
 OPEN, LIMIT = 'open', 'limit'
+NO_BYTES = 'none'
 WAITING, FULL_BUFFER = 'Waiting', 'FullBuffer'
 
 
@@ -50,11 +51,13 @@ class HartPlace:
 @dataclass
 class ThreadPlace:
     """What a live thread is at: the word at which it waits in a futex, where it does; and the signals that it
-    masks, and those that are pending for it (bit S - 1 is signal S)."""
+    masks, and those that are pending for it (bit S - 1 is signal S); and the pc at which it goes on, where it
+    runs nowhere."""
 
     word: int | None = None
     mask: int = 0
     pending: int = 0
+    pc: int | None = None
 
     def next_signal(self) -> int | None:
         """The lowest signal that can be delivered to it."""
@@ -69,6 +72,8 @@ class Place:
     end: str
     harts: dict[int, HartPlace]
     threads: dict[int, ThreadPlace]
+    memory: dict[int, int] = field(default_factory=dict)
+    """What the 8 bytes from an address on have as a number, where that was asked for and a page is there."""
 
     @property
     def is_over(self) -> bool:
@@ -90,6 +95,8 @@ def parse_place(text: bytes) -> Place:
                 note_may(place.harts[int(hart)], kind, int(thread))
             case ['not', hart, kind, why]:
                 place.harts[int(hart)].why_not[kind] = why
+            case ['memory', at, value] if value != NO_BYTES:
+                place.memory[int(at, 16)] = int(value, 16)
     return place
 
 
@@ -114,6 +121,8 @@ def note_thread(thread: ThreadPlace, fields: list[str]) -> None:
     match fields:
         case ['waiting', word]:
             thread.word = int(word, 16)
+        case ['pc', pc]:
+            thread.pc = int(pc, 16)
         case ['mask', mask, 'pending', pending]:
             thread.mask, thread.pending = int(mask, 16), int(pending, 16)
 

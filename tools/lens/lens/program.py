@@ -5,7 +5,7 @@ import re
 import struct
 from bisect import bisect_right
 from collections.abc import Iterator
-from dataclasses import dataclass
+from dataclasses import dataclass, field
 from functools import cache, cached_property
 
 from elftools.common.exceptions import ELFError
@@ -64,6 +64,8 @@ class Segment:
     start: int
     end: int
     flags: int
+    content: bytes = field(default=b'', repr=False)
+    """What the file has from the start on; behind it all is 0."""
 
     @property
     def rights(self) -> str:
@@ -121,7 +123,12 @@ class Program:
             if segment['p_flags'] & P_FLAGS.PF_X
         ]
         self.segments = [
-            Segment(segment['p_vaddr'], segment['p_vaddr'] + segment['p_memsz'], segment['p_flags'])
+            Segment(
+                segment['p_vaddr'],
+                segment['p_vaddr'] + segment['p_memsz'],
+                segment['p_flags'],
+                segment.data(),
+            )
             for segment in elf.iter_segments('PT_LOAD')
         ]
         self.descriptors = list(descriptors(elf))

@@ -55,6 +55,11 @@ def read_lines(path: str) -> Lines:
     if text.startswith(OUTPUT_BEGINS):
         found = outline(name, text)
         return Lines(name, found.lines, found.output())
+    return script_lines(name, text)
+
+
+def script_lines(name: str, text: bytes) -> Lines:
+    """The lines of a script."""
     lines = text.split(b'\n')
     if lines[-1] == b'':
         lines.pop()

@@ -192,7 +192,7 @@ class Reduced(unittest.TestCase):
         def attempt(stretches):
             if not is_wanted(text_of(stretches)):
                 return None
-            return Run(stretches, [Piece(0, *one) for one in stretches], Outline('it', b'', [], 'exit 1'))
+            return Run(stretches, [Piece(0, *one) for one in stretches], Outline('it', b'', b'', 'exit 1'))
 
         return Trials(attempt, stop or Stop(), Progress(None), at_once)
 

@@ -166,8 +166,9 @@ def wrong_in(text: bytes, ended: Ended) -> str | None:
     """In what the text of a run differs from the outcome that it is to have."""
     reader = Reader('play', text)
     console, log, end = reader.console(), reader.log(), reader.end()
-    if len(log) != (ended.script or b'').count(b'\n'):
-        return f'{len(log)} events were made of its lines'
+    made = log.count(b'\n')
+    if made != (ended.script or b'').count(b'\n'):
+        return f'{made} events were made of its lines'
     if Shown(console, end) == ended.shown:
         return None
     return f'it ended with {end}, and {console!r} on the console'
