@@ -1,5 +1,5 @@
 #!/usr/bin/env python3
-"""Counts in how many drawn runs each example shows its bug, and prints a table for docs/FINDING_A_BUG.md.
+"""Counts in how many drawn runs each example shows its bug, and prints a table for docs/tutorial/FINDING_A_BUG.md.
 
     bench/draws.py [--runs N] [--harts N] [--steps N] [--jobs N] [--program PROGRAM] [NAME ..]
 

@@ -4,7 +4,7 @@
     bench/gate.py [WORD..]
 
 The words are those of `rt ci`; with none they are `--anew` where the kit keeps what passed, so that nothing is taken from earlier runs.
-What `rt ci` prints goes to standard error. On standard output comes a table for docs/PERFORMANCE.md: for each crate, in the order of crates.txt, how many processor
+What `rt ci` prints goes to standard error. On standard output comes a table for docs/reference/PERFORMANCE.md: for each crate, in the order of crates.txt, how many processor
 seconds its proof took, how many wrong bodies it has and what their tries took (with the check that they all begin with), and how many
 tests it has and what proving them took; below it all together, the longest chain of crates of which each stands on the one before it,
 by what their proofs took of one processor, with what they took on the clock; the clock, and what the system counted of all processes

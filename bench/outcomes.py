@@ -1,5 +1,5 @@
 #!/usr/bin/env python3
-"""Searches for all outcomes of small examples, and prints a table for docs/PERFORMANCE.md.
+"""Searches for all outcomes of small examples, and prints a table for docs/reference/PERFORMANCE.md.
 
     bench/outcomes.py [--program PROGRAM] [--places N] [--all] [--spin] [NAME ..]
 

@@ -1,5 +1,5 @@
 #!/usr/bin/env python3
-"""Searches random programs with the reduction of `outcomes` and without it, and prints a table for docs/PERFORMANCE.md.
+"""Searches random programs with the reduction of `outcomes` and without it, and prints a table for docs/reference/PERFORMANCE.md.
 
     bench/reductions.py [--program PROGRAM] [--tests N] [--first SEED] [--places N] [--harts N,..] [KIND ..]
 

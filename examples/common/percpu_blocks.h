@@ -1,4 +1,4 @@
-/* The blocks of crates/percpu_lib as inline assembler, word for word (docs/BLOCKS.md): the operands %[area], %[cells] and %[value] are the
+/* The blocks of crates/percpu_lib as inline assembler, word for word (docs/reference/BLOCKS.md): the operands %[area], %[cells] and %[value] are the
  * three registers of that page. An operand that a block writes is early clobbered ("=&r", "+&r"). Each text stands once in a program, below
  * 0x7FFFF800, and `table` is the address of its descriptor there. examples/check.py compares the bytes with those that `make` emits. */
 #pragma once

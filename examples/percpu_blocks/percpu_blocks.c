@@ -1,4 +1,4 @@
-/* A free list for each processor, by the push and pop blocks of crates/percpu_lib, copied as inline assembler (docs/BLOCKS.md). Three
+/* A free list for each processor, by the push and pop blocks of crates/percpu_lib, copied as inline assembler (docs/reference/BLOCKS.md). Three
  * threads each put two nodes of their own into the list of the processor on which they run, and then take two nodes and give them back,
  * again and again. Nobody may have a node that another has. Their parent joins the threads, and counts the nodes that are in the lists. */
 #include "../common/percpu_blocks.h"

@@ -1,4 +1,4 @@
-"""The counts in docs/PROVED.md are those of the files that they count."""
+"""The counts in docs/reference/PROVED.md are those of the files that they count."""
 from __future__ import annotations
 
 import re
@@ -7,7 +7,7 @@ from pathlib import Path
 
 ROOT = Path(__file__).resolve().parents[3]
 CRATES = ROOT / 'crates'
-PROVED = (ROOT / 'docs' / 'PROVED.md').read_text()
+PROVED = (ROOT / 'docs' / 'reference' / 'PROVED.md').read_text()
 ROW = re.compile(r'\| `?(\w+)`? \| (\d+) \| (\d+) \|')
 RUNS = re.compile(r'([\d,]+) folders with ([\d,]+) runs')
 

@@ -1,4 +1,4 @@
-"""docs/ARCHITECTURE.md has a row for each crate, which says what it stands on as crates.txt does; and what stands on a higher tier is named."""
+"""docs/explanation/ARCHITECTURE.md has a row for each crate, which says what it stands on as crates.txt does; and what stands on a higher tier is named."""
 from __future__ import annotations
 
 import re
@@ -6,7 +6,7 @@ import unittest
 from pathlib import Path
 
 ROOT = Path(__file__).resolve().parents[3]
-PAGE = (ROOT / 'docs' / 'ARCHITECTURE.md').read_text()
+PAGE = (ROOT / 'docs' / 'explanation' / 'ARCHITECTURE.md').read_text()
 TIERS = ['tables', 'parts', 'kernel', 'machine', 'outside', 'tests']
 ROW = re.compile(r'^\| `(\w+)` \| (\w+) \|.*?\|([^|]*)\|', re.M)
 NAME = re.compile(r'`(\w+)`')

@@ -1,4 +1,4 @@
-"""What `run` lets a hart do next (docs/DEFINITIONS.md, the chooser), and the generator of its words."""
+"""What `run` lets a hart do next (docs/reference/DEFINITIONS.md, the chooser), and the generator of its words."""
 from __future__ import annotations
 
 from typing import NamedTuple

@@ -1,6 +1,6 @@
 """The listings of the guests as GNU assembler: read from the steps in crates/guest_programs/src.
 
-The blocks of the libraries come from blocks.s, which is written by docs/BLOCKS.md and not by those sources.
+The blocks of the libraries come from blocks.s, which is written by docs/reference/BLOCKS.md and not by those sources.
 """
 from __future__ import annotations
 

@@ -1,4 +1,4 @@
-"""The dialogues of docs/GDB.md: a real gdb, asked what stands there, shows what stands below."""
+"""The dialogues of docs/tutorial/GDB.md: a real gdb, asked what stands there, shows what stands below."""
 from __future__ import annotations
 
 import json
@@ -16,7 +16,7 @@ from .common import PROGRAM, ROOT, TIMEOUT, needs_program
 from .gdb_terminal import PROMPT, Terminal
 from .recorded_runs import needs_gdb
 
-PAGE = ROOT / 'docs' / 'GDB.md'
+PAGE = ROOT / 'docs' / 'tutorial' / 'GDB.md'
 DIALOGUES = 3
 """So many there are at least."""
 LENS_GDB = 'tools/bin/lens gdb '

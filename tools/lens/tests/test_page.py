@@ -12,11 +12,18 @@ from pathlib import Path
 from .common import PROGRAM, ROOT, TIMEOUT, needs_objdump, needs_program
 
 PAGES = {
-    'README.md': 18,
-    'docs/FINDING_A_BUG.md': 25,
-    'docs/KERNEL.md': 3,
-    'docs/REAL_PROGRAMS.md': 16,
-    'tools/lens/README.md': 9,
+    'README.md': 3,
+    'docs/how-to/SCRIPTS.md': 6,
+    'docs/how-to/TESTS_IN_CI.md': 3,
+    'docs/reference/COMMANDS.md': 2,
+    'docs/reference/EXPLORE.md': 3,
+    'docs/reference/FORMATS.md': 10,
+    'docs/reference/KERNEL.md': 3,
+    'docs/reference/OUTCOMES.md': 2,
+    'docs/reference/STATUSES.md': 1,
+    'docs/tutorial/FINDING_A_BUG.md': 33,
+    'docs/tutorial/REAL_PROGRAMS.md': 18,
+    'tools/lens/README.md': 14,
 }
 """How many commands of each are tried at least."""
 BLOCK = re.compile(r'(?:^ {4}.*\n|^\n(?= {4}))+', re.MULTILINE)
@@ -35,6 +42,7 @@ COMMANDS = (
 NONE = ('tools/bin/lens why RUN ELF',)
 """How a block begins that shows the words of commands."""
 PROGRAMS = ROOT / 'docs' / 'PROGRAMS.md'
+FIRST = ROOT / 'docs' / 'tutorial' / 'FIRST_PROGRAM.md'
 COMPILER, LIBRARY = 'riscv64-unknown-elf-gcc', Path('/usr/lib/picolibc/riscv64-unknown-elf')
 CLANG = 'RVCC=clang'
 MUSL = 'musl/bin/rvcc'
@@ -110,6 +118,18 @@ class Page(unittest.TestCase):
         here = here.replace('REPOSITORY', str(ROOT))
         ran = subprocess.run(['sh', '-c', here], cwd=room, capture_output=True, text=True, timeout=TIMEOUT)
         self.assertEqual(words(ran.stdout)[: len(words(below))], words(below), ran.stderr)
+
+    @needs_compiler
+    def test_the_first_program(self):
+        tried = 0
+        with tempfile.TemporaryDirectory() as name:
+            for found in BLOCK.findall(FIRST.read_text()):
+                block = textwrap.dedent(found).strip('\n')
+                command, _, below = (block, '', '') if block.startswith('cat >') else block.partition('\n\n')
+                if not command.startswith('apt-get'):
+                    self.check_program(Path(name), command, below)
+                    tried += 1
+        self.assertEqual(tried, 5)
 
     def furnish(self, room):
         """A copy of what the pages write to, beside the repository's tools, data and the program."""

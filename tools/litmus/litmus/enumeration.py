@@ -1,7 +1,7 @@
 """The exact set of outcomes of a litmus test, by walking through every state. Nothing of `rseq_run` is used
 here.
 
-The memory model is that of the RISC-V Unprivileged ISA with Ztso, as store buffers (docs/KERNEL.md,
+The memory model is that of the RISC-V Unprivileged ISA with Ztso, as store buffers (docs/reference/KERNEL.md,
 "Fidelity"): a store waits in the buffer of its hart, first in, first out, and then enters memory; a load has
 the value of the youngest store to its word that waits there, else that of memory; AMO, LR, SC and the fences
 of WAITING_FENCES wait until the buffer is empty, and act on memory.

@@ -14,7 +14,7 @@ JOBS = 'RT_JOBS'
 """The variable by which `rt` proves so many crates at a time, each by one processor."""
 
 MOST_MEMORY = 4_000_000_000
-"""How many bytes a proof takes at most, with some room: 3.7 GB were seen (`percpu_lib`, docs/PERFORMANCE.md)."""
+"""How many bytes a proof takes at most, with some room: 3.7 GB were seen (`percpu_lib`, docs/reference/PERFORMANCE.md)."""
 
 FREE = Path('/proc/meminfo')
 LIMITS = (Path('/sys/fs/cgroup/memory.max'), Path('/sys/fs/cgroup/memory/memory.limit_in_bytes'))
