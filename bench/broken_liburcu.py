@@ -24,7 +24,7 @@ from pathlib import Path
 HERE = Path(__file__).resolve().parent
 TOP = HERE.parent
 REAL = TOP / 'examples' / 'real'
-sys.path[:0] = [str(TOP / 'tools' / name) for name in ('lens', 'musl')] + [str(REAL)]
+sys.path[:0] = [str(TOP / 'tools' / name) for name in ('runs', 'lens', 'musl')] + [str(REAL)]
 
 import build  # noqa: E402 (found by the line above)
 from lens.command_line import Parser, end  # noqa: E402

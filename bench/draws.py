@@ -9,17 +9,18 @@ right program has no such run. Without names: all examples whose folder has a br
 
 What `run` shows hangs on the machine: with other work beside it its workers seldom run at once. `chrt -r 1` lets them go before it.
 """
+from __future__ import annotations
+
 import argparse
-import pathlib
 import subprocess
 import sys
 import time
+from pathlib import Path
 
-TOP = pathlib.Path(__file__).resolve().parent.parent
-sys.path += [str(TOP / 'tools' / name) for name in ('lens', 'sweep')]
+TOP = Path(__file__).resolve().parent.parent
+sys.path.append(str(TOP / 'tools' / 'runs'))
 
-from lens.output import outline  # noqa: E402 (found by the line above)
-from sweep.explored import read_explored  # noqa: E402
+from runs import Explored, Found, Outline, outline, read_explored  # noqa: E402 (found by the line above)
 
 BROKEN = ('litmus peterson dekker_plain rcu_plain percpu_counter_plain percpu_list_next_outside percpu_list_commit_not_last hazard_plain '
           'deque_plain ring_wake_lost handler_add_plain').split()
@@ -28,12 +29,12 @@ POLICIES = ('one', 'stretch', 'short', 'stall', 'spread')
 BOTH_ZERO = b'main read 0\nother read 0\n'
 
 
-def shows_bug(name, found):
+def shows_bug(name: str, found: Found | Outline) -> bool:
     """Whether an outcome shows what the example is about: of `litmus`, which always exits, that both loads gave 0."""
     return found.console == BOTH_ZERO if name == 'litmus' else found.end != 'exit 0'
 
 
-def explored(words, name, policy, runs):
+def explored(words: argparse.Namespace, name: str, policy: str, runs: int) -> Explored:
     """The outcomes of so many runs of an example, from seed 0 on."""
     file = TOP / 'examples' / name / f'{name}.elf'
     limits = [f'--harts={words.harts}', f'--steps={words.steps}', *([f'--jobs={words.jobs}'] if words.jobs else [])]
@@ -41,14 +42,14 @@ def explored(words, name, policy, runs):
     return read_explored(name, subprocess.run(command, capture_output=True, check=True).stdout)
 
 
-def count(words, name, policy, runs):
+def count(words: argparse.Namespace, name: str, policy: str, runs: int) -> tuple[int, int, int]:
     """How many of the runs show the bug, how many met the limit, and how many came to outcomes that aren't told apart."""
     outcomes = explored(words, name, policy, runs)
     limits = sum(found.runs for found in outcomes.found if found.end == 'limit')
     return sum(found.runs for found in outcomes.found if shows_bug(name, found)), limits, outcomes.others
 
 
-def count_by_workers(words, name, runs):
+def count_by_workers(words: argparse.Namespace, name: str, runs: int) -> int:
     """In how many runs of workers the bug shows."""
     file = TOP / 'examples' / name / f'{name}.elf'
     command = [words.program, 'run', str(file), f'--harts={words.harts}', f'--steps={words.steps}']
@@ -56,7 +57,8 @@ def count_by_workers(words, name, runs):
     return sum(shows_bug(name, outline(name, text)) for text in texts)
 
 
-def row(words, name):
+def row(words: argparse.Namespace, name: str) -> list[object]:
+    """The cells of an example."""
     start = time.time()
     counts = [count(words, name, policy, words.runs) for policy in POLICIES]
     together = 5 * words.runs
@@ -68,8 +70,8 @@ def row(words, name):
     return [f'`{name}`', *found, often, by_workers, limits, others, f'{time.time() - start:.1f}']
 
 
-def main():
-    parser = argparse.ArgumentParser(description=__doc__.splitlines()[0])
+def main() -> int:
+    parser = argparse.ArgumentParser(description=(__doc__ or '').splitlines()[0])
     parser.add_argument('names', nargs='*', metavar='NAME')
     parser.add_argument('--runs', type=int, default=400)
     parser.add_argument('--harts', type=int, default=2)

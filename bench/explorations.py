@@ -10,12 +10,14 @@ is measured with `--jobs 1`. With --found it makes the runs of each broken examp
 three right ones, until a fourth is), with all policies in turn. With --memory each program also makes as many runs, and ten times as
 many, under GNU time.
 """
+from __future__ import annotations
+
 import argparse
 import os
-import pathlib
 import subprocess
 import sys
 import time
+from pathlib import Path
 
 from draws import BROKEN
 from measured import BUILT, GNU_TIME, HERE
@@ -28,30 +30,30 @@ PROGRAMS = {
 }
 
 
-def command(words, file, *options):
+def command(words: argparse.Namespace, file: Path, *options: str) -> list[str]:
     return [words.program, 'explore', str(file), f'--jobs={words.jobs}', *options]
 
 
-def seconds(words, file, *options):
+def seconds(words: argparse.Namespace, file: Path, *options: str) -> tuple[float, float]:
     """The least seconds on the clock of some rounds, and the seconds of processor time of that round."""
-    best = None
+    rounds = []
     for _ in range(words.rounds):
         before, begun = os.times(), time.perf_counter()
         subprocess.run(command(words, file, *options), stdout=subprocess.DEVNULL, check=True)
         took, after = time.perf_counter() - begun, os.times()
         used = after.children_user - before.children_user + after.children_system - before.children_system
-        best = (took, used) if best is None else min(best, (took, used))
-    return best
+        rounds.append((took, used))
+    return min(rounds)
 
 
-def peak(words, file, runs):
+def peak(words: argparse.Namespace, file: Path, runs: int) -> float:
     """The peak of memory in MiB."""
     timed = [GNU_TIME, '-f', '%M', *command(words, file, f'--runs={runs}')]
     ran = subprocess.run(timed, stdout=subprocess.DEVNULL, stderr=subprocess.PIPE, check=True)
     return int(ran.stderr) / 1024
 
 
-def speeds(words):
+def speeds(words: argparse.Namespace) -> None:
     print('| program | runs | s | runs a second | of processor time | processors busy |'
           + (' peak, MiB | of ten times as many |' if words.memory else ''))
     print('|---|---|---|---|---|---|' + ('---|---|' if words.memory else ''))
@@ -63,7 +65,7 @@ def speeds(words):
         print('| ' + ' | '.join(cells) + ' |', flush=True)
 
 
-def finds(words):
+def finds(words: argparse.Namespace) -> None:
     print('| example | s until its bug is there |')
     print('|---|---|')
     for name in BROKEN:
@@ -72,15 +74,15 @@ def finds(words):
         print(f'| `{name}` | {seconds(words, file, enough, "--steps=20000")[0]:.3f} |', flush=True)
 
 
-def main():
-    parser = argparse.ArgumentParser(description=__doc__.splitlines()[0])
+def main() -> None:
+    parser = argparse.ArgumentParser(description=(__doc__ or '').splitlines()[0])
     parser.add_argument('--jobs', type=int, default=1)
     parser.add_argument('--rounds', type=int, default=5)
     parser.add_argument('--found', action='store_true')
     parser.add_argument('--memory', action='store_true')
     parser.add_argument('--program', default=str(BUILT))
     words = parser.parse_args()
-    if not pathlib.Path(words.program).is_file():
+    if not Path(words.program).is_file():
         sys.exit(f'{words.program} is no file: build it with `rt ci` first')
     if words.found:
         finds(words)

@@ -13,39 +13,45 @@ of the run.
 The seconds by crate are those of the provers, which are looked at five times a second: what one does after its last look isn't seen, so
 their sum is a little below what the system counted. `taskset -c 0,1 bench/gate.py` times the gate on two processors.
 """
+from __future__ import annotations
+
 import os
-import pathlib
 import re
 import resource
 import subprocess
 import sys
 import threading
 import time
+from collections.abc import Iterator, Sequence
+from pathlib import Path
 
-TOP = pathlib.Path(__file__).resolve().parent.parent
+TOP = Path(__file__).resolve().parent.parent
 TICK = os.sysconf('SC_CLK_TCK')
+NO_CHAIN: tuple[float, list[str]] = (0.0, [])
 PROOF, EDITS, TESTS = 'proofs', 'wrong bodies', 'tests'
+Seen = dict[tuple[str, str], tuple[str, str, float, float, float]]
+"""Of each prover, by its number and its start: its crate, its work, its processor seconds, and when it was seen first and last."""
 
 
-def kind_of(words, folder):
+def kind_of(words: list[str], folder: str) -> str:
     """What a prover is at work on: a crate's proof, its tests, or a wrong body (in a copy of the crate's folder)."""
     if '/rt-edit-' in folder:
         return EDITS
     return TESTS if '--test' in words else PROOF
 
 
-def below(process):
+def below(process: Path) -> Iterator[Path]:
     """The processes that one started, and those that these started."""
     try:
         numbers = [it for task in process.glob('task/*/children') for it in task.read_text().split()]
     except OSError:
         return  # it ended meanwhile
     for number in numbers:
-        yield pathlib.Path('/proc', number)
-        yield from below(pathlib.Path('/proc', number))
+        yield Path('/proc', number)
+        yield from below(Path('/proc', number))
 
 
-def look(process):
+def look(process: Path) -> tuple[str, str, str, float] | None:
     """Of a prover: when it started, its crate, what it does there, and its processor seconds so far; of another process None."""
     words = (process / 'cmdline').read_bytes().decode(errors='replace').split('\0')
     if os.path.basename(words[0]) != 'rattle' or '--crate-name' not in words:
@@ -55,10 +61,10 @@ def look(process):
     return counts[19], crate, kind_of(words, os.readlink(process / 'cwd')), (int(counts[11]) + int(counts[12])) / TICK
 
 
-def watch(gate, ended, seen):
+def watch(gate: int, ended: threading.Event, seen: Seen) -> None:
     """Notes of each prover of the gate what it was seen to have taken last, and when it was seen first and last, until the run has ended."""
     while not ended.wait(0.2):
-        for process in below(pathlib.Path('/proc', str(gate))):
+        for process in below(Path('/proc', str(gate))):
             try:
                 found = look(process)
                 if found:
@@ -69,20 +75,20 @@ def watch(gate, ended, seen):
                 pass  # it ended meanwhile
 
 
-def crates():
+def crates() -> list[str]:
     """The crates of crates.txt, in order."""
     lines = (TOP / 'crates.txt').read_text().splitlines()
     return [line.split(':')[0].split()[0] for line in lines if line.split('#')[0].strip()]
 
 
-def count_of_tests(crate):
+def count_of_tests(crate: str) -> int:
     files = (TOP / 'crates' / crate / 'src').rglob('*.rt')
     return sum(len(re.findall(r'^\s*#\[test\]', file.read_text(), re.M)) for file in files)
 
 
-def table(seen):
+def table(seen: Seen) -> Iterator[str]:
     """The lines of the table, the last one for all crates together."""
-    taken = {}
+    taken: dict[tuple[str, str], float] = {}
     for crate, kind, seconds, _, _ in seen.values():
         taken[crate, kind] = taken.get((crate, kind), 0) + seconds
     yield f'| crate | {PROOF}, s | {EDITS} | s | {TESTS} | s |'
@@ -107,14 +113,15 @@ def longest_chain(taken: dict[str, float], libraries: dict[str, list[str]]) -> l
 
     def chain(crate: str) -> tuple[float, list[str]]:
         if crate not in chains:
-            longest = max((chain(it) for it in libraries[crate] if it in libraries), default=(0.0, []))
+            below_it = [chain(it) for it in libraries[crate] if it in libraries]
+            longest = max(below_it) if below_it else NO_CHAIN
             chains[crate] = longest[0] + taken.get(crate, 0.0), [*longest[1], crate]
         return chains[crate]
 
-    return max((chain(it) for it in libraries), default=(0.0, []))[1]
+    return max([NO_CHAIN, *(chain(it) for it in libraries)])[1]
 
 
-def told_chain(seen: dict[tuple[str, str], tuple[str, str, float, float, float]], libraries: dict[str, list[str]]) -> str:
+def told_chain(seen: Seen, libraries: dict[str, list[str]]) -> str:
     """The longest chain of proofs: what each took of one processor, and all together on the clock."""
     proofs = [it for it in seen.values() if it[1] == PROOF]
     taken: dict[str, float] = {}
@@ -128,18 +135,19 @@ def told_chain(seen: dict[tuple[str, str], tuple[str, str, float, float, float]]
             f'(seconds of each, the lowest first): {crates_told}')
 
 
-def line_of(name, row):
+def line_of(name: str, row: Sequence[float]) -> str:
     return f'| {name} | ' + ' | '.join(f'{value:.0f}' for value in row) + ' |'
 
 
-def from_nothing():
+def from_nothing() -> list[str]:
     """The words by which `rt ci` takes nothing from earlier runs: none where the kit keeps nothing."""
     told = subprocess.run(['rt', 'help'], capture_output=True, text=True)
     return ['--anew'] if '--anew' in told.stdout + told.stderr else []
 
 
-def main():
-    words, seen, ended = sys.argv[1:] or from_nothing(), {}, threading.Event()
+def main() -> int:
+    words, ended = sys.argv[1:] or from_nothing(), threading.Event()
+    seen: Seen = {}
     start = time.time()
     gate = subprocess.Popen(['rt', 'ci', *words], cwd=TOP, stdout=sys.stderr, start_new_session=True)
     watcher = threading.Thread(target=watch, args=(gate.pid, ended, seen))

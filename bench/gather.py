@@ -8,22 +8,26 @@ GNU time (`apt-get install time`), where it is there. The logs are of 8 harts. T
 100,000 rounds), in which threads run little else than short sequences, is one of `run` with seed 1. In that of bench/long_sequences.elf
 eight threads, one on each hart, make an instruction each in turn, so that eight sequences of 100,005 entries lie across one another.
 """
+from __future__ import annotations
+
 import os
-import pathlib
 import subprocess
 import sys
 import tempfile
 import time
+from collections.abc import Sequence
+from pathlib import Path
 
-from measured import HERE, MOST_STEPS, RUNS, parts_of, peak, program_named
+from measured import HERE, MOST_STEPS, RUNS, Word, parts_of, peak, program_named
 
 HARTS = 8
-BEFORE_ALL_RUN = 74  # how many instructions the first thread of bench/long_sequences.elf makes until the other seven are there
+BEFORE_ALL_RUN = 74
+"""How many instructions the first thread of bench/long_sequences.elf makes until the other seven are there."""
 
 
-def seconds(program, words, path):
+def seconds(program: Path, words: Sequence[Word], path: Path) -> float:
     """The clock's seconds of the best run."""
-    def once():
+    def once() -> float:
         with open(path, 'wb') as text:
             begun = time.perf_counter()
             subprocess.run([program, *words], stdin=subprocess.DEVNULL, stdout=text, check=True)
@@ -31,18 +35,18 @@ def seconds(program, words, path):
     return min(once() for _ in range(RUNS))
 
 
-def of_run(program, elf, room):
+def of_run(program: Path, elf: Path, room: Path) -> tuple[Path, int]:
     """A script with the lines of a run's log, and how many there are."""
     text, script = room / 'text', room / 'script'
     with open(text, 'wb') as file:
-        words = ['run', elf, '--harts', str(HARTS), '--seed', '1', '--steps', MOST_STEPS]
+        words: list[Word] = ['run', elf, '--harts', str(HARTS), '--seed', '1', '--steps', MOST_STEPS]
         subprocess.run([program, *words], stdin=subprocess.DEVNULL, stdout=file, check=True)
     lines, log = parts_of(text)
     script.write_bytes(log)
     return script, lines
 
 
-def in_turn(program, elf, room):
+def in_turn(program: Path, elf: Path, room: Path) -> tuple[Path, int]:
     """A script by which the first thread starts the others, and then each hart makes an instruction in turn; how many lines it has."""
     lines = ['0 run 1'] + ['0 exec'] * BEFORE_ALL_RUN + [f'{hart} run {hart + 1}' for hart in range(1, HARTS)]
     while len(lines) + HARTS <= int(MOST_STEPS):
@@ -52,21 +56,21 @@ def in_turn(program, elf, room):
     return script, len(lines)
 
 
-def row(program, command, elf, script, lines, room, beside):
+def row(program: Path, command: str, elf: Path, script: Path, lines: int, room: Path, beside: float | None) -> float:
     """Measures and prints one line; gives its seconds."""
-    words = [command, elf, script, '--harts', str(HARTS), '--steps', MOST_STEPS]
+    words: list[Word] = [command, elf, script, '--harts', str(HARTS), '--steps', MOST_STEPS]
     clock, most = seconds(program, words, room / 'out'), peak(program, words, room / 'out')
     times = f'{clock / beside:6.2f}' if beside else ' ' * 6
     print(f'{elf.stem:<15} {command:<8} {lines:>9,} {clock:9.3f} {most:>9} {times}', flush=True)
     return clock
 
 
-def main():
+def main() -> None:
     program = program_named(sys.argv[1:])
     print(f'load before: {" ".join(f"{load:.1f}" for load in os.getloadavg())}')
     print(f'{"program":<15} {"command":<8} {"lines":>9} {"clock s":>9} {"peak MiB":>9} {"times":>6}')
     with tempfile.TemporaryDirectory() as folder:
-        room = pathlib.Path(folder)
+        room = Path(folder)
         for name, made in (('sequences', of_run), ('long_sequences', in_turn)):
             elf = HERE / f'{name}.elf'
             script, lines = made(program, elf, room)
@@ -74,4 +78,5 @@ def main():
             row(program, 'gather', elf, script, lines, room, beside)
 
 
-main()
+if __name__ == '__main__':
+    main()

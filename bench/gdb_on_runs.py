@@ -21,7 +21,7 @@ import time
 from pathlib import Path
 
 TOP = Path(__file__).resolve().parent.parent
-sys.path[:0] = [str(TOP / 'tools' / 'lens')]
+sys.path[:0] = [str(TOP / 'tools' / name) for name in ('runs', 'lens')]
 
 from lens.machine import BUILT  # noqa: E402 (found by the line above)
 from lens.packets import Link  # noqa: E402

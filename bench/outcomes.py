@@ -8,33 +8,35 @@ short at 2,000,000 places, or at the N that --places names. Each is searched onc
 processor time, and the peak is that of resident memory. With --spin the states of the model bench/peterson.pml are counted too, by Spin (`apt-get install spin`), with its
 reduction of orders and without. The model's steps are loads, stores and drains, and no instructions.
 """
+from __future__ import annotations
+
 import argparse
-import pathlib
 import re
 import subprocess
 import sys
 import tempfile
+from pathlib import Path
 
 from measured import BUILT, GNU_TIME, HERE
 
-sys.path += [str(HERE.parent / 'tools' / name) for name in ('lens', 'sweep', 'litmus')]
+sys.path += [str(HERE.parent / 'tools' / name) for name in ('runs', 'lens', 'sweep', 'litmus')]
 
-from litmus.rows import YES, rows  # noqa: E402 (found by the line above)
-from litmus.searching import read_search  # noqa: E402
+from litmus.rows import YES, Row, rows  # noqa: E402 (found by the line above)
+from litmus.searching import Search, read_search  # noqa: E402
 
 PLACES = 2_000_000
 
 
-def searched(program, row, places):
+def searched(program: Path, row: Row, places: int) -> tuple[Search, float, float]:
     """The search of an example, its seconds of processor time, and its peak of memory in MiB."""
-    words = [program, 'outcomes', row.elf, f'--harts={row.harts}', f'--places={places}', '--scripts=no']
+    words: list[str | Path] = [program, 'outcomes', row.elf, f'--harts={row.harts}', f'--places={places}', '--scripts=no']
     with tempfile.NamedTemporaryFile('r') as measures:
         ran = subprocess.run([GNU_TIME, '-o', measures.name, '-f', '%U %S %M', *words], stdout=subprocess.PIPE, check=True)
         user, system, kibibytes = measures.read().split()
     return read_search(row.example, ran.stdout), float(user) + float(system), int(kibibytes) / 1024
 
 
-def line(program, row, places):
+def line(program: Path, row: Row, places: int) -> str:
     """A row of the table."""
     search, seconds, mebibytes = searched(program, row, places)
     speed = f'{search.places / max(seconds, 0.01):,.0f}'
@@ -42,24 +44,30 @@ def line(program, row, places):
     return ' | '.join([f'| `{row.example}`', str(row.harts), str(len(search.ended)), *numbers, search.closing]) + ' |'
 
 
-def states_by_spin(*options):
+def states_by_spin(*options: str) -> tuple[int, int]:
     """How many states Spin has of the model of peterson, and how often its assertion fails."""
     with tempfile.TemporaryDirectory() as room:
-        for command in (['spin', '-a', HERE / 'peterson.pml'], ['gcc', '-O2', *options, '-o', 'pan', 'pan.c']):
+        for command in (['spin', '-a', str(HERE / 'peterson.pml')], ['gcc', '-O2', *options, '-o', 'pan', 'pan.c']):
             subprocess.run(command, cwd=room, check=True, stdout=subprocess.DEVNULL)
         told = subprocess.run(['./pan', '-c0'], cwd=room, check=True, capture_output=True, text=True).stdout
-    return int(re.search(r'(\d+) states, stored', told)[1]), int(re.search(r'errors: (\d+)', told)[1])
+    return counted(r'(\d+) states, stored', told), counted(r'errors: (\d+)', told)
 
 
-def tell_spin():
+def counted(words: str, told: str) -> int:
+    """The number in what Spin says."""
+    found = re.search(words, told)
+    return int(found[1]) if found else sys.exit(f'Spin says nothing of {words!r}: {told}')
+
+
+def tell_spin() -> None:
     reduced, full = states_by_spin(), states_by_spin('-DNOREDUCE')
     print(f'\nSpin, bench/peterson.pml: {full[0]:,} states, and {reduced[0]:,} with its reduction; ', end='')
     print('an addition is lost' if full[1] and reduced[1] else 'no addition is lost')
 
 
-def main():
+def main() -> None:
     parser = argparse.ArgumentParser(description=__doc__, formatter_class=argparse.RawDescriptionHelpFormatter)
-    parser.add_argument('--program', default=BUILT, type=pathlib.Path)
+    parser.add_argument('--program', default=BUILT, type=Path)
     parser.add_argument('--places', default=PLACES, type=int, metavar='N')
     parser.add_argument('--all', action='store_true')
     parser.add_argument('--spin', action='store_true')

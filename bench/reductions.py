@@ -8,14 +8,16 @@ most. There is a row for each kind, or for those that are named: how many progra
 unfinished; the places of the complete pairs together, with the reduction and without; and the seconds of processor time of all searches. Ends
 with 1 where two complete searches differ.
 """
+from __future__ import annotations
+
 import argparse
 import os
-import pathlib
 import sys
+from pathlib import Path
 
 from measured import BUILT, HERE
 
-sys.path[:0] = [str(HERE.parent / 'tools' / name) for name in ('lens', 'sweep', 'litmus', 'reductions')]
+sys.path[:0] = [str(HERE.parent / 'tools' / name) for name in ('runs', 'lens', 'sweep', 'litmus', 'reductions')]
 
 from litmus.cli import harts_named  # noqa: E402 (found by the line above)
 from litmus.searching import Searcher  # noqa: E402
@@ -25,13 +27,13 @@ from reductions.generator import KINDS, random_program  # noqa: E402
 TESTS, PLACES = 500, 20_000
 
 
-def seconds_of_children():
+def seconds_of_children() -> float:
     """The processor time of all calls so far."""
     times = os.times()
     return times.children_user + times.children_system
 
 
-def compared(words, seeds):
+def compared(words: argparse.Namespace, seeds: list[int]) -> tuple[Comparison, float]:
     """The comparison of the programs of some seeds, and the seconds of it."""
     begun = seconds_of_children()
     comparison = Comparison(Searcher(words.program, words.places), lambda line: print(line, file=sys.stderr))
@@ -39,16 +41,16 @@ def compared(words, seeds):
     return comparison, seconds_of_children() - begun
 
 
-def line(name, seeds, comparison, seconds):
+def line(name: str, seeds: list[int], comparison: Comparison, seconds: float) -> str:
     """A row of the table."""
     counts = [str(comparison.counts[verdict]) for verdict in (EQUAL, UNEQUAL, UNFINISHED)]
     places = [f'{comparison.places[which]:,}' for which in (REDUCED, FULL)]
     return ' | '.join([f'| {name}', str(len(seeds)), *counts, *places, f'{seconds:.1f}']) + ' |'
 
 
-def main():
+def main() -> int:
     parser = argparse.ArgumentParser(description=__doc__, formatter_class=argparse.RawDescriptionHelpFormatter)
-    parser.add_argument('--program', default=BUILT, type=pathlib.Path)
+    parser.add_argument('--program', default=BUILT, type=Path)
     parser.add_argument('--tests', default=TESTS, type=int, metavar='N')
     parser.add_argument('--first', default=0, type=int, metavar='SEED')
     parser.add_argument('--places', default=PLACES, type=int, metavar='N')

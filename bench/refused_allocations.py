@@ -10,14 +10,16 @@ nothing printed while it takes the words of its command line), or give its own s
 at its end that it is unfinished for want of memory. Standard error has a reason exactly
 where the status isn't 0. Ends with 1 at any other answer.
 """
+from __future__ import annotations
+
 import collections
 import os
-import pathlib
 import subprocess
 import sys
 import tempfile
+from pathlib import Path
 
-HERE = pathlib.Path(__file__).resolve().parent
+HERE = Path(__file__).resolve().parent
 ROOT = HERE.parent
 BUILT = ROOT / 'crates' / 'rseq_run' / 'out' / 'rseq_run'
 EXAMPLES = ROOT / 'examples'
@@ -26,7 +28,9 @@ WANT = 7, b'fault memory\n'
 NO_WORDS = 7, b''
 UNFINISHED = 0, b'unfinished memory\n'
 
-LINES = [
+Answer = tuple[int, bytes]
+"""A status and a text."""
+LINES: list[list[str | Path]] = [
     ['solo', ROOT / 'crates' / 'rseq_run' / 'data' / 'exit7.elf'],
     ['solo', EXAMPLES / 'compute' / 'compute.elf', '--steps', '20000'],
     ['solo', EXAMPLES / 'fault' / 'fault.elf'],
@@ -52,7 +56,7 @@ LINES = [
 ]
 
 
-def run(program, shim, line, refuse):
+def run(program: Path, shim: Path, line: list[str | Path], refuse: str) -> tuple[Answer, int]:
     """The status and the text of the program, and how often it asked for memory."""
     end, start = os.pipe()
     env = {**os.environ, 'LD_PRELOAD': str(shim), 'REFUSE': refuse, 'COUNT_TO': str(start)}
@@ -65,9 +69,9 @@ def run(program, shim, line, refuse):
         return UNFINISHED if is_unfinished else (ran.returncode, ran.stdout), int(count.read())
 
 
-def ranges(numbers):
+def ranges(numbers: list[int]) -> str:
     """Numbers as text, neighbours joined."""
-    parts = []
+    parts: list[list[int]] = []
     for number in numbers:
         if parts and parts[-1][1] == number - 1:
             parts[-1][1] = number
@@ -76,7 +80,7 @@ def ranges(numbers):
     return ', '.join(str(one) if one == other else f'{one} to {other}' for one, other in parts)
 
 
-def sweep(program, shim, line):
+def sweep(program: Path, shim: Path, line: list[str | Path]) -> bool:
     """Runs a command line with each refusal, prints what came, and says whether nothing else did."""
     own, count = run(program, shim, line, '0')
     names = {own: f'its own answer (status {own[0]}, {len(own[1])} bytes)', WANT: 'status 7, fault memory', NO_WORDS: 'status 7, nothing printed',
@@ -85,7 +89,7 @@ def sweep(program, shim, line):
     print(f'{shown}: {count} allocations')
     is_well = True
     for ending, what in [('', 'refused alone'), ('..', 'refused with all later ones')]:
-        came = collections.defaultdict(list)
+        came: dict[Answer, list[int]] = collections.defaultdict(list)
         for number in range(1, count + 1):
             came[run(program, shim, line, f'{number}{ending}')[0]].append(number)
         # (once a fault line is printed, the words were taken)
@@ -98,16 +102,17 @@ def sweep(program, shim, line):
     return is_well
 
 
-def main():
-    program = pathlib.Path(sys.argv[1]).resolve() if len(sys.argv) > 1 else BUILT
+def main() -> None:
+    program = Path(sys.argv[1]).resolve() if len(sys.argv) > 1 else BUILT
     if not program.is_file():
         sys.exit(f'{program} is no file: build it with `rt ci` first')
     with tempfile.TemporaryDirectory() as room:
-        shim = pathlib.Path(room) / 'refuse.so'
+        shim = Path(room) / 'refuse.so'
         subprocess.run(['cc', '-O1', '-shared', '-fPIC', '-o', shim, HERE / 'refuse_allocation.c', '-ldl'], check=True)
         wrong = sum(not sweep(program, shim, line) for line in LINES)
     print(f'{len(LINES) - wrong} of {len(LINES)} command lines gave no other answer')
     sys.exit(1 if wrong else 0)
 
 
-main()
+if __name__ == '__main__':
+    main()

@@ -8,13 +8,15 @@ compute; each row makes a million steps, and is the best of 5 runs with seed 1, 
 log. The time in which the program starts is taken off: it is that of the same command with one step. A row on two processors is
 limited to the first two by the system, as by `taskset -c 0,1`.
 """
+from __future__ import annotations
+
 import os
-import pathlib
 import subprocess
 import sys
 import time
+from pathlib import Path
 
-HERE = pathlib.Path(__file__).resolve().parent
+HERE = Path(__file__).resolve().parent
 BUILT = HERE.parent / 'crates' / 'rseq_run' / 'out' / 'rseq_run'
 THREADS = HERE / 'threads64.elf'
 STEPS = 1_000_000
@@ -24,10 +26,10 @@ ROWS = [(['solo'], ALL), *((['run', '--harts', str(harts), '--seed', '1'], ALL) 
         *((['run', '--harts', str(harts), '--seed', '1'], ALL[:2]) for harts in (1, 2, 4, 8))]
 
 
-def timed(program, words, steps, processors):
+def timed(program: Path, words: list[str], steps: int, processors: list[int]) -> tuple[float, float]:
     """Seconds on the clock and of processor time of one run."""
     begun = time.perf_counter()
-    command = [program, words[0], THREADS, *words[1:], '--steps', str(steps)]
+    command: list[str | Path] = [program, words[0], THREADS, *words[1:], '--steps', str(steps)]
     process = subprocess.Popen(command, stdin=subprocess.DEVNULL, stdout=subprocess.DEVNULL,
                                preexec_fn=lambda: os.sched_setaffinity(0, processors))
     _, status, usage = os.wait4(process.pid, 0)
@@ -37,7 +39,7 @@ def timed(program, words, steps, processors):
     return time.perf_counter() - begun, usage.ru_utime + usage.ru_stime
 
 
-def row(program, words, processors):
+def row(program: Path, words: list[str], processors: list[int]) -> None:
     """Measures and prints one line."""
     start = min(timed(program, words, 1, processors) for _ in range(RUNS))
     run = min(timed(program, words, STEPS, processors) for _ in range(RUNS))
@@ -47,8 +49,8 @@ def row(program, words, processors):
           f'{clock * 1e9 / STEPS:>9,.0f}', flush=True)
 
 
-def main():
-    program = pathlib.Path(sys.argv[1]).resolve() if len(sys.argv) > 1 else BUILT
+def main() -> None:
+    program = Path(sys.argv[1]).resolve() if len(sys.argv) > 1 else BUILT
     if not program.is_file():
         sys.exit(f'{program} is no file: build it with `rt ci` first')
     print(f'load before: {" ".join(f"{load:.1f}" for load in os.getloadavg())}')
@@ -57,4 +59,5 @@ def main():
         row(program, words, processors)
 
 
-main()
+if __name__ == '__main__':
+    main()

@@ -9,9 +9,11 @@ row `played` plays the log lines of the row above it. The program of the last ro
 isn't over after 1,000,000 steps; their last column is the nanoseconds for each step more than the row above made, so it shows
 whether a step costs more the longer the log is.
 """
-import pathlib
+from __future__ import annotations
+
 import sys
 import tempfile
+from pathlib import Path
 
 from measured import HERE, MOST_STEPS, head, parts_of, program_named, row
 
@@ -19,11 +21,11 @@ COMPUTE = HERE.parent / 'examples' / 'compute' / 'compute.elf'
 LONG = HERE / 'long.elf'
 
 
-def main():
+def main() -> None:
     program = program_named(sys.argv[1:])
     head()
     with tempfile.TemporaryDirectory() as room:
-        path, script = pathlib.Path(room) / 'text', pathlib.Path(room) / 'script'
+        path, script = Path(room) / 'text', Path(room) / 'script'
         row('compute', program, ['solo', COMPUTE, '--steps', MOST_STEPS], path)
         script.write_bytes(parts_of(path)[1])
         row('  played', program, ['play', COMPUTE, script, '--harts', '1', '--steps', MOST_STEPS], path)
@@ -32,4 +34,5 @@ def main():
             before = row('long', program, ['solo', LONG, '--steps', steps], path, before)
 
 
-main()
+if __name__ == '__main__':
+    main()

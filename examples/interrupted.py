@@ -54,8 +54,9 @@ def heed_signals() -> None:
 
 def break_off(words: list[str], number: int) -> Broken:
     """A call that takes so long that none waits for its end, which a signal breaks off."""
-    pipes = {'stdin': subprocess.DEVNULL, 'stdout': subprocess.PIPE, 'stderr': subprocess.PIPE}
-    with subprocess.Popen(words, **pipes, preexec_fn=heed_signals) as running:
+    with subprocess.Popen(
+        words, stdin=subprocess.DEVNULL, stdout=subprocess.PIPE, stderr=subprocess.PIPE, preexec_fn=heed_signals
+    ) as running:
         select.select([running.stderr], [], [], LATEST)
         time.sleep(A_WHILE)
         running.send_signal(number)
@@ -146,8 +147,9 @@ def faults_of_progress(shown: bytes, runs: int) -> list[str]:
     came to; at the end it is taken away."""
     *rows, wiped, nothing = (b'\r\r' + shown).split(b'\r')
     rows = [row.strip(b' \n') for row in rows]
-    read = [PROGRESS.fullmatch(row) for row in rows if row and not OUTCOME.fullmatch(row + b'\n')]
-    if not read or not all(read):
+    lines = [row for row in rows if row and not OUTCOME.fullmatch(row + b'\n')]
+    read = [found for row in lines if (found := PROGRESS.fullmatch(row))]
+    if not read or len(read) < len(lines):
         return [f'on a terminal standard error has {shown[:200]!r}']
     counts = [(int(row[1]), int(row[3])) for row in read]
     is_rising = counts == sorted(counts) and counts[-1] <= (runs, 2) and all(int(row[2]) == runs for row in read)

@@ -12,23 +12,18 @@ import struct
 import subprocess
 import sys
 from collections import defaultdict
-from collections.abc import Iterable, Iterator
+from collections.abc import Iterable
 from dataclasses import dataclass, field
 from pathlib import Path
+
+sys.path.append(str(Path(__file__).resolve().parents[1] / 'tools' / 'runs'))
+
+from runs import DRAIN, EXEC, Step, parse_output  # noqa: E402 (found by the line above)
 
 LOAD, STORE = 0x03, 0x23
 """The major opcodes of plain loads and stores (RISC-V Unprivileged ISA, "RV32/64G Instruction Set Listings")."""
 EXECUTABLE = 1
 SEEDS = 1 << 64
-
-
-@dataclass(frozen=True)
-class Step:
-    """A line of a log."""
-
-    hart: int
-    kind: str
-    pc: int
 
 
 class Code:
@@ -64,9 +59,9 @@ class Stores:
         log = list(steps)
         for place, step in enumerate(log, 1):
             waits = waiting[step.hart]
-            if step.kind == 'drain':
+            if step.kind == DRAIN:
                 waits.pop(0)
-            elif step.kind == 'exec' and not (faulted and place == len(log)):
+            elif step.kind == EXEC and not (faulted and place == len(log)):
                 opcode = code.opcode(step.pc)
                 if opcode == STORE:
                     self.executed.add(step.pc)
@@ -78,28 +73,14 @@ class Stores:
         return f'overtaken {len(self.overtaken)} of {len(self.executed)}\n'
 
 
-def log_of(text: bytes) -> tuple[list[Step], bytes]:
-    """The log in an output text, and its end."""
-    first, _, rest = text.partition(b'\n')
-    rest = rest[int(first.removeprefix(b'console ')) + 1:]
-    count, *lines = rest.splitlines()
-    return list(steps_of(lines[:int(count.removeprefix(b'log '))])), lines[-1]
-
-
-def steps_of(lines: Iterable[bytes]) -> Iterator[Step]:
-    for line in lines:
-        hart, kind, _, pc = line.decode().split()[:4]
-        yield Step(int(hart), kind, int(pc, 16))
-
-
 def overtaken_line(program: str, elf: str, first: int, runs: int, options: list[str]) -> str:
     """The line that is due for the runs of these seeds. A program whose handlers meet faults isn't for this: it takes
     each store to be executed but the last one of a run that was killed."""
     code, stores = Code(Path(elf).read_bytes()), Stores()
     for seed in range(first, first + runs):
         words = [program, 'draw', elf, '--seed', str(seed % SEEDS), *options]
-        steps, end = log_of(subprocess.run(words, capture_output=True, check=True).stdout)
-        stores.count(code, steps, end.startswith(b'end killed '))
+        run = parse_output(f'seed {seed}', subprocess.run(words, capture_output=True, check=True).stdout)
+        stores.count(code, run.steps, run.was_killed)
     return stores.line()
 
 

@@ -10,7 +10,7 @@ enum { SIG_BLOCK = 0, SIG_UNBLOCK = 1 };
 enum { SET_BYTES = 8 };
 
 /* Where a thread was interrupted: its pc and its registers x1 to x31, the signals that it masked, and 0. It goes on so when the handler
- * returns; a handler may change it. (Linux has another frame, with a ucontext inside.) */
+ * returns; a handler may change it. (With SA_SIGINFO it is the frame of Linux, with a ucontext inside.) */
 struct frame {
     uint64_t pc;
     uint64_t x[31]; /* x[0] is x1, and so on */

@@ -17,7 +17,7 @@ from pathlib import Path
 
 HERE = Path(__file__).resolve().parent
 ROOT = HERE.parents[1]
-sys.path[:0] = [str(ROOT / 'tools' / 'lens'), str(ROOT / 'tools' / 'musl')]
+sys.path[:0] = [str(ROOT / 'tools' / name) for name in ('runs', 'lens', 'musl')]
 
 from lens.command_line import Parser, end  # noqa: E402 (found by the line above)
 from lens.faults import LensFault  # noqa: E402

@@ -23,7 +23,7 @@ from dataclasses import dataclass, field
 from itertools import product
 from pathlib import Path
 
-sys.path.insert(0, str(Path(__file__).resolve().parents[1] / 'lens'))
+sys.path[:0] = [str(Path(__file__).resolve().parents[1] / name) for name in ('runs', 'lens')]
 
 from lens.calls import MPROTECT, RT_SIGACTION, TKILL  # noqa: E402 (found by the line above)
 from lens.instructions import ECALL, SIZE  # noqa: E402

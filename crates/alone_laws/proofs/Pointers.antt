@@ -16,7 +16,7 @@ use Rattle.mach_types.specs.Kernel.Areas.{has_flags, is_inside, is_inside_named,
 use Rattle.mach_types.specs.Kernel.Areas.{named, named_by, number_at, pointer_of, sequence_of, words_entered}
 use Rattle.mach_types.specs.Kernel.Areas.{words_on, words_written, writes_of}
 use Rattle.mach_types.specs.Kernel.SignalFrames.{frame_writes}
-use Rattle.mach_types.specs.Kernel.Signals.{mask_of, next_for}
+use Rattle.mach_types.specs.Kernel.Signals.{action_of, fault_of, mask_of, next_for}
 use Rattle.mach_types.specs.Kernel.Threads.{is_ready}
 use Rattle.mach_types.specs.declared.address_space.TheConstants.{USER_END}
 use Rattle.mach_types.specs.declared.events.Kind.{Kind}
@@ -206,8 +206,10 @@ module _ (s : Setting) (blocks : List Placed) (t at : ℕ)
     abbrev cut : List Write
     cut = writes_of (area_here here t) interrupted
 
-    abbrev frame : List Write
-    frame = frame_writes (file_interrupted here t interrupted) (mask_of t here.kernel.signals)
+    abbrev frame : ℕ → List Write
+    frame signal =
+        let g = here.kernel.signals in
+        frame_writes signal (action_of signal g) (fault_of t signal g) (file_interrupted here t interrupted) (mask_of t g)
 
     known_cut : IsKnown (λ a. Some (g a)) → (area : Area) → area_here here t ≡ Some area → area.at ≡ at
         → IsKnown (after_writes cut g)
@@ -315,9 +317,9 @@ module _ (s : Setting) (blocks : List Placed) (t at : ℕ)
               let entered = ap (λ (d : Done). d.entered) did in
               let base = in_memory empty in
               seen_memory empty (ap (λ (d : Done). d.executed) did)
-              (by_area (cut ++ frame) entered other (inl ran) base
-              (λ area some same. known_more cut frame g (known_left frame (λ a. written cut a (g a))
-              (w.frame frame ran is entered) (known_cut base area some same))))
+              (by_area (cut ++ frame signal) entered other (inl ran) base
+              (λ area some same. known_more cut (frame signal) g (known_left (frame signal) (λ a. written cut a (g a))
+              (w.frame (frame signal) ran is entered) (known_cut base area some same))))
           by_kill signal (Some killer) did =
               let base = in_memory empty in
               seen_memory empty (ap (λ (d : Done). d.executed) did)

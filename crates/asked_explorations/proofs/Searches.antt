@@ -27,7 +27,7 @@ nearest_digits s signals most preemptions found eight search =
 
 pub output_of_search : {files : Files} {program : List ℕ} {image : Image} {text : List ℕ} (settings : SearchSettings)
     (found : Findings) → IsProgram files program settings.limits image
-    → IsSearchBy (setting_of image settings.limits) settings.signals settings.reductions settings.places settings.preemptions found → text ≡ findings_text settings.signals settings.scripts found
+    → IsSearchBy (setting_of image settings.limits) settings.signals settings.reductions settings.places settings.preemptions found → text ≡ findings_text settings.apart settings.signals settings.scripts found
     → IsSearchOutput files program settings text
 output_of_search {image = image} settings found taken searched text =
     record { image = image; taken = taken; found = found; searched = searched; text = text }

@@ -44,6 +44,6 @@ pub fn searched_text<S: Shelf, K: Sink>(
         settings.preemptions,
         sink,
     )?;
-    let signals = settings.signals;
-    Ok(Output::whole(findings_text(alloc, &findings, signals, settings.scripts)?))
+    let (apart, signals) = (settings.apart, settings.signals);
+    Ok(Output::whole(findings_text(alloc, &findings, apart, signals, settings.scripts)?))
 }

@@ -1,6 +1,6 @@
 -- What each call of the table leaves, whether its thread runs or not: files whose pc is below 2^64 and handlers that lie there where
 -- it was so before, an end that isn't the end of a script, and a live thread where it didn't end the process.
-use Rattle.block_model.proofs.Common.{◌≡◌, ℕ, ◌+◌, ◌<◌, ◌≤◌, List, [], ◌∷◌, length, map, filter, refl, sym, ◌∙◌, subst, Bool, true, false, not, cond, eqb, None, arith, AllByRecursion, CallDone, Here, IsSound, Kernel, Ready, Saved, Thread, Waiting, Write, answered_wait, argument, called, clear_of, cleared, clears, clone_child_cleartid, had_child, has_flag, is_thread, left, length-map, nat_tests, new_thread, next_number, numbers, requeue, requeued, restricted, rows_changed, signalled, state_if, sum_64, waited, wake, woken, woken_at_exit}
+use Rattle.block_model.proofs.Common.{◌≡◌, ℕ, ◌+◌, ◌<◌, ◌≤◌, List, [], ◌∷◌, length, map, filter, refl, sym, ◌∙◌, subst, Bool, true, false, not, cond, eqb, None, arith, AllByRecursion, CallDone, Here, IsSound, Kernel, Ready, Saved, Thread, Waiting, Write, answered_wait, argument, called, clear_of, cleared, clears, clone_child_cleartid, had_child, has_flag, is_thread, left, length-map, nat_tests, new_thread, next_number, numbers, requeue, requeued, restricted, rows_changed, signalled, state_if, sum_64, waited, wake, woken, woken_at_exit, anyone}
 use Rattle.std.specs.List.Sorted.{IsStrictlyIncreasing}
 use Rattle.std.proofs.lemmas.List.{length_push}
 use Rattle.mach_types.specs.Kernel.Threads.{clear_if}
@@ -52,18 +52,18 @@ child_lives t k = length_push k.threads.live (new_thread (k.threads.given + 1))
 requeued_lives : (t at : ℕ) (k : Kernel) → lives (requeued t at k) ≡ lives k
 requeued_lives t at k = waited_lives t at (woken t k) ∙ woken_lives t k
 
-requeue_lives : (n more at to : ℕ) (k : Kernel) → lives (requeue n more at to k).kernel ≡ lives k
+requeue_lives : (n more at to : ℕ) (listens : ℕ → Bool) (k : Kernel) → lives (requeue n more at to listens k).kernel ≡ lives k
 requeue_lives =
     requeue_keeps (λ a b. lives b ≡ lives a) (λ k. refl) (λ u k after waiting rest. rest ∙ woken_lives u k)
     (λ u to k after waiting rest. rest ∙ requeued_lives u to k)
 
 -- neither changes signals
-requeue_signals : (n more at to : ℕ) (k : Kernel) → (requeue n more at to k).kernel.signals ≡ k.signals
+requeue_signals : (n more at to : ℕ) (listens : ℕ → Bool) (k : Kernel) → (requeue n more at to listens k).kernel.signals ≡ k.signals
 requeue_signals =
     requeue_keeps (λ a b. b.signals ≡ a.signals) (λ k. refl) (λ u k after waiting rest. rest) (λ u to k after waiting rest. rest)
 
-requeue_stand : (n more at to : ℕ) (k : Kernel) → HandlersStand k.signals → HandlersStand (requeue n more at to k).kernel.signals
-requeue_stand n more at to k stand = subst HandlersStand (sym (requeue_signals n more at to k)) stand
+requeue_stand : (n more at to : ℕ) (listens : ℕ → Bool) (k : Kernel) → HandlersStand k.signals → HandlersStand (requeue n more at to listens k).kernel.signals
+requeue_stand n more at to listens k stand = subst HandlersStand (sym (requeue_signals n more at to listens k)) stand
 
 -- a woken thread stays where it stands
 woken_stand : (here : Here) (us : List ℕ) → AllStand here → FilesStand (map (answered_wait here) us)
@@ -130,24 +130,24 @@ module _ (here : Here) (t number : ℕ) where
   proper_deed (Answers n entered k no_error writes step) =
       let same = lives_step step in
       proper_going _ (λ all. (pc_past, tt)) (stand_step step) refl (omega arith)
-  proper_deed (Wakes n more at to small) =
-      let same = requeue_lives n more at to here.kernel in
-      proper_going _ (λ all. (pc_past, woken_stand here (requeue n more at to here.kernel).threads all))
-      (λ all. requeue_stand n more at to here.kernel all.handlers) refl (omega arith)
+  proper_deed (Wakes n more at to listens small) =
+      let same = requeue_lives n more at to listens here.kernel in
+      proper_going _ (λ all. (pc_past, woken_stand here (requeue n more at to listens here.kernel).threads all))
+      (λ all. requeue_stand n more at to listens here.kernel all.handlers) refl (omega arith)
   proper_deed (Breaks u g waiting keeps stand heeds calm) =
       let same = woken_lives u (signalled g here.kernel) in
       proper_going _ (λ all. (pc_past, (all.threads u, tt))) stand refl (omega arith)
   proper_deed (Exits more) =
       let n : ℕ = cond (clears here t) 1 0 in
       let at = clear_of t here.kernel.threads in
-      let same = requeue_lives n 0 at 0 here.kernel in
+      let same = requeue_lives n 0 at 0 anyone here.kernel in
       record {
         files = λ all. woken_stand here (woken_at_exit here t).threads all;
-        handlers = λ all. requeue_stand n 0 at 0 here.kernel all.handlers;
+        handlers = λ all. requeue_stand n 0 at 0 anyone here.kernel all.handlers;
         ended = not_ended;
         live = λ sound some goes.
-            let rising = (kept_requeue here.setting n 0 at 0 here.kernel sound).sound.tables.threads.rising in
-            some_stay t (wake n at here.kernel).kernel.threads.live rising (omega arith);
+            let rising = (kept_requeue here.setting n 0 at 0 anyone here.kernel sound).sound.tables.threads.rising in
+            some_stay t (wake n at anyone here.kernel).kernel.threads.live rising (omega arith);
       }
   proper_deed (Bears entered writes free its_number) =
       let clears = has_flag (argument here t 0) clone_child_cleartid in

@@ -1,6 +1,6 @@
 -- What a call's deed can be. Each call of the table is one of these (CallEffects/EachCall.antt); a law of all
 -- calls goes over them, and names no call.
-use Rattle.block_model.proofs.Common.{◌≡◌, ◌≢◌, ℕ, ◌+◌, ◌≤◌, ◌<◌, ◌^◌, List, [], ◌∷◌, length, refl, Bool, true, false, cond, Option, Some, None, arith, Area, CONSOLE_ROOM, CallDone, End, Here, IsError, IsGoodHere, KeepsRows, Kernel, Pages, Registered, Signalling, Thread, Write, area_here, broken_wait, child_file, for_barriers, frame_read, id_of, is_full, is_writable, killed_in_call, left, memory, next_for, next_number, paged, printed, register, registered, restricted, resumed, returned, rows_changed, said, signalled, taken_by, unregistered, waited, waits, with_new_child, woken, words_on, words_written}
+use Rattle.block_model.proofs.Common.{◌≡◌, ◌≢◌, ℕ, ◌+◌, ◌≤◌, ◌<◌, ◌^◌, List, [], ◌∷◌, length, refl, Bool, true, false, cond, Option, Some, None, arith, Area, CONSOLE_ROOM, CallDone, drawn, End, Here, IsError, IsGoodHere, KeepsRows, Kernel, Pages, Registered, Signalling, Thread, Write, area_here, broken_wait, child_file, for_barriers, frame_read, id_of, is_full, is_writable, killed_in_call, left, memory, next_for, next_number, paged, printed, register, registered, restricted, resumed, returned, rows_changed, said, signalled, taken_by, unregistered, waited, waits, with_new_child, woken, words_on, words_written}
 use Rattle.mach_types.specs.declared.limits.End.TheVariants as over
 use Rattle.block_model.specs.Calls.Answers.{Errors, unless}
 use Rattle.block_model.specs.Calls.Barriers.{begins}
@@ -23,6 +23,7 @@ mod Limits
 mod Memory
 mod Numbers
 mod Policies
+mod Random
 mod Sequences
 mod Signals
 mod System
@@ -73,6 +74,7 @@ pub data TableStep (here : Here) (t number : ℕ) (entered : List Write) : Kerne
       → ((w : ℕ) → w ≢ t → waits here.kernel.threads w → next_for w here.kernel.signals ≡ None → next_for w g ≡ None)
       → TableStep here t number entered (signalled g here.kernel)
   EnrolsFor : (r : Registered) → TableStep here t number entered (for_barriers r here.kernel)
+  Draws : (state : ℕ) → TableStep here t number entered (drawn state here.kernel)
   Remaps : (pages : Pages) → StaysWritable here.kernel.pages (taken_by number here t) pages
       → (IsPaged here.setting here.kernel.pages → IsPaged here.setting pages)
       → TableStep here t number entered (paged pages here.kernel)
@@ -85,8 +87,8 @@ pub data CallDeed (here : Here) (t number : ℕ) : CallDone → Type 0 where
   Answers : (n : ℕ) (entered : List Write) (k : Kernel) → IsAnswer here t n → AllWritable (is_writable here) entered
       → TableStep here t number entered k
       → CallDeed here t number (record (said here t n) { entered = entered; kernel = k })
-  Wakes : (n more at to : ℕ) → n + more < 2 ^ 32
-      → CallDeed here t number (counted here t (requeue n more at to here.kernel))
+  Wakes : (n more at to : ℕ) (listens : ℕ → Bool) → n + more < 2 ^ 32
+      → CallDeed here t number (counted here t (requeue n more at to listens here.kernel))
   Breaks : (u : ℕ) (g : Signalling) → waits here.kernel.threads u → KeepsThreads here.kernel.signals g
       → (AllStand here → HandlersStand g) → (AllHeeded here.kernel.signals → AllHeeded g)
       → ((w : ℕ) → w ≢ u → next_for w here.kernel.signals ≡ None → next_for w g ≡ None)

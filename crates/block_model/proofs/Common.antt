@@ -5,7 +5,7 @@ pub use Rattle.block_model.specs.Calls.{called}
 pub use Rattle.block_model.specs.Calls.Answers.{CallDone, are_writable, argument, call_number, double_written, int_argument, killed_in_call, negative, returned, said, word_written}
 pub use Rattle.block_model.specs.Calls.Cloning.{child_file, clone_child_cleartid, has_flag, with_new_child}
 pub use Rattle.block_model.specs.Calls.Ending.{clears, woken_at_exit}
-pub use Rattle.block_model.specs.Calls.Futexes.{answered_wait, requeue, wake}
+pub use Rattle.block_model.specs.Calls.Futexes.{answered_wait, anyone, requeue, wake}
 pub use Rattle.block_model.specs.Calls.Memory.{lies_waiting_on, taken_by}
 pub use Rattle.block_model.specs.Calls.Signals.{broken_wait, resumed}
 pub use Rattle.block_model.specs.Choosing.{Luck, is_choice, luck, luck_after, pick_with, sight_with}
@@ -13,7 +13,7 @@ pub use Rattle.block_model.specs.Deciding.{decide_in, entry_in, event, final, nu
 pub use Rattle.block_model.specs.ErrorCalls.{GivesError, IsError}
 pub use Rattle.block_model.specs.Events.{done_of, refusal_of}
 pub use Rattle.block_model.specs.Events.Drain.{done_drain_of, refusal_drain_of}
-pub use Rattle.block_model.specs.Events.Exec.{by_call, by_effect, by_outcome, called_here, done_exec, done_exec_by, has_handler, is_held, next_effect, next_fault, one_instruction, others_gate, outcome_of, refusal_exec, refusal_exec_by}
+pub use Rattle.block_model.specs.Events.Exec.{by_call, by_effect, by_outcome, called_here, done_exec, done_exec_by, fault_told, has_handler, is_held, next_effect, next_fault, one_instruction, others_gate, outcome_of, refusal_exec, refusal_exec_by}
 pub use Rattle.block_model.specs.Events.Finish.{done_done, done_done_by, refusal_done_by, refusal_return}
 pub use Rattle.block_model.specs.Events.Preempt.{done_preempt_by, refusal_preempt_by, unless_in_barrier, unless_waiting}
 pub use Rattle.block_model.specs.Events.Run.{done_killed, done_run, done_running, lives_on, refusal_run, refusal_run_by}
@@ -24,7 +24,7 @@ pub use Rattle.block_model.specs.Here.{Barrier, Done, Here, is_storable, is_writ
 pub use Rattle.block_model.specs.History.{Event, History, awaits, byte, can_be_written, drains, ended, events, file, file_among, here_in_history, is_of_hart, kernel, lost_after, ran, requests, restart, running, stores, waiting}
 pub use Rattle.block_model.specs.Ids.{AreIdsApart, IsLeastFree, held_ids, id_of, is_id_of, is_taken, next_id, without_id}
 pub use Rattle.block_model.specs.Instruction.{fault_by, fetched, instruction_of}
-pub use Rattle.block_model.specs.Kernel.{cleared, first_kernel, for_barriers, gone, had_child, left, next_number, paged, printed, registered, requeued, restricted, rows_changed, signalled, unregistered, waited, woken}
+pub use Rattle.block_model.specs.Kernel.{cleared, drawn, first_kernel, for_barriers, gone, had_child, left, next_number, paged, printed, registered, requeued, restricted, rows_changed, signalled, unregistered, waited, woken}
 pub use Rattle.block_model.specs.Plain.{Plain, apply, here_in_plain, here_of, plain_decide, plain_end, plain_next, plain_over, plain_solo_choice, plain_start}
 pub use Rattle.block_model.specs.Record.{Kernel}
 pub use Rattle.block_model.specs.Replay.{AllAnswer, Ask, checked, extended, is_as_said, play_line, script_of}
@@ -47,8 +47,8 @@ pub use Rattle.mach_types.specs.Events.{choice_of, choice_with, is_instruction, 
 pub use Rattle.mach_types.specs.Kernel.Areas.{Words, are_words_writable, area_of, can_read_area, can_read_descriptor, descriptor_at, has_flags, interruption, is_area_of, is_clearable, is_inside, is_inside_named, is_out_of_range, is_signed, named, named_by, pointer_of, sequence_of, without_area, words_entered, words_on, words_written, writes_of}
 pub use Rattle.mach_types.specs.Kernel.Pages.{PageRun, Pages, can_read, can_write, is_in, pages_of, permission_at, permission_of, run}
 pub use Rattle.mach_types.specs.Kernel.Scheduling.{Scheduling, affinity_of, first_for, forget, has_hart, is_of, set_if, start_scheduling, with_affinity, with_ready}
-pub use Rattle.mach_types.specs.Kernel.SignalFrames.{entered_action, frame_at, frame_words, frame_writes, handler_file, handler_mask, restored_mask, stack_pointer, word_before, words_at, words_stored}
-pub use Rattle.mach_types.specs.Kernel.Signals.{Signalling, acted, action_of, default_action, dropped, has_signal, is_handler, is_ignored, joined, less, mask_if, mask_of, next_for, only, pending_of, post_if, posted, set_action, start_signalling, take_if, with_mask, with_pending, with_thread, without_pending, without_signal}
+pub use Rattle.mach_types.specs.Kernel.SignalFrames.{entered_action, frame_at, frame_size, frame_words, frame_writes, handler_file, handler_mask, restored_mask, stack_pointer, word_before, words_at, words_stored}
+pub use Rattle.mach_types.specs.Kernel.Signals.{Signalling, acted, action_of, default_action, dropped, fault_if, fault_of, has_signal, is_handler, is_ignored, joined, less, mask_if, mask_of, next_for, only, pending_of, post_if, posted, set_action, start_signalling, take_if, with_fault, with_mask, with_pending, with_thread, without_pending, without_signal}
 pub use Rattle.mach_types.specs.Kernel.Threads.{IsThreads, Thread, Threads, clear_if, clear_of, goes_on, is_full, is_live, is_ready, is_ready_state, is_running_state, is_stuck, is_thread, is_waiting_state, new_thread, numbers, running_on, start_threads, state_if, state_of, thread_of, times, waits, with_child, with_clear, with_rows, with_state, with_waiter, without}
 pub use Rattle.mach_types.specs.Registers.{no_registers, register, with_register}
 pub use Rattle.mach_types.specs.declared.address_space.TheConstants.{FIRST_MAPPING_PAGE, FIRST_STACK_PAGE, MAPPING_START, PAGE_SIZE, USER_END}
@@ -63,8 +63,8 @@ pub use Rattle.mach_types.specs.declared.limits.End.TheVariants.{Killed}
 pub use Rattle.mach_types.specs.declared.registers.Regs.{Regs}
 pub use Rattle.mach_types.specs.declared.sequences.{Area.Area, BadWhy.BadWhy, Descriptor.Descriptor, Named.Named, Outcome.Outcome, Seq.Seq}
 pub use Rattle.mach_types.specs.declared.sequences.TheConstants.{CPU_ID, MM_CID, NODE_ID, RSEQ_CS}
-pub use Rattle.mach_types.specs.declared.signal_words.{Action.Action, ThreadSignals.ThreadSignals}
-pub use Rattle.mach_types.specs.declared.signals.TheConstants.{SIGNAL_FRAME_SIZE, SIGSEGV, SIG_DFL}
+pub use Rattle.mach_types.specs.declared.signal_words.{Action.Action, Fault.Fault, ThreadSignals.ThreadSignals}
+pub use Rattle.mach_types.specs.declared.signals.TheConstants.{SIGSEGV, SIG_DFL}
 pub use Rattle.mach_types.specs.declared.threads.{Saved.Saved, ThreadState.ThreadState}
 pub use Rattle.mach_types.specs.declared.threads.ThreadState.TheVariants.{Ready, Running, Waiting}
 pub use Rattle.mach_types.specs.declared.user_memory.{Store.Store, Write.Write}

@@ -65,9 +65,9 @@ module _ (here : Here) (t : ℕ) where
   tells_deed number other few (Says n) =
       λ goes lives e. record { errno = e.errno; least = e.least; most = e.most; is = ap (said here t) (told n [] e) }
   tells_deed number other few (Answers n entered k no_error writes step) = tells_answer n [] entered k (no_error few)
-  tells_deed number other few (Wakes n more at to small) =
-      let done = requeue n more at to here.kernel in
-      let most = requeue_few n more at to here.kernel in
+  tells_deed number other few (Wakes n more at to listens small) =
+      let done = requeue n more at to listens here.kernel in
+      let most = requeue_few n more at to listens here.kernel in
       tells_answer (length done.threads) (map (answered_wait here) done.threads) [] done.kernel (small_no_error (length done.threads) (omega arith))
   tells_deed number other few (Breaks u g waiting keeps stand heeds calm) =
       tells_answer 0 (broken_wait here u ∷ []) [] (woken u (signalled g here.kernel)) (small_no_error 0 (omega arith))

@@ -1,6 +1,6 @@
 -- What an event's deed can be, whether it was allowed or not. Each event is one of these; a law of all events
 -- goes over them, and tells no kinds apart.
-use Rattle.block_model.proofs.Common.{◌≡◌, ℕ, List, [], ◌∷◌, refl, Bool, true, false, cond, Option, Some, None, Done, Effect, Entry, Here, Killed, Kind, Store, Stored, by_call, by_effect, by_outcome, called, choice_with, done_done_by, done_drain_of, done_exec_by, done_killed, done_next, done_of, done_preempt_by, done_running, done_signal_by, done_take_by, handled, handled_unless_killed, has_handler, interruption_here, is_call, is_inside_here, killed_in_call, kills, left, lives_on, next_effect, next_fault, next_for, nothing, one_instruction, only_took, outcome_of, runs, signalled, took_and_interrupted, waiting_here, with_pending, with_register, is_preempt}
+use Rattle.block_model.proofs.Common.{◌≡◌, ℕ, List, [], ◌∷◌, refl, Bool, true, false, cond, Option, Some, None, Done, Effect, Entry, Here, Killed, Kind, Store, Stored, by_call, by_effect, by_outcome, called, choice_with, done_done_by, done_drain_of, done_exec_by, done_killed, done_next, done_of, done_preempt_by, done_running, done_signal_by, done_take_by, handled, handled_unless_killed, has_handler, interruption_here, is_call, is_inside_here, killed_in_call, kills, left, lives_on, next_effect, next_fault, next_for, nothing, one_instruction, only_took, outcome_of, runs, signalled, took_and_interrupted, waiting_here, with_register, is_preempt, fault_told, with_fault}
 use Rattle.std.specs.Option.{option_map_or}
 use Rattle.mach_types.specs.Events.{begun_by as named_by, kind_of}
 use Rattle.mach_types.specs.declared.events.Choice.{Choice}
@@ -30,7 +30,7 @@ pub data EventDeed (here : Here) (tid : ℕ) : Kind → Done → Type 0 where
       → EventDeed here tid kind.Exec
       (record (one_instruction here) {
         kernel =
-            signalled (with_pending t signal here.kernel.signals) here.kernel;
+            signalled (with_fault t (fault_told here t signal) here.kernel.signals) here.kernel;
       })
   FaultKills : (t signal : ℕ) → IsFault here t signal
       → EventDeed here tid kind.Exec (record (one_instruction here) { ended = Some (Killed signal) })

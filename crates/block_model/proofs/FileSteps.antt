@@ -73,8 +73,8 @@ module _ (here : Here) (tid u : ℕ) where
 
     step_called : {number : ℕ} {c : CallDone} → CallDeed here t number c
         → Is kind.Exec (file_among c.files u (here.file u))
-    step_called (Wakes n more at to small) =
-        either kind.Exec t _ _ (own _) (woken kind.Exec (requeue n more at to here.kernel).threads)
+    step_called (Wakes n more at to listens small) =
+        either kind.Exec t _ _ (own _) (woken kind.Exec (requeue n more at to listens here.kernel).threads)
     step_called (Breaks v g waiting keeps stand heeds calm) =
         either kind.Exec t _ _ (own _)
         (either kind.Exec v _ (here.file u) (answered kind.Exec v (negative EINTR.0)) FileStays)

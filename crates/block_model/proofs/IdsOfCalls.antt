@@ -1,5 +1,5 @@
 -- Which concurrency ids a call leaves, and that a thread holds the same one while it runs.
-use Rattle.block_model.proofs.Common.{◌≡◌, ℕ, ◌⊎◌, Bool, true, false, cond, List, refl, ap, inl, inr, ◌≢◌, ◌≤◌, ◌∷◌, ◌++◌, ◌∙◌, ◌||◌, not, eqb, [], find, Option, Some, sym, subst, CallDone, Done, Entry, Here, History, IsAllowedLog, IsRunHistory, Kernel, Kind, Setting, Write, argument, called, choice_of, clear_of, cleared, clears, clone_child_cleartid, done, done_of, eqb-true, eqb_tells, event, false≢true, had_child, has_flag, here_in_history, history, id_of, is_id_of, kernel, list_any, ne_eqb, next_id, next_number, option_map_or, requeue, running, without_id}
+use Rattle.block_model.proofs.Common.{◌≡◌, ℕ, ◌⊎◌, Bool, true, false, cond, List, refl, ap, inl, inr, ◌≢◌, ◌≤◌, ◌∷◌, ◌++◌, ◌∙◌, ◌||◌, not, eqb, [], find, Option, Some, sym, subst, CallDone, Done, Entry, Here, History, IsAllowedLog, IsRunHistory, Kernel, Kind, Setting, Write, argument, called, choice_of, clear_of, cleared, clears, clone_child_cleartid, done, done_of, eqb-true, eqb_tells, event, false≢true, had_child, has_flag, here_in_history, history, id_of, is_id_of, kernel, list_any, ne_eqb, next_id, next_number, option_map_or, requeue, running, without_id, anyone}
 use Rattle.block_model.proofs.CallEffects.{Answers, Bears, CallDeed, Exits, Leaves, MovesOff, TableStep, Waits, Wakes}
 use Rattle.block_model.proofs.CallEffects.EachCall.{deed_called}
 use Rattle.block_model.proofs.Invariants.Calls.Futexes.{requeue_keeps}
@@ -15,7 +15,7 @@ abbrev pub HasLostOne : ℕ → List (ℕ × ℕ) → List (ℕ × ℕ) → Type
 HasLostOne t before after = (after ≡ before) ⊎ (after ≡ without_id t before)
 
 -- waking changes none
-ids_requeued : (n more at to : ℕ) (k : Kernel) → (requeue n more at to k).kernel.ids ≡ k.ids
+ids_requeued : (n more at to : ℕ) (listens : ℕ → Bool) (k : Kernel) → (requeue n more at to listens k).kernel.ids ≡ k.ids
 ids_requeued =
     requeue_keeps (λ a b. b.ids ≡ a.ids) (λ k. refl) (λ u k after waiting rest. rest) (λ u to k after waiting rest. rest)
 
@@ -32,8 +32,8 @@ module _ (here : Here) (t number : ℕ) where
 
   ids_deed : {c : CallDone} → CallDeed here t number c → HasLostOne t here.kernel.ids c.kernel.ids
   ids_deed (Answers n entered k no_error writes step) = ids_step step
-  ids_deed (Wakes n more at to small) = inl (ids_requeued n more at to here.kernel)
-  ids_deed (Exits more) = inr (ap (without_id t) (ids_requeued (cond (clears here t) 1 0) 0 (clear_of t here.kernel.threads) 0 here.kernel))
+  ids_deed (Wakes n more at to listens small) = inl (ids_requeued n more at to listens here.kernel)
+  ids_deed (Exits more) = inr (ap (without_id t) (ids_requeued (cond (clears here t) 1 0) 0 (clear_of t here.kernel.threads) 0 anyone here.kernel))
   ids_deed (Bears entered writes free its_number) =
       let child = had_child t here.kernel in
       inl (either_kept (has_flag (argument here t 0) clone_child_cleartid) (cleared (next_number here.kernel) (argument here t 4) child) child _ refl refl)

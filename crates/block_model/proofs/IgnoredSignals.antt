@@ -6,6 +6,8 @@ use Rattle.std.proofs.lemmas.Nat.Bits.{bit_at-lt, bit_at-pow_other, bit_at-pow_s
 use Rattle.std.proofs.Math.Nat.{zero-div}
 use Rattle.std.proofs.Math.Pow.{pow-lt}
 use Rattle.mach_types.specs.Kernel.SignalFrames.{returned}
+use Rattle.mach_types.specs.Kernel.Signals.{fault_if, with_fault}
+use Rattle.mach_types.specs.declared.signal_words.Fault.{Fault}
 use Rattle.mach_types.specs.Kernel.Signals.{forget, is_of, new_thread}
 use Rattle.mach_types.specs.declared.signals.TheConstants.{SIG_IGN}
 
@@ -144,6 +146,12 @@ heeded_pending t s g heeded all =
     all_map (heeding g.actions) (heeding g.actions) (post_if t s) (λ th its.
     cond_both (is_of t th) (record th { pending = joined th.pending (only s) }) th (heeding g.actions)
     (λ own. more_heeded g.actions th.pending s heeded its) (λ other. its)) g.threads all
+
+pub heeded_faulted : (t : ℕ) (f : Fault) (g : Signalling) → is_ignored f.signal (action_of f.signal g) ≡ false → AllHeeded g → AllHeeded (with_fault t f g)
+heeded_faulted t f g heeded all =
+    all_map (heeding g.actions) (heeding g.actions) (fault_if t f) (λ th its.
+    cond_both (is_of t th) (record th { pending = joined th.pending (only f.signal); fault = Some f }) th (heeding g.actions)
+    (λ own. more_heeded g.actions th.pending f.signal heeded its) (λ other. its)) g.threads all
 
 pub heeded_posted : (t s : ℕ) (g : Signalling) → AllHeeded g → AllHeeded (posted t s g)
 heeded_posted t s g all =

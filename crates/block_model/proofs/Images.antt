@@ -1,5 +1,6 @@
 -- A file has one image, which is laid out, and its bytes are those of memory.
-use Rattle.block_model.proofs.Common.{◌≡◌, ◌≢◌, ◌⊎◌, ◌↔◌, ℕ, zero, suc, ◌+◌, ◌*◌, ◌<◌, List, [], ◌∷◌, length, refl, sym, ap, ◌∙◌, subst, arith, inl, inr, get_or, ◌-◌, ◌≤◌, map, None, ◌/◌, ◌%◌, ◌^◌, ◌==◌, ◌&&◌, nat_le, nat_lt, find, Bool, true, false, cond, Option, Some, slice_index, unwrap_or, All, All-from_recursion, All-head, All-tail, AllByRecursion, FIRST_MAPPING_PAGE, FIRST_STACK_PAGE, Here, MAPPING_START, PAGE_SIZE, Saved, Store, Stored, Write, Zeroed, byte_after, byte_of, byte_over, can_read, cases_eq, frame_read, is_in, length-map, memory, mod-lt, overlay, pages_of, permission_at, permission_of, word_at, word_before, words_at, written}
+use Rattle.block_model.proofs.Common.{◌≡◌, ◌≢◌, ◌⊎◌, ◌↔◌, ℕ, zero, suc, ◌+◌, ◌*◌, ◌<◌, List, [], ◌∷◌, length, refl, sym, ap, ◌∙◌, subst, arith, inl, inr, get_or, ◌-◌, ◌≤◌, map, None, ◌/◌, ◌%◌, ◌^◌, ◌==◌, ◌&&◌, nat_le, nat_lt, find, Bool, true, false, cond, Option, Some, slice_index, unwrap_or, All, All-from_recursion, All-head, All-tail, AllByRecursion, FIRST_MAPPING_PAGE, FIRST_STACK_PAGE, Here, MAPPING_START, PAGE_SIZE, Saved, Store, Stored, Write, Zeroed, byte_after, byte_of, byte_over, can_read, cases_eq, frame_read, is_in, length-map, memory, mod-lt, overlay, pages_of, permission_at, permission_of, word_at, word_before, words_at, written, option_map, stack_pointer, take, drop, ◌++◌}
+use Rattle.mach_types.specs.Kernel.SignalFrames.{returns_with_info, without_info}
 use Rattle.std.proofs.lemmas.Grind.{same_number_lists}
 use Rattle.std.proofs.lemmas.List.Elements.{Contains-append_right}
 use Rattle.std.proofs.lemmas.List.Kept.{AllPairs-from_increasing}
@@ -207,7 +208,7 @@ loaded_small pages a all =
     let offset = a % PAGE_SIZE in
     either_small (is_in stack_run n) 0 (cond (is_in return_run n) (return_byte offset) (image_byte (page_of pages n) offset)) 256 (omega arith)
     (either_small (is_in return_run n) (return_byte offset) (image_byte (page_of pages n) offset) 256
-    (byte_small (slice_index return_words (offset / 4)) (offset % 4)) (in_image pages n offset all))
+    (byte_small (slice_index return_words (offset / 8)) (offset % 8)) (in_image pages n offset all))
 
 overlay_small : (ws : List Store) (a below : ℕ) → below < 256 → overlay ws a below < 256
 overlay_small [] a below small = small
@@ -267,6 +268,49 @@ module _ (here : Here) (bytes : (a : ℕ) → here.byte a < 256) where
   words_small : (at n : ℕ) (words : List ℕ) → words_at (memory here) at (suc n) ≡ Some words → slice_index words 0 < 2 ^ 64
   words_small at n words is = first_small (word_at (memory here) at 8) (words_at (memory here) (at + 8) n) words (word_small at) is
 
+  -- each word of a frame
+  all_small : (n at : ℕ) (ws : List ℕ) → words_at (memory here) at n ≡ Some ws → (k : ℕ) → slice_index ws k < 2 ^ 64
+  all_small zero at ws is k =
+      let none : [] ≡ ws = cc in
+      subst (λ (xs : List ℕ). slice_index xs k < 2 ^ 64) none (omega arith)
+  all_small (suc n) at ws is k = by_parts (word_at (memory here) at 8) (words_at (memory here) (at + 8) n) (word_small at) (λ vs. all_small n (at + 8) vs) is k
+    where
+      by_parts : (o : Option ℕ) (rest : Option (List ℕ)) → ((w : ℕ) → o ≡ Some w → w < 2 ^ 64)
+          → ((vs : List ℕ) → rest ≡ Some vs → (j : ℕ) → slice_index vs j < 2 ^ 64) → word_before o rest ≡ Some ws → (j : ℕ) → slice_index ws j < 2 ^ 64
+      by_parts (Some w) (Some vs) small others same j =
+          let its : w ∷ vs ≡ ws = cc in
+          subst (λ (xs : List ℕ). slice_index xs j < 2 ^ 64) its (index j)
+        where
+          index : (i : ℕ) → slice_index (w ∷ vs) i < 2 ^ 64
+          index zero = small w refl
+          index (suc i) = others vs refl i
+      by_parts o rest small others same j = cc
+
+  index_after : (ws : List ℕ) (i : ℕ) → slice_index (drop i ws) 0 ≡ slice_index ws i
+  index_after ws zero = refl
+  index_after [] (suc i) = refl
+  index_after (w ∷ ws) (suc i) = index_after ws i
+
+  first_of : (ws : List ℕ) (mask : ℕ) → slice_index ws 0 < 2 ^ 64 → mask < 2 ^ 64 → slice_index (take 32 ws ++ (mask ∷ 0 ∷ [])) 0 < 2 ^ 64
+  first_of [] mask small mask_small = mask_small
+  first_of (w ∷ ws) mask small mask_small = small
+
   pub frame_small : (saved : Saved) (words : List ℕ) → frame_read (memory here) saved ≡ Some words → slice_index words 0 < 2 ^ 64
   unfolding frame_read
-  frame_small saved words is = words_small _ 33 words is
+  frame_small saved words is = by_form (returns_with_info saved) is
+    where
+      -- word 38 of a frame with SA_SIGINFO is the pc
+      info_small : (us : List ℕ) → words_at (memory here) (stack_pointer saved) 136 ≡ Some us → slice_index (without_info us) 0 < 2 ^ 64
+      info_small us found =
+          let small = all_small 136 (stack_pointer saved) us found in
+          first_of (drop 38 us) (slice_index us 21) (subst (λ n. n < 2 ^ 64) (sym (index_after us 38)) (small 38)) (small 21)
+
+      by_info : (o : Option (List ℕ)) → words_at (memory here) (stack_pointer saved) 136 ≡ o → option_map without_info o ≡ Some words → slice_index words 0 < 2 ^ 64
+      by_info None found same = cc
+      by_info (Some us) found same =
+          let its : without_info us ≡ words = cc in
+          subst (λ (xs : List ℕ). slice_index xs 0 < 2 ^ 64) its (info_small us found)
+
+      by_form : (form : Bool) → cond form (option_map without_info (words_at (memory here) (stack_pointer saved) 136)) (words_at (memory here) (stack_pointer saved) 34) ≡ Some words → slice_index words 0 < 2 ^ 64
+      by_form true same = by_info (words_at (memory here) (stack_pointer saved) 136) refl same
+      by_form false same = words_small _ 33 words same

@@ -1,5 +1,7 @@
 -- What an interruption comes to, and that it leaves the pointer of the thread's area 0 (rseq(2)).
-use Rattle.block_model.proofs.Common.{◌≡◌, ℕ, ◌+◌, ◌-◌, ◌/◌, ◌%◌, ◌^◌, ◌*◌, ◌<◌, ◌≤◌, ◌&&◌, ◌⊎◌, inl, inr, List, [], ◌∷◌, ◌++◌, drop, length, take, refl, sym, ap, ◌∙◌, arith, Bool, true, false, if◌then◌else◌, cond, leb, ltb, Option, Some, None, is_some, length-append, subst, not, Any, Area, BadWhy, CPU_ID, Done, Here, MM_CID, NODE_ID, Named, Outcome, RSEQ_CS, SIGNAL_FRAME_SIZE, Saved, Seq, Store, Stored, Words, Write, and_right, are_readable, area_here, byte_of, byte_over, can_read, can_write_words, done_running, false≢true, frame_at, frame_words, frame_writes, interruption, interruption_here, is_clearable, is_inside, is_inside_named, is_writable, length-take, lives_on, ltb-false, meets, memory, memory_in, named, nat_tests, next_id, number_at, option_map_or, permission_at, pointer_of, stack_pointer, word_at, word_at-read, words_entered, words_on, words_stored, words_to, words_written, writes_of, written}
+use Rattle.block_model.proofs.Common.{◌≡◌, ℕ, ◌+◌, ◌-◌, ◌/◌, ◌%◌, ◌^◌, ◌*◌, ◌<◌, ◌≤◌, ◌&&◌, ◌⊎◌, inl, inr, List, [], ◌∷◌, ◌++◌, drop, length, take, refl, sym, ap, ◌∙◌, arith, Bool, true, false, if◌then◌else◌, cond, leb, ltb, Option, Some, None, is_some, length-append, subst, not, Any, Area, BadWhy, CPU_ID, Done, Here, MM_CID, NODE_ID, Named, Outcome, RSEQ_CS, Saved, Seq, Store, Stored, Words, Write, and_right, are_readable, area_here, byte_of, byte_over, can_read, can_write_words, done_running, false≢true, frame_at, frame_words, frame_writes, interruption, interruption_here, is_clearable, is_inside, is_inside_named, is_writable, length-take, lives_on, ltb-false, meets, memory, memory_in, named, nat_tests, next_id, number_at, option_map_or, permission_at, pointer_of, stack_pointer, word_at, word_at-read, words_entered, words_on, words_stored, words_to, words_written, writes_of, written, Action, Fault, frame_size, replicate}
+use Rattle.mach_types.specs.Kernel.SignalFrames.{context_words, info_words, wants_info, words_of_frame}
+use Rattle.block_model.specs.Whole.{lies_on_words}
 use Rattle.mach_types.proofs.Laws.{each_byte-same}
 use Rattle.mach_types.specs.Kernel.Areas.{pointer_cleared, outcome_of}
 use Rattle.block_model.proofs.NamedSequences.{number_agrees, IsNull, number_null, nothing_null, read_unless_bad}
@@ -63,18 +65,40 @@ words_beside at (w ∷ ws) a below (inr high) =
     ∙ words_beside (at + 8) ws a below (inr (omega arith))
 
 -- a frame has no more words than are known of it
-pub few_words : (saved : Saved) (mask : ℕ) → 8 * length (frame_words saved mask) ≤ SIGNAL_FRAME_SIZE
-few_words saved mask =
+few_plain : (saved : Saved) (mask : ℕ) → 8 * length (frame_words saved mask) ≤ 272
+few_plain saved mask =
     let taken = length-take 31 (drop 1 saved.file.x) in
     let both = length-append (take 31 (drop 1 saved.file.x)) (mask ∷ 0 ∷ []) in
     omega (arith, taken, both)
 
-frame_beside : (saved : Saved) (mask a below : ℕ) → IsBeside (frame_at (stack_pointer saved)) SIGNAL_FRAME_SIZE a
-    → written (frame_writes saved mask) a below ≡ below
-frame_beside saved mask a below (inl low) = words_beside (frame_at (stack_pointer saved)) (frame_words saved mask) a below (inl low)
-frame_beside saved mask a below (inr high) =
-    let few = few_words saved mask in
-    words_beside (frame_at (stack_pointer saved)) (frame_words saved mask) a below (inr (omega (arith, few, high)))
+told_length : (s : ℕ) (fault : Option Fault) → length (info_words s fault) ≡ 16
+told_length s None = refl
+told_length s (Some f) = refl
+
+few_informed : (s : ℕ) (fault : Option Fault) (saved : Saved) (mask : ℕ) → 8 * length (info_words s fault ++ context_words saved mask) ≤ 1088
+few_informed s fault saved mask =
+    let told = told_length s fault in
+    let taken = length-take 31 (drop 1 saved.file.x) in
+    let nothing : List ℕ = replicate 66 0 in
+    let zeros : length nothing ≡ 66 = refl in
+    let context = length-append (take 31 (drop 1 saved.file.x)) nothing in
+    let both = length-append (info_words s fault) (context_words saved mask) in
+    omega (arith, told, taken, zeros, context, both)
+
+few_by_form : (form : Bool) (s : ℕ) (fault : Option Fault) (saved : Saved) (mask : ℕ)
+    → 8 * length (cond form (info_words s fault ++ context_words saved mask) (frame_words saved mask)) ≤ cond form 1088 272
+few_by_form true s fault saved mask = few_informed s fault saved mask
+few_by_form false s fault saved mask = few_plain saved mask
+
+pub few_words : (s : ℕ) (action : Action) (fault : Option Fault) (saved : Saved) (mask : ℕ) → 8 * length (words_of_frame s action fault saved mask) ≤ frame_size action
+few_words s action fault saved mask = few_by_form (wants_info action) s fault saved mask
+
+frame_beside : (s : ℕ) (action : Action) (fault : Option Fault) (saved : Saved) (mask a below : ℕ) → IsBeside (frame_at action (stack_pointer saved)) (frame_size action) a
+    → written (frame_writes s action fault saved mask) a below ≡ below
+frame_beside s action fault saved mask a below (inl low) = words_beside (frame_at action (stack_pointer saved)) (words_of_frame s action fault saved mask) a below (inl low)
+frame_beside s action fault saved mask a below (inr high) =
+    let few = few_words s action fault saved mask in
+    words_beside (frame_at action (stack_pointer saved)) (words_of_frame s action fault saved mask) a below (inr (omega (arith, few, high)))
 
 -- where a frame doesn't lie on some bytes each of them is beside it
 each_beside : (p n at m : ℕ) (b c : Bool) → ltb at (p + n) ≡ b → ltb p (at + m) ≡ c → (b && c) ≡ false → (a : ℕ) → p ≤ a → a < p + n → IsBeside at m a
@@ -95,13 +119,14 @@ pub words_leave : (made : Bool) (area : Area) (words : Words) → Leaves area (w
 words_leave true area words a below low high = words_apart area words a below low high
 words_leave false area words a below low high = refl
 
-pub frame_leaves : (area : Area) (saved : Saved) (mask : ℕ)
-    → meets (record { at = area.at + RSEQ_CS; count = 8 }) (frame_at (stack_pointer saved)) SIGNAL_FRAME_SIZE ≡ false
-    → Leaves area (frame_writes saved mask)
-frame_leaves area saved mask apart a below low high =
+pub frame_leaves : (area : Area) (s : ℕ) (action : Action) (fault : Option Fault) (saved : Saved) (mask : ℕ)
+    → lies_on_words area action (stack_pointer saved) ≡ false
+    → Leaves area (frame_writes s action fault saved mask)
+frame_leaves area s action fault saved mask apart a below low high =
     let p = area.at + RSEQ_CS in
-    let at = frame_at (stack_pointer saved) in
-    frame_beside saved mask a below (each_beside p 8 at SIGNAL_FRAME_SIZE (ltb at (p + 8)) (ltb p (at + SIGNAL_FRAME_SIZE)) refl refl apart a low high)
+    let at = frame_at action (stack_pointer saved) in
+    frame_beside s action fault saved mask a below
+    (each_beside p 8 at (frame_size action) (ltb at (p + 8)) (ltb p (at + frame_size action)) refl refl apart a low high)
 
 -- THE POINTER
 

@@ -1,6 +1,6 @@
 -- What the kernel writes it writes where its pages say that it may: in a call, and in an event that is no instruction and no entering of
 -- a store. So none of it lies where there is no page.
-use Rattle.block_model.proofs.Common.{◌≡◌, ◌≢◌, ℕ, Bool, true, false, not, cond, Option, Some, None, refl, Area, CallDone, Choice, Done, Here, Kind, Outcome, SIGSEGV, Words, action_of, are_words_writable, area_here, call_number, called, called_here, can_write_frame, cond_both, done_killed, done_next, done_of, done_running, done_signal_by, file_interrupted, frame_writes, handled_unless_killed, interruption_here, is_handler, is_inside_here, is_writable, killed_in_call, kills, mask_of, memory, next_for, next_id, runs, words_entered, words_on, words_to, writes_of}
+use Rattle.block_model.proofs.Common.{◌≡◌, ◌≢◌, ℕ, Bool, true, false, not, cond, Option, Some, None, refl, Area, CallDone, Choice, Done, Here, Kind, Outcome, SIGSEGV, Words, action_of, are_words_writable, area_here, call_number, called, called_here, can_write_frame, cond_both, done_killed, done_next, done_of, done_running, done_signal_by, file_interrupted, frame_writes, handled_unless_killed, interruption_here, is_handler, is_inside_here, is_writable, killed_in_call, kills, mask_of, memory, next_for, next_id, runs, words_entered, words_on, words_to, writes_of, fault_of}
 use Rattle.mach_types.specs.declared.events.Choice.TheVariants as asked
 use Rattle.mach_types.specs.declared.events.Kind.TheVariants as kind
 use Rattle.mach_types.specs.declared.sequences.Outcome.TheVariants as comes_to
@@ -39,7 +39,8 @@ module _ (here : Here) (t : ℕ) where
   interrupted : AllWritable (is_writable here) (writes_of (area_here here t) (interruption_here here t))
   interrupted = interruption_writable (is_writable here) (memory here) (area_here here t) (here.file t).pc
 
-  may_enter : (signal : ℕ) (o : Outcome) → kills here t signal o ≡ None → can_write_frame (is_writable here) (file_interrupted here t o) ≡ true
+  may_enter : (signal : ℕ) (o : Outcome) → kills here t signal o ≡ None
+      → can_write_frame (is_writable here) (action_of signal here.kernel.signals) (file_interrupted here t o) ≡ true
   may_enter signal (comes_to.Killed why) is = cc
   may_enter signal outcome is = unhandled (is_handler (action_of signal here.kernel.signals)) _ signal is
 
@@ -47,9 +48,11 @@ module _ (here : Here) (t : ℕ) where
       → AllWritable (is_writable here) (handled_unless_killed here t signal came_to killer).entered
   on_delivery signal None is =
       let file = file_interrupted here t came_to in
-      let mask = mask_of t here.kernel.signals in
-      both_writable (is_writable here) (writes_of (area_here here t) came_to) (frame_writes file mask) interrupted
-      (frame_writable (is_writable here) file mask (may_enter signal came_to is))
+      let g = here.kernel.signals in
+      let a = action_of signal g in
+      let mask = mask_of t g in
+      both_writable (is_writable here) (writes_of (area_here here t) came_to) (frame_writes signal a (fault_of t signal g) file mask) interrupted
+      (frame_writable (is_writable here) signal a (fault_of t signal g) file mask (may_enter signal came_to is))
   on_delivery signal (Some killer) is = interrupted
 
   on_next : (next : Option ℕ) → AllWritable (is_writable here) (done_next here t next).entered

@@ -1,9 +1,10 @@
--- Worked examples, proved by computation: calls that map, remove and protect pages, and what holds them up.
+-- Worked examples, proved by computation: calls that map, remove, protect and drop pages, and what holds them up; and random bytes.
 use Rattle.block_model.proofs.Common.{◌≡◌, ℕ, ◌-◌, ◌^◌, List, [], ◌∷◌, map, replicate, refl, true, false, cond, eqb, Option, Some, None, Here, Neighbour, Others, Saved, Why, Zeroed, called, count_pages, here_in_history, is_held, is_storable, lowest_hole, memory, no_registers, others_gate, paged, permission_at, reached, register, with_register}
 use Rattle.mach_types.specs.Kernel.Barriers.{none_registered}
 use Rattle.mach_types.specs.Kernel.PageCalls.{break_moved}
 use Rattle.mach_types.specs.Kernel.Pages.{each_page, first_page}
 use Rattle.rv_inst.specs.declared.effects.Effect.TheVariants as effect
+use Rattle.block_model.specs.Calls.Answers.{byte_written, double_written}
 use Rattle.block_model.proofs.ExamplePrograms.{code_and_data, within_frames}
 
 -- a call of thread 1 at the start, with a number and arguments
@@ -135,3 +136,38 @@ munmap_of_segment = (refl, refl, refl)
 -- rseq(2) isn't there
 no_areas : answer (shares (calls 293 0x20000 32 0 0x53053053)) ≡ error 38
 no_areas = refl
+
+-- madvise, where the break stands two pages above the lowest: advice that isn't there comes first, then an address within a page and
+-- pages past the last address; no bytes are no error; then pages that aren't there, and the program's own, which advice alone may
+-- name; of a page of the heap one byte is named, and it is dropped whole
+abbrev advise : ℕ → ℕ → ℕ → Here
+advise p len advice = grown (calls 233 p len advice 0)
+
+madvise_answers :
+    (answer (advise 0x21001 4096 5) ≡ error 22)  -- no such advice
+    × (answer (advise 0x21001 0 4) ≡ error 22)  -- within a page
+    × (answer (advise 0xFFFFFFFFFFFFF000 1 3) ≡ error 22)  -- past the last address
+    × (answer (advise 0xFFFFFFFFFFFFF000 0 4) ≡ 0)  -- of nothing
+    × (answer (advise 0x23000 1 3) ≡ error 12)  -- of a hole
+    × (answer (advise 0x20000 1 4) ≡ error 22)  -- drops no page of the program
+    × (answer (advise 0x20000 1 3) ≡ 0)  -- advises one
+    × (answer (advise 0x22000 1 4) ≡ 0)  -- drops
+    × ((called (advise 0x22000 1 4) 1).entered ≡ Zeroed 0x22000 0x1000 ∷ [])  -- writes zeros
+    × ((called (advise 0x22000 1 8) 1).entered ≡ [])  -- frees none
+    × (others_gate (is_held (advise 0x21000 1 4) 1) (Some effect.Call) ≡ Some Others)  -- is held up by a store
+    × (others_gate (is_held (advise 0x21000 1 8) 1) (Some effect.Call) ≡ None)  -- but not other advice
+unfolding lowest_hole first_page each_page count_pages
+madvise_answers = (refl, refl, refl, refl, refl, refl, refl, refl, refl, refl, refl, refl)
+
+-- getrandom: the words are those of SplitMix64 from 0 on; of 11 bytes the last three are the lowest of the second word; what is
+-- refused leaves the generator
+getrandom_answers :
+    ((called (calls 278 0x20000 11 0 0) 1).entered
+    ≡ double_written 0x20000 0xE220A8397B1DCDAF ∷ byte_written 0x20008 0xF4 ∷ byte_written 0x20009 0x65 ∷ byte_written 0x2000A 0xB9 ∷ [])  -- writes
+    × (answer (calls 278 0x20000 11 0 0) ≡ 11)  -- answers
+    × ((called (calls 278 0x20000 11 0 0) 1).kernel.random ≡ 0x3C6EF372FE94F82A)  -- goes on
+    × (answer (calls 278 0x20000 1 6 0) ≡ error 22)  -- two flags
+    × (answer (calls 278 0x10000 8 1 0) ≡ error 14)  -- can't be written
+    × ((called (calls 278 0x10000 8 1 0) 1).kernel.random ≡ 0)  -- stays
+    × (answer (calls 278 0x20000 5000 4 0) ≡ 256)  -- gives less
+getrandom_answers = (refl, refl, refl, refl, refl, refl, refl)

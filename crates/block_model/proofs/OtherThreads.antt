@@ -1,6 +1,6 @@
 -- What a call leaves as it is of other threads: who is ready stays so with its file, and each other thread keeps its area. Each call of
 -- the table does.
-use Rattle.block_model.proofs.Common.{◌≡◌, ◌≢◌, ℕ, ◌+◌, List, [], refl, sym, ap, ◌∙◌, inl, inr, Bool, true, false, cond, Option, Some, None, ◌∷◌, length, map, Area, CallDone, Here, IsGoodHere, IsThreads, KeepsRows, Kernel, Ready, Saved, Thread, ThreadState, Threads, Waiting, Write, answered_wait, area_of, argument, broken_wait, called, child_file, clear_if, clear_of, cleared, clears, clone_child_cleartid, eqb_tells, false≢true, file_among, gone, had_child, has_flag, is_ready, keeps_clear, left, ne_eqb, next_is_new, next_number, option_map, registered, requeue, requeued, restricted, returned, rows_changed, runs, said, signalled, state_of, state_of-with_child_other, state_of-with_child_same, state_of-with_rows, state_of-with_state_other, state_of-with_state_same, state_of-without_other, sum_64, unregistered, waited, waits, wake, with_child, with_new_child, with_state, woken}
+use Rattle.block_model.proofs.Common.{◌≡◌, ◌≢◌, ℕ, ◌+◌, List, [], refl, sym, ap, ◌∙◌, inl, inr, Bool, true, false, cond, Option, Some, None, ◌∷◌, length, map, Area, CallDone, Here, IsGoodHere, IsThreads, KeepsRows, Kernel, Ready, Saved, Thread, ThreadState, Threads, Waiting, Write, answered_wait, area_of, argument, broken_wait, called, child_file, clear_if, clear_of, cleared, clears, clone_child_cleartid, eqb_tells, false≢true, file_among, gone, had_child, has_flag, is_ready, keeps_clear, left, ne_eqb, next_is_new, next_number, option_map, registered, requeue, requeued, restricted, returned, rows_changed, runs, said, signalled, state_of, state_of-with_child_other, state_of-with_child_same, state_of-with_rows, state_of-with_state_other, state_of-with_state_same, state_of-without_other, sum_64, unregistered, waited, waits, wake, with_child, with_new_child, with_state, woken, anyone}
 use Rattle.mach_types.proofs.Laws.{area_of-with_area_other, area_of-without_area_other}
 use Rattle.block_model.proofs.Invariants.Calls.Futexes.{answered, requeue_by, requeue_keeps}
 use Rattle.block_model.proofs.Invariants.Events.{ready_apart}
@@ -106,21 +106,21 @@ beside_requeued : (t v to : ℕ) (k : Kernel) → waits k.threads v → IsBeside
 beside_requeued t v to k waiting =
     record { ready = λ u ne is. ready_beside_requeued v u to k.threads is waiting; areas = λ u ne. refl }
 
-pub beside_requeue : (t n more at to : ℕ) (k : Kernel) → IsBeside t k (requeue n more at to k).kernel
+pub beside_requeue : (t n more at to : ℕ) (listens : ℕ → Bool) (k : Kernel) → IsBeside t k (requeue n more at to listens k).kernel
 beside_requeue t =
     requeue_keeps (IsBeside t) (beside_same t) (λ u k after waiting rest. beside_after t k (woken u k) after (beside_woken t u k) rest)
     (λ u to k after waiting rest. beside_after t k (requeued u to k) after (beside_requeued t u to k waiting) rest)
 
 -- the files that it sets aren't those of ready threads
-pub answered_beside : (here : Here) (n more at to u : ℕ) (f : Saved) (k : Kernel) → is_ready u k.threads ≡ true
-    → answered here (requeue n more at to k) u f ≡ f
-answered_beside here n more at to u f k =
+pub answered_beside : (here : Here) (n more at to : ℕ) (listens : ℕ → Bool) (u : ℕ) (f : Saved) (k : Kernel) → is_ready u k.threads ≡ true
+    → answered here (requeue n more at to listens k) u f ≡ f
+answered_beside here n more at to listens u f k =
     requeue_by (λ k done. is_ready u k.threads ≡ true → answered here done u f ≡ f) (λ k ready. refl)
     (λ v k rest waiting is ready.
     rw (ne_eqb v u (ready_not_waiting u v k.threads ready waiting)) (is (ready_beside v u k.threads ready)))
     (λ v to k rest waiting is ready.
     rw (ne_eqb v u (ready_not_waiting u v k.threads ready waiting)) (is (ready_beside_requeued v u to k.threads ready waiting)))
-    n more at to k
+    n more at to listens k
 
 -- CALLS
 
@@ -182,12 +182,12 @@ module _ (here : Here) (t : ℕ) (good : IsGoodHere here) (at : runs here ≡ So
   aside_deed : (number : ℕ) {c : CallDone} → CallDeed here t number c → IsAside here t c
   aside_deed number (Says n) = aside_wrote here t good at n []
   aside_deed number (Answers n entered k no_error writes step) = aside_own here t good at n entered k (beside_step here t number step)
-  aside_deed number (Wakes n more p to small) =
-      let done = requeue n more p to here.kernel in
+  aside_deed number (Wakes n more p to listens small) =
+      let done = requeue n more p to listens here.kernel in
       record {
         files = λ u f ready.
-            past_own (returned (length done.threads) (here.file t)) (map (answered_wait here) done.threads) u f ready ∙ answered_beside here n more p to u f here.kernel ready;
-        beside = beside_requeue t n more p to here.kernel;
+            past_own (returned (length done.threads) (here.file t)) (map (answered_wait here) done.threads) u f ready ∙ answered_beside here n more p to listens u f here.kernel ready;
+        beside = beside_requeue t n more p to listens here.kernel;
       }
   aside_deed number (Breaks u g waiting keeps stand heeds calm) =
       let broken = broken_wait here u in
@@ -201,10 +201,10 @@ module _ (here : Here) (t : ℕ) (good : IsGoodHere here) (at : runs here ≡ So
   aside_deed number (Exits more) =
       let n : ℕ = cond (clears here t) 1 0 in
       let address = clear_of t here.kernel.threads in
-      let then = (wake n address here.kernel).kernel in
+      let then = (wake n address anyone here.kernel).kernel in
       record {
-        files = λ u f ready. answered_beside here n 0 address 0 u f here.kernel ready;
-        beside = beside_after t here.kernel then (gone t then) (beside_requeue t n 0 address 0 here.kernel) (beside_gone t then);
+        files = λ u f ready. answered_beside here n 0 address 0 anyone u f here.kernel ready;
+        beside = beside_after t here.kernel then (gone t then) (beside_requeue t n 0 address 0 anyone here.kernel) (beside_gone t then);
       }
   aside_deed number (Bears entered writes free its_number) =
       let child = next_number here.kernel in

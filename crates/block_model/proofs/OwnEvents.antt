@@ -1,5 +1,5 @@
 -- What an event leaves of the thread on its own hart, and of that one's area.
-use Rattle.block_model.proofs.Common.{Area, CallDone, Done, Effect, Event, Here, History, IsGoodHere, IsRunHistory, Kernel, Kind, Setting, Write, area_of, argument, by_call, call_number, called, choice_of, choice_with, clear_of, cleared, clears, clone_child_cleartid, done, had_child, has_flag, here_in_history, id_of, instruction_gate, is_call, is_held, kernel, left, next_effect, next_fault, next_number, option_or, others_gate, refusal_exec_by, refusal_of, requeue, running, running_on, running_on-with_rows, runs, signalled, waiting_here, wake, words_on, words_written, ◌≡◌, ◌≢◌, ℕ, [], ◌∷◌, ◌⊎◌, inl, inr, List, Option, Some, None, Bool, true, false, cond, length, is_some, refl, sym, ap, ◌∙◌, subst}
+use Rattle.block_model.proofs.Common.{Area, CallDone, Done, Effect, Event, Here, History, IsGoodHere, IsRunHistory, Kernel, Kind, Setting, Write, area_of, argument, by_call, call_number, called, choice_of, choice_with, clear_of, cleared, clears, clone_child_cleartid, done, had_child, has_flag, here_in_history, id_of, instruction_gate, is_call, is_held, kernel, left, next_effect, next_fault, next_number, option_or, others_gate, refusal_exec_by, refusal_of, requeue, running, running_on, running_on-with_rows, runs, signalled, waiting_here, wake, words_on, words_written, ◌≡◌, ◌≢◌, ℕ, [], ◌∷◌, ◌⊎◌, inl, inr, List, Option, Some, None, Bool, true, false, cond, length, is_some, refl, sym, ap, ◌∙◌, subst, anyone}
 use Rattle.mach_types.proofs.Laws.{area_of-with_area_same, area_of-without_area_same}
 use Rattle.mach_types.specs.declared.events.Kind.TheVariants as kind
 use Rattle.block_model.proofs.Runs.{allowed_at}
@@ -26,7 +26,7 @@ pub data IsAreaCalled (here : Here) (t : ℕ) (entered : List Write) (after : Ke
       → entered ≡ words_written area (words_on here.hart (id_of t here.kernel.ids))
       → IsAreaCalled here t entered after
 
-pub areas_requeued : (n more at to : ℕ) (k : Kernel) → (requeue n more at to k).kernel.areas ≡ k.areas
+pub areas_requeued : (n more at to : ℕ) (listens : ℕ → Bool) (k : Kernel) → (requeue n more at to listens k).kernel.areas ≡ k.areas
 areas_requeued = requeue_keeps (λ before after. after.areas ≡ before.areas) (λ k. refl)
     (λ u k after waiting same. same) (λ u to k after waiting same. same)
 
@@ -44,11 +44,11 @@ module _ (here : Here) (t number : ℕ) where
 
   area_called : {c : CallDone} → CallDeed here t number c → IsAreaCalled here t c.entered c.kernel
   area_called (Answers n entered k no_error writes step) = area_step step
-  area_called (Wakes n more at to small) = area_kept (ap (area_of t) (areas_requeued n more at to here.kernel))
+  area_called (Wakes n more at to listens small) = area_kept (ap (area_of t) (areas_requeued n more at to listens here.kernel))
   area_called (Exits more) =
       let n : ℕ = cond (clears here t) 1 0 in
       area_gone (area_of-without_area_same t
-      (wake n (clear_of t here.kernel.threads) here.kernel).kernel.areas)
+      (wake n (clear_of t here.kernel.threads) anyone here.kernel).kernel.areas)
   area_called (Bears entered writes free its_number) =
       let asked = has_flag (argument here t 0) clone_child_cleartid in
       let child = had_child t here.kernel in
@@ -82,15 +82,15 @@ module _ (here : Here) (t number : ℕ) (good : IsGoodHere here) (at : runs here
 
   runs_called : {c : CallDone} → CallDeed here t number c → StaysOrLeaves h now c.kernel
   runs_called (Answers n entered k no_error writes step) = runs_step step
-  runs_called (Wakes n more p to small) = inl ((kept_requeue here.setting n more p to now good.kernel).running h)
+  runs_called (Wakes n more p to listens small) = inl ((kept_requeue here.setting n more p to listens now good.kernel).running h)
   runs_called (Breaks u g waiting keeps stand heeds calm) =
       let kept = kept_signalled here.setting g now good.kernel keeps in
       inl ((kept_woken here.setting u (signalled g now) kept.sound waiting).running h)
   runs_called (Exits more) =
       let n : ℕ = cond (clears here t) 1 0 in
       let address = clear_of t now.threads in
-      let then = (wake n address now).kernel in
-      let kept = kept_requeue here.setting n 0 address 0 now good.kernel in
+      let then = (wake n address anyone now).kernel in
+      let kept = kept_requeue here.setting n 0 address 0 anyone now good.kernel in
       inr (ended_idle harts h t then.threads then.scheduling kept.sound.tables (kept.running h ∙ at))
   runs_called (Bears entered writes free its_number) =
       let sound = sound_child here.setting h t now good.kernel at free in

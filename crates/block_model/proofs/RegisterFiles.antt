@@ -1,7 +1,6 @@
 -- Each thread has 32 registers at every place of a run.
-use Rattle.block_model.proofs.Common.{AllByRecursion, CallDone, Done, Effect, Event, Here, History, IsRunHistory, Kind, Regs, Saved, Setting, answered_wait, argument, child_file, cond_both, done, file, file_among, files_interrupted, frame_read, has_flag, here_in_history, interruption_here, is_reserved, length-take, memory, outcome, requeue, view_of_all, with_register, woken_at_exit, word_at, word_before, words_at, ◌≡◌, ℕ, zero, suc, ◌+◌, List, [], ◌∷◌, length, map, drop, set, length-set, refl, sym, ap, ◌∙◌, arith, subst, Bool, true, false, cond, not, eqb, Option, Some, length-drop}
-use Rattle.mach_types.specs.Kernel.SignalFrames.{restored}
-use Rattle.mach_types.specs.declared.address_space.TheConstants.{HANDLER_RETURN}
+use Rattle.block_model.proofs.Common.{AllByRecursion, CallDone, Done, Effect, Event, Here, History, IsRunHistory, Kind, Regs, Saved, Setting, answered_wait, argument, child_file, cond_both, done, file, file_among, files_interrupted, frame_read, has_flag, here_in_history, interruption_here, is_reserved, length-take, memory, outcome, requeue, view_of_all, with_register, woken_at_exit, word_at, word_before, words_at, ◌≡◌, ℕ, zero, suc, ◌+◌, List, [], ◌∷◌, length, map, drop, set, length-set, refl, sym, ap, ◌∙◌, arith, subst, Bool, true, false, cond, not, eqb, Option, Some, length-drop, None, ◌++◌, length-append, option_map, slice_index, stack_pointer, take}
+use Rattle.mach_types.specs.Kernel.SignalFrames.{restored, returns_with_info, without_info}
 use Rattle.mach_types.specs.declared.sequences.Outcome as interruptions
 use Rattle.mach_types.specs.declared.sequences.Outcome.TheVariants as comes_to
 use Rattle.rv_inst.specs.Execution.{Outcome}
@@ -66,7 +65,21 @@ words_counted byte at (suc n) ws is =
 
 frame_counted : (byte : ℕ → Option ℕ) (f : Saved) (ws : List ℕ) → frame_read byte f ≡ Some ws → length ws ≡ 34
 unfolding frame_read
-frame_counted byte f ws is = words_counted byte _ 34 ws is
+frame_counted byte f ws is = by_form (returns_with_info f) is
+  where
+    short : (o : Option (List ℕ)) → ((us : List ℕ) → o ≡ Some us → length us ≡ 136) → option_map without_info o ≡ Some ws → length ws ≡ 34
+    short None counted same = cc
+    short (Some us) counted same =
+        let long = counted us refl in
+        let its : without_info us ≡ ws = cc in
+        let dropped = length-drop 38 us in
+        let taken = length-take 32 (drop 38 us) in
+        let both = length-append (take 32 (drop 38 us)) (slice_index us 21 ∷ 0 ∷ []) in
+        sym (ap (λ (xs : List ℕ). length xs) its) ∙ omega (arith, long, dropped, taken, both)
+
+    by_form : (form : Bool) → cond form (option_map without_info (words_at byte (stack_pointer f) 136)) (words_at byte (stack_pointer f) 34) ≡ Some ws → length ws ≡ 34
+    by_form true same = short (words_at byte (stack_pointer f) 136) (λ us found. words_counted byte _ 136 us found) same
+    by_form false same = words_counted byte _ 34 ws same
 
 restored_has : (ws : List ℕ) → length ws ≡ 34 → HasRegisters (restored ws)
 restored_has ws count =
@@ -88,8 +101,8 @@ module _ (here : Here) (all : (t : ℕ) → HasRegisters (here.file t)) where
   call_has : {t number : ℕ} {c : CallDone} → CallDeed here t number c → HaveRegisters c.files
   call_has {t = t} (Says n) = (as_many (here.file t).file 10 n ∙ all t, tt)
   call_has {t = t} (Answers n entered k no_error writes step) = (as_many (here.file t).file 10 n ∙ all t, tt)
-  call_has {t = t} (Wakes n more at to small) =
-      let us = (requeue n more at to here.kernel).threads in
+  call_has {t = t} (Wakes n more at to listens small) =
+      let us = (requeue n more at to listens here.kernel).threads in
       (as_many (here.file t).file 10 (length us) ∙ all t, woken_have here us all)
   call_has {t = t} (Breaks u g waiting keeps stand heeds calm) =
       (as_many (here.file t).file 10 0 ∙ all t, (as_many (here.file u).file 10 _ ∙ all u, tt))
@@ -106,14 +119,14 @@ module _ (here : Here) (all : (t : ℕ) → HasRegisters (here.file t)) where
   interrupted_has t (comes_to.Aborted at) = (all t, tt)
   interrupted_has t outcome = tt
 
-  handler_has : (t s at : ℕ) → length (with_register (with_register (with_register (with_register
-      (with_register (here.file t).file 10 s) 11 0) 12 at) 2 at) 1 HANDLER_RETURN).x ≡ 32
-  handler_has t s at =
+  handler_has : (t s one two at back : ℕ) → length (with_register (with_register (with_register (with_register
+      (with_register (here.file t).file 10 s) 11 one) 12 two) 2 at) 1 back).x ≡ 32
+  handler_has t s one two at back =
       let a = with_register (here.file t).file 10 s in
-      let b = with_register a 11 0 in
-      let c = with_register b 12 at in
+      let b = with_register a 11 one in
+      let c = with_register b 12 two in
       let d = with_register c 2 at in
-      as_many d 1 HANDLER_RETURN ∙ as_many c 2 at ∙ as_many b 12 at ∙ as_many a 11 0
+      as_many d 1 back ∙ as_many c 2 at ∙ as_many b 12 two ∙ as_many a 11 one
       ∙ as_many (here.file t).file 10 s ∙ all t
 
   event_has : {tid : ℕ} {k : Kind} {d : Done} → EventDeed here tid k d → HaveRegisters d.files
@@ -124,7 +137,7 @@ module _ (here : Here) (all : (t : ℕ) → HasRegisters (here.file t)) where
   event_has (Returns t at) = (as_many (here.file t).file 10 0 ∙ all t, tt)
   event_has {tid = tid} Runs = interrupted_has tid (interruption_here here tid)
   event_has {tid = tid} RunKills = interrupted_has tid (interruption_here here tid)
-  event_has (Handles t signal at) = (handler_has t signal _, tt)
+  event_has (Handles t signal at) = (handler_has t signal _ _ _ _, tt)
   event_has (SignalKills t signal killer at) = interrupted_has t (interruption_here here t)
   event_has deed = tt
 

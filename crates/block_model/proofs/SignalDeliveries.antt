@@ -1,10 +1,10 @@
 -- The delivery of a signal interrupts the thread of its hart, which goes on with the file that this leaves it once the handler of the
 -- signal returns; or the process ends.
-use Rattle.block_model.proofs.Common.{◌≡◌, ℕ, ◌+◌, [], ◌∷◌, refl, sym, ap, ◌∙◌, subst, Bool, true, false, not, cond, Option, Some, None, is_some, Area, BadWhy, Done, End, EndsWhole, Event, FindsBad, GoesOnWith, Here, History, IsDeadBy, IsLeftNull, IsRunHistory, Killed, Outcome, RSEQ_CS, RunsThroughout, SIGSEGV, Saved, Sequence, Setting, action_of, area_here, can_write_frame, done_next, done_signal_by, false≢true, file, file_among, file_interrupted, frame_writes, handled, handled_unless_killed, handler_file, has_killed, interruption_here, is_handler, is_writable, kills, mask_of, next_for, number_of, option_map, refusal_delivery, refusal_signal_by, runs, sequence_on, waiting_here, word_at, writes_of}
+use Rattle.block_model.proofs.Common.{◌≡◌, ℕ, ◌+◌, [], ◌∷◌, refl, sym, ap, ◌∙◌, subst, Bool, true, false, not, cond, Option, Some, None, is_some, Area, BadWhy, Done, End, EndsWhole, Event, FindsBad, GoesOnWith, Here, History, IsDeadBy, IsLeftNull, IsRunHistory, Killed, Outcome, RSEQ_CS, RunsThroughout, SIGSEGV, Saved, Sequence, Setting, action_of, area_here, can_write_frame, done_next, done_signal_by, false≢true, file, file_among, file_interrupted, frame_writes, handled, handled_unless_killed, handler_file, has_killed, interruption_here, is_handler, is_writable, kills, mask_of, next_for, number_of, option_map, refusal_delivery, refusal_signal_by, runs, sequence_on, waiting_here, word_at, writes_of, fault_of, option_map_or, stack_pointer}
 use Rattle.mach_types.specs.declared.events.Kind.TheVariants as kind
 use Rattle.mach_types.specs.declared.sequences.Outcome.TheVariants as comes_to
 use Rattle.block_model.specs.Events.Signal.{done_delivery, kills_unhandled}
-use Rattle.block_model.specs.Whole.{IsHandled, IsKilledByDelivery, lies_on_pointer}
+use Rattle.block_model.specs.Whole.{IsHandled, IsKilledByDelivery, frame_of_handler, lies_on_pointer, lies_on_words}
 use Rattle.block_model.proofs.Invariants.Events.{none_waits, out_of_barrier}
 use Rattle.block_model.proofs.Sequences.{runs_throughout}
 use Rattle.block_model.proofs.WholeCauses.{bad_found, found_by}
@@ -53,18 +53,19 @@ module _ (here : Here) (t signal : ℕ) where
   handles = is_handler (action_of signal here.kernel.signals)
 
   abbrev frames : Bool
-  frames = can_write_frame (is_writable here) (file_interrupted here t came_to)
+  frames = can_write_frame (is_writable here) (action_of signal here.kernel.signals) (file_interrupted here t came_to)
 
   unhandled_kills : (FindsBad here t → ⊥) → handles ≡ false → killer ≡ Some signal
   unhandled_kills never none = not_found came_to refl never ∙ ap (λ b. by_tests b frames) none
 
   -- the frame lies where it would without the interruption
-  same_frame : (o : Outcome) → can_write_frame (is_writable here) (file_interrupted here t o) ≡ can_write_frame (is_writable here) (here.file t)
+  same_frame : (o : Outcome) → can_write_frame (is_writable here) (action_of signal here.kernel.signals) (file_interrupted here t o)
+      ≡ can_write_frame (is_writable here) (action_of signal here.kernel.signals) (here.file t)
   unfolding can_write_frame
   same_frame o = refl
 
   unframed_kills : (n : ℕ) → (FindsBad here t → ⊥) → handles ≡ true → killer ≡ Some n
-      → (n ≡ SIGSEGV) × (can_write_frame (is_writable here) (here.file t) ≡ false)
+      → (n ≡ SIGSEGV) × (can_write_frame (is_writable here) (action_of signal here.kernel.signals) (here.file t) ≡ false)
   unframed_kills n never handler is =
       let tested : by_tests true frames ≡ Some n = sym (ap (λ b. by_tests b frames) handler) ∙ sym (not_found came_to refl never) ∙ is in
       let none = no_frame frames n tested in
@@ -164,7 +165,7 @@ module _ (s : Setting) (e : Event) (before : History) (q : Sequence) (run : IsRu
             ended_is ∙ ap (option_map (λ m. Killed m)) (unhandled_kills here t delivered.signal (never_own never) none);
         unframed = λ never handler.
             let so = unframed_kills here t delivered.signal n (never_own never) handler kills_it in
-            (ended_so ∙ ap (λ m. Some (Killed m)) so.0, ap (λ u. can_write_frame (is_writable here) (here.file u)) own ∙ so.1);
+            (ended_so ∙ ap (λ m. Some (Killed m)) so.0, ap (λ u. can_write_frame (is_writable here) (action_of delivered.signal here.kernel.signals) (here.file u)) own ∙ so.1);
       }
 
   -- THE HANDLER IS ENTERED
@@ -193,9 +194,14 @@ module _ (s : Setting) (e : Event) (before : History) (q : Sequence) (run : IsRu
         → word_at (memory_after here e.done) (area.at + RSEQ_CS) 8 ≡ Some 0
     left_null area registered apart =
         let saved = file_interrupted here t outcome in
-        let mask = mask_of t here.kernel.signals in
+        let g = here.kernel.signals in
+        let signal = delivered.signal in
+        let a = action_of signal g in
+        let mask = mask_of t g in
+        let here_apart : lies_on_words area a (stack_pointer saved) ≡ false =
+        sym (ap (λ o. option_map_or (λ n. lies_on_words area (action_of n g) (stack_pointer (file s t before))) o false) delivered.next) ∙ apart in
         subst (λ (d : Done). word_at (memory_after here d) (area.at + RSEQ_CS) 8 ≡ Some 0) (sym handled_so)
-        (pointer_word here t area registered (frame_writes saved mask) (frame_leaves area saved mask apart) never_dies)
+        (pointer_word here t area registered (frame_writes signal a (fault_of t signal g) saved mask) (frame_leaves area signal a (fault_of t signal g) saved mask here_apart) never_dies)
 
   alive_so : has_killed e ≡ false → its_killer ≡ None
   alive_so lives = none_left its_killer (sym killed_is ∙ lives)
@@ -209,7 +215,7 @@ module _ (s : Setting) (e : Event) (before : History) (q : Sequence) (run : IsRu
         let some = some_killer its_killer (sym killed_is ∙ killed) in
         subst (λ k. IsDeadBy s k e before) (sym is) (killed_so some.0 some.1);
     entered = λ lives.
-        (frame_writes (file_interrupted here t outcome) (mask_of t here.kernel.signals), ap (λ (d : Done). d.entered) (handled_so (alive_so lives)));
+        (frame_of_handler t delivered.signal here.kernel.signals (file_interrupted here t outcome), ap (λ (d : Done). d.entered) (handled_so (alive_so lives)));
     null = λ lives area registered. subst (λ k. IsLeftNull s k e before t area) (sym is) (left_null (alive_so lives) area registered);
     goes_on = λ lives saved same. subst (λ k. GoesOnWith s k e before t saved) (sym is) (goes_back (alive_so lives) saved same);
   }

@@ -1,6 +1,8 @@
 -- Worked examples, proved by computation: signals that are posted, masked and delivered, their handlers, faults that become pending,
 -- and waits that a signal breaks.
-use Rattle.block_model.proofs.Common.{◌≡◌, ℕ, ◌+◌, ◌*◌, true, false, List, [], ◌∷◌, ◌++◌, replicate, map, take, drop, refl, Option, Some, None, Action, Done, EFAULT, EINTR, EINVAL, End, Entry, Here, Idle, IsBlockRun, Kernel, Killed, NoSignal, Regs, Saved, Setting, Signalling, Store, ThreadState, Threads, Write, action_of, all_signals, are_readable, called, can_write_frame, choice_at, decide, done, done_exec, done_signal, double_written, file_among, frame_read, gone, had_child, has_ended, has_signal, here_in_history, history, is_ignored, is_register_only, kernel, mask_of, meaning, negative, next_entry, next_for, no_registers, number_at, pending_of, pick, refusal_signal, register, row_of, rows, sight_in, start_signalling, start_threads, state_of, waits, with_child, with_mask, with_pending, with_register, with_state, with_thread, with_waiter, written}
+use Rattle.block_model.proofs.Common.{◌≡◌, ℕ, ◌+◌, ◌*◌, true, false, List, [], ◌∷◌, ◌++◌, replicate, map, take, drop, refl, Option, Some, None, Action, Done, EFAULT, EINTR, EINVAL, End, Entry, Here, Idle, IsBlockRun, Kernel, Killed, NoSignal, Regs, Saved, Setting, Signalling, Store, ThreadState, Threads, Write, action_of, all_signals, are_readable, called, can_write_frame, choice_at, decide, done, done_exec, done_signal, double_written, file_among, frame_read, gone, had_child, has_ended, has_signal, here_in_history, history, is_ignored, is_register_only, kernel, mask_of, meaning, negative, next_entry, next_for, no_registers, number_at, pending_of, pick, refusal_signal, register, row_of, rows, sight_in, start_signalling, start_threads, state_of, waits, with_child, with_mask, with_pending, with_register, with_state, with_thread, with_waiter, written, cond, ltb}
+use Rattle.rv_inst.specs.declared.effects.Effect.TheVariants as effect
+use Rattle.block_model.specs.Instruction.{told_by}
 use Rattle.mach_types.specs.declared.errors.TheConstants.{EAGAIN, ESRCH}
 use Rattle.mach_types.specs.declared.events.Kind.TheVariants as kind
 use Rattle.mach_types.specs.declared.events.Why.TheVariants.{Waiting}
@@ -221,6 +223,22 @@ handler_flags :
 unfolding all_signals can_write_frame
 handler_flags = (refl, refl, refl, refl)
 
+-- with SA_SIGINFO the frame has 1,088 bytes and lies at 0x203C0; a1 and a2 point at its siginfo_t and its ucontext_t, and ra is the
+-- second address to return to. It says that the signal was sent, and has the pc at 304 and the mask at 168
+informed_delivery :
+    ((delivered 4).files ≡ (
+      1,
+      record {
+        file = record { x = 0 ∷ 0x3FFFFF0008 ∷ 0x203C0 ∷ 0 ∷ 0 ∷ 55 ∷ 0 ∷ 0 ∷ 0 ∷ 0 ∷ 10 ∷ 0x203C0 ∷ 0x20440 ∷ replicate 19 0 };
+        pc = 0x10100;
+      },
+    ) ∷ [])  -- enters its handler
+    × (take 3 (delivered 4).entered ≡ double_written 0x203C0 10 ∷ double_written 0x203C8 0xFFFFFFFA ∷ double_written 0x203D0 1 ∷ [])  -- who sent it
+    × (take 1 (drop 21 (delivered 4).entered) ≡ double_written 0x20468 0x4 ∷ [])  -- mask
+    × (take 3 (drop 38 (delivered 4).entered) ≡ double_written 0x204F0 0x100B4 ∷ double_written 0x204F8 0 ∷ double_written 0x20500 0x20808 ∷ [])  -- registers
+unfolding all_signals can_write_frame
+informed_delivery = (refl, refl, refl, refl)
+
 -- with SA_RESETHAND the default of SIGCHLD comes back, which ignores it: it is dropped for the other thread too
 abbrev resets_17 : ℕ → Signalling
 resets_17 flags = with_pending 2 17 (with_pending 1 17 (with_thread 1 2 (acting 17 (handler flags 0))))
@@ -259,6 +277,21 @@ returned_handler :
 unfolding frame_read
 returned_handler = (refl, refl, refl)
 
+-- a frame with SA_SIGINFO at 0x203C0, whose pc was moved on: the call at the second address reads it; a call elsewhere takes its
+-- first word for the pc. All of its 1,088 bytes must be readable
+abbrev returns_informed : ℕ → ℕ → Here
+returns_informed sp pc = record (stands handles_10 (with_register (with_register no_registers 2 sp) 17 139) pc) {
+  byte = λ a. written (double_written 0x203C0 0x100B0 ∷ double_written 0x20468 0x304 ∷ double_written 0x204F0 0x100B8 ∷ double_written 0x20500 0x20808 ∷ []) a 0;
+}
+
+returned_informed :
+    ((called (returns_informed 0x203C0 0x3FFFFF000C) 1).files ≡ (1, record { file = record { x = 0 ∷ 0 ∷ 0x20808 ∷ replicate 29 0 }; pc = 0x100B8 }) ∷ [])  -- goes on further
+    × (mask_of 1 (signals_after (returns_informed 0x203C0 0x3FFFFF000C)) ≡ 0x204)  -- mask comes back
+    × (map (λ pc. map (λ f. f.1.pc) (called (returns_informed 0x203C0 pc) 1).files) (0x3FFFFF0004 ∷ 0x100B4 ∷ []) ≡ (0x100B0 ∷ []) ∷ (0x100B0 ∷ []) ∷ [])  -- another frame
+    × (map (λ sp. (called (returns_informed sp 0x3FFFFF000C) 1).ended) (0x21BC0 ∷ 0x21BC8 ∷ []) ≡ None ∷ Some (Killed 11) ∷ [])  -- frame is cut
+unfolding frame_read
+returned_informed = (refl, refl, refl, refl)
+
 -- what a delivery wrote, read back
 abbrev returns : Here
 returns = record (runs_at (delivered 0).kernel.signals 0) {
@@ -289,6 +322,28 @@ faults_by_action :
     ≡ replicate 4 (Some (Killed 7), [], 1, 0))  -- fault kills
 unfolding all_signals can_write_frame meaning row_of rows
 faults_by_action = (refl, refl, refl)
+
+-- a handler with SA_SIGINFO is told of the fault: ILL_ILLOPC, and the address of the instruction; and of one at 0x100B2, which is
+-- no multiple of 4, BUS_ADRALN
+abbrev told_of : ℕ → ℕ → List Write
+told_of s pc = take 3 (done_signal (runs_at (faults (acting s (handler 4 0)) pc).kernel.signals pc)).entered
+
+fault_is_told :
+    (told_of 4 0x100B0 ≡ double_written 0x203C0 4 ∷ double_written 0x203C8 1 ∷ double_written 0x203D0 0x100B0 ∷ [])  -- no instruction
+    × (told_of 7 0x100B2 ≡ double_written 0x203C0 7 ∷ double_written 0x203C8 1 ∷ double_written 0x203D0 0x100B2 ∷ [])  -- not aligned
+unfolding all_signals can_write_frame meaning row_of rows
+fault_is_told = (refl, refl)
+
+-- where an access is to lie on a page that isn't mapped, and on one that is, but can't be used so
+abbrev some_pages : ℕ → Option ℕ
+some_pages a = cond (ltb a 0x6000) None (Some 0)
+
+codes_of_segv :
+    map (λ at. (told_by some_pages 0x100B4 (Some (effect.Load at 8 false 5)) 11).code) (0x5000 ∷ 0x5FFC ∷ 0x6000 ∷ []) ≡ 1 ∷ 1 ∷ 2 ∷ []
+codes_of_segv = refl
+
+address_of_segv : (told_by some_pages 0x100B4 (Some (effect.Load 0x5008 8 false 5)) 11).address ≡ 0x5008
+address_of_segv = refl
 
 -- WAITS
 

@@ -2,7 +2,8 @@
 use Rattle.block_model.proofs.Common.{◌≡◌, ◌≢◌, ℕ, refl, ap, cond, ◌-◌, ◌<◌, ◌^◌, Bool, true, false, List, [], ◌∷◌, map, get_or, set, replicate, Option, Some, None, zero, suc, ◌∙◌, subst, arith, Action, AllByRecursion, Here, Kernel, Outcome, SIG_DFL, Saved, Signalling, ThreadSignals, acted, action_of, default_action, dropped, entered_action, file_among, files_interrupted, handler_mask, is_ignored, joined, map_stays, mask_if, mask_of, ne_eqb, only, post_if, posted, restored_mask, set_action, signalled, signals_handled, start_signalling, take_if, with_mask, with_pending, without_pending, without_signal}
 use Rattle.mach_types.specs.declared.sequences.Outcome.TheVariants as comes_to
 use Rattle.mach_types.specs.Kernel.SignalFrames.{entered, has_flag, returned}
-use Rattle.mach_types.specs.Kernel.Signals.{is_of}
+use Rattle.mach_types.specs.Kernel.Signals.{fault_if, is_of, with_fault}
+use Rattle.mach_types.specs.declared.signal_words.Fault.{Fault}
 use Rattle.mach_types.specs.declared.signals.TheConstants.{LAST_SIGNAL, SA_RESETHAND}
 
 -- of the record only the signals change
@@ -38,6 +39,9 @@ masked_keeps t mask g = changed (mask_if t mask) (one_changed t (λ th. record t
 
 pub pending_keeps : (t s : ℕ) (g : Signalling) → KeepsThreads g (with_pending t s g)
 pending_keeps t s g = changed (post_if t s) (one_changed t (λ th. record th { pending = joined th.pending (only s) }) (λ th. refl)) g
+
+pub fault_keeps : (t : ℕ) (f : Fault) (g : Signalling) → KeepsThreads g (with_fault t f g)
+fault_keeps t f g = changed (fault_if t f) (one_changed t (λ th. record th { pending = joined th.pending (only f.signal); fault = Some f }) (λ th. refl)) g
 
 pub taken_keeps : (t s : ℕ) (g : Signalling) → KeepsThreads g (without_pending t s g)
 taken_keeps t s g = changed (take_if t s) (one_changed t (without_signal s) (λ th. refl)) g

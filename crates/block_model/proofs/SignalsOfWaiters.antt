@@ -1,6 +1,8 @@
 -- No thread waits with a signal that can be delivered to it (signal(7), "Interruption of system calls"): what each step of threads and
 -- of signals keeps of this.
 use Rattle.block_model.proofs.Common.{◌≡◌, ◌≢◌, ℕ, ◌+◌, ◌&&◌, Bool, true, false, not, cond, eqb, List, [], ◌∷◌, ◌++◌, map, filter, find, Option, Some, None, is_some, refl, sym, ap, subst, ◌∙◌, inl, inr, Action, IsThreads, KeepsRows, Ready, Signalling, Thread, ThreadSignals, ThreadState, Threads, Waiting, acted, action_of, all_signals, cases_eq, cond_both, dropped, entered_action, eqb-true, false≢true, handler_mask, has_signal, is_ignored, is_waiting_state, joined, less, mask_of, ne_eqb, next_for, only, option_map, option_map_or, posted, restored_mask, set_action, signals_handled, state_of, state_of-with_child_other, state_of-with_child_same, state_of-with_rows, state_of-without_other, state_of-without_same, waits, with_child, with_mask, with_pending, with_rows, with_state, with_thread, without, without_pending, without_signal}
+use Rattle.mach_types.specs.Kernel.Signals.{with_fault}
+use Rattle.mach_types.specs.declared.signal_words.Fault.{Fault}
 use Rattle.mach_types.specs.Kernel.SignalFrames.{returned}
 use Rattle.mach_types.specs.Kernel.Signals.{forget, is_of, new_thread}
 use Rattle.block_model.proofs.IgnoredSignals.{less_before}
@@ -90,6 +92,9 @@ module _ (t u : ℕ) (ne : u ≢ t) where
 
   pub next_pending : (s : ℕ) (g : Signalling) → next_for u (with_pending t s g) ≡ next_for u g
   next_pending s g = ap next_by (other_one (λ th. record th { pending = joined th.pending (only s) }) (λ th. refl) g.threads)
+
+  pub next_faulted : (f : Fault) (g : Signalling) → next_for u (with_fault t f g) ≡ next_for u g
+  next_faulted f g = ap next_by (other_one (λ th. record th { pending = joined th.pending (only f.signal); fault = Some f }) (λ th. refl) g.threads)
 
   pub next_taken : (s : ℕ) (g : Signalling) → next_for u (without_pending t s g) ≡ next_for u g
   next_taken s g = ap next_by (other_one (without_signal s) (λ th. refl) g.threads)

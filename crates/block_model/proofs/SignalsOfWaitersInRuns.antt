@@ -1,8 +1,8 @@
 -- At each place of a block run no thread waits with a signal that can be delivered to it: what calls and events keep of this.
-use Rattle.block_model.proofs.Common.{◌≡◌, ◌≢◌, ℕ, List, Bool, true, false, cond, eqb, ◌∷◌, [], Some, None, sym, subst, ◌∙◌, CallDone, Done, Entry, Event, Here, History, IsRunHistory, IsTables, Kernel, Kind, Ready, Running, Setting, Thread, Waiting, Write, argument, call_number, clear_if, clear_of, cleared, clears, clone_child_cleartid, done, had_child, has_flag, here_in_history, keeps_clear, kernel, new_thread, next_for, next_number, option_map, requeue, runs, signals_taken, start_signalling, start_threads, waits, wake}
+use Rattle.block_model.proofs.Common.{◌≡◌, ◌≢◌, ℕ, List, Bool, true, false, cond, eqb, ◌∷◌, [], Some, None, sym, subst, ◌∙◌, CallDone, Done, Entry, Event, Here, History, IsRunHistory, IsTables, Kernel, Kind, Ready, Running, Setting, Thread, Waiting, Write, argument, call_number, clear_if, clear_of, cleared, clears, clone_child_cleartid, done, had_child, has_flag, here_in_history, keeps_clear, kernel, new_thread, next_for, next_number, option_map, requeue, runs, signals_taken, start_signalling, start_threads, waits, wake, fault_told, anyone}
 use Rattle.block_model.proofs.CallEffects.{Answers, Bears, Breaks, CallDeed, ChangesRows, Exits, Leaves, MovesOff, Resumes, Signalled, TableStep, Waits, Wakes}
 use Rattle.block_model.proofs.CallEffects.EachCall.{deed_called}
-use Rattle.block_model.proofs.SignalsOfWaiters.{AreCalm, next_born, next_gone, next_handled, next_pending, next_returned, next_taken, waited_before, waited_beside, waited_or_own, waited_other, waited_rows, waited_with}
+use Rattle.block_model.proofs.SignalsOfWaiters.{AreCalm, next_born, next_gone, next_faulted, next_handled, next_returned, next_taken, waited_before, waited_beside, waited_or_own, waited_other, waited_rows, waited_with}
 use Rattle.block_model.proofs.EventEffects.{Calls, EventDeed, Faults, Handles, Preempts, Runs, SignalKills, deed_of}
 use Rattle.block_model.proofs.Invariants.Calls.Futexes.{requeue_keeps}
 use Rattle.block_model.proofs.Runs.{settled}
@@ -12,7 +12,7 @@ use Rattle.mach_types.specs.Kernel.Threads.{with_woken}
 abbrev pub IsCalm : Kernel → Type 0
 IsCalm k = AreCalm k.threads k.signals
 
-calm_requeue : (n more at to : ℕ) (k : Kernel) → IsCalm k → IsCalm (requeue n more at to k).kernel
+calm_requeue : (n more at to : ℕ) (listens : ℕ → Bool) (k : Kernel) → IsCalm k → IsCalm (requeue n more at to listens k).kernel
 calm_requeue = requeue_keeps (λ a b. IsCalm a → IsCalm b) (λ k calm. calm)
     (λ u k after waiting rest calm. rest (λ w is. calm w (waited_before u w Ready k.threads (λ p no. cc) is)))
     (λ u to k after waiting rest calm. rest (λ w is.
@@ -39,15 +39,15 @@ module _ (here : Here) (harts : ℕ) (tables : IsTables harts here.kernel.thread
 
   calm_deed : (t number : ℕ) {c : CallDone} → runs here ≡ Some t → CallDeed here t number c → IsCalm c.kernel
   calm_deed t number at (Answers n entered k no_error writes step) = calm_step t number at step
-  calm_deed t number at (Wakes n more p to small) = calm_requeue n more p to here.kernel calm
+  calm_deed t number at (Wakes n more p to listens small) = calm_requeue n more p to listens here.kernel calm
   calm_deed t number at (Breaks u g waiting keeps stand heeds quiet) = λ w is.
       let was = waited_other u w Ready here.kernel.threads (λ p no. cc) is in
       quiet w was.0 (calm w was.1)
   calm_deed t number at (Exits more) = λ u is.
       let n : ℕ = cond (clears here t) 1 0 in
-      let then = (wake n (clear_of t here.kernel.threads) here.kernel).kernel in
+      let then = (wake n (clear_of t here.kernel.threads) anyone here.kernel).kernel in
       let was = waited_with t u then.threads is in
-      next_gone t u was.0 then.signals ∙ calm_requeue n 0 (clear_of t here.kernel.threads) 0 here.kernel calm u was.1
+      next_gone t u was.0 then.signals ∙ calm_requeue n 0 (clear_of t here.kernel.threads) 0 anyone here.kernel calm u was.1
   calm_deed t number at (Bears entered writes free its_number) =
       let child = next_number here.kernel in
       calm_if child (argument here t 4) (had_child t here.kernel) (has_flag (argument here t 0) clone_child_cleartid) (λ u is.
@@ -59,7 +59,7 @@ module _ (here : Here) (harts : ℕ) (tables : IsTables harts here.kernel.thread
 
   calm_event : (tid : ℕ) {k : Kind} {d : Done} → EventDeed here tid k d → IsCalm d.kernel
   calm_event tid (Faults t signal fault handler) = λ u is.
-      next_pending t u (apart t fault.at u is) signal here.kernel.signals ∙ calm u is
+      next_faulted t u (apart t fault.at u is) (fault_told here t signal) here.kernel.signals ∙ calm u is
   calm_event tid (Calls t e next calls outside) = calm_deed t (call_number here t) next.at (deed_called here t)
   calm_event tid (Preempts k t leaves at) = λ u is. calm u (waited_before t u Ready here.kernel.threads (λ p no. cc) is)
   calm_event tid Runs = λ u is. calm u (waited_before tid u (Running (record { 0 = here.hart })) here.kernel.threads (λ p no. cc) is)

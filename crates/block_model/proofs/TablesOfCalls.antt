@@ -1,6 +1,6 @@
 -- Whatever else holds at a place, each call leaves tables that agree: where the threads, the scheduling, the areas and the signals
 -- agreed before it, they agree after it.
-use Rattle.block_model.proofs.Common.{◌≡◌, ℕ, List, Bool, true, false, cond, Some, is_some, refl, ap, ◌∙◌, arith, Option, AreOfLive, AreSignalsOfLive, CallDone, Here, IsHeld, IsTables, KeepsRows, Kernel, Thread, ThreadState, Write, argument, call_number, called, clear_if, clear_of, cleared, clears, clone_child_cleartid, gone, had_child, has_flag, keeps_clear, left, next_number, requeue, requeued, restricted, rows_changed, running_on, runs, signalled, waits, wake, woken}
+use Rattle.block_model.proofs.Common.{◌≡◌, ℕ, List, Bool, true, false, cond, Some, is_some, refl, ap, ◌∙◌, arith, Option, AreOfLive, AreSignalsOfLive, CallDone, Here, IsHeld, IsTables, KeepsRows, Kernel, Thread, ThreadState, Write, argument, call_number, called, clear_if, clear_of, cleared, clears, clone_child_cleartid, gone, had_child, has_flag, keeps_clear, left, next_number, requeue, requeued, restricted, rows_changed, running_on, runs, signalled, waits, wake, woken, anyone}
 use Rattle.mach_types.specs.Kernel.SignalFrames as frame
 use Rattle.block_model.proofs.CallEffects.{Answers, Bears, Breaks, CallDeed, ChangesRows, Exits, Leaves, MovesOff, Registers, Resumes, Signalled, Stays, TableStep, Unregisters, Waits, Wakes}
 use Rattle.block_model.proofs.CallEffects.EachCall.{deed_called}
@@ -58,8 +58,8 @@ record IsRequeue (harts : ℕ) (k after : Kernel) : Type 0 where
   agreed : IsAgreed harts after
   running : (h : ℕ) → running_on h after.threads ≡ running_on h k.threads
 
-agreed_requeue : (harts n more at to : ℕ) (k : Kernel) → IsAgreed harts k → IsRequeue harts k (requeue n more at to k).kernel
-agreed_requeue harts n more at to k is =
+agreed_requeue : (harts n more at to : ℕ) (listens : ℕ → Bool) (k : Kernel) → IsAgreed harts k → IsRequeue harts k (requeue n more at to listens k).kernel
+agreed_requeue harts n more at to listens k is =
     requeue_keeps (λ a b. IsAgreed harts a → IsRequeue harts a b) (λ a its. record { agreed = its; running = λ h. refl })
     (λ u a after waiting rest its.
     let done = rest (agreed_woken harts u a waiting its) in
@@ -67,7 +67,7 @@ agreed_requeue harts n more at to k is =
     (λ u to a after waiting rest its.
     let done = rest (agreed_requeued harts u to a waiting its) in
     record { agreed = done.agreed; running = λ h. done.running h ∙ requeued_same harts u to a.threads a.scheduling its.tables waiting h })
-    n more at to k is
+    n more at to listens k is
 
 -- a call of the thread that runs on the hart
 module _ (here : Here) (t number harts : ℕ) (at : runs here ≡ Some t) (is : IsAgreed harts here.kernel) where
@@ -94,13 +94,13 @@ module _ (here : Here) (t number harts : ℕ) (at : runs here ≡ Some t) (is : 
 
   agreed_deed : {c : CallDone} → CallDeed here t number c → IsAgreed harts c.kernel
   agreed_deed (Answers n entered k no_error writes step) = agreed_step step
-  agreed_deed (Wakes n more p to small) = (agreed_requeue harts n more p to now is).agreed
+  agreed_deed (Wakes n more p to listens small) = (agreed_requeue harts n more p to listens now is).agreed
   agreed_deed (Breaks u g waiting keeps stand heeds calm) =
       agreed_woken harts u (signalled g now) waiting (agreed_of harts _ is.tables (held_signalled 9 g now keeps held))
   agreed_deed (Exits more) =
       let n : ℕ = cond (clears here t) 1 0 in
-      let woke = agreed_requeue harts n 0 (clear_of t now.threads) 0 now is in
-      agreed_gone harts here.hart t (wake n (clear_of t now.threads) now).kernel (woke.running here.hart ∙ at) woke.agreed
+      let woke = agreed_requeue harts n 0 (clear_of t now.threads) 0 anyone now is in
+      agreed_gone harts here.hart t (wake n (clear_of t now.threads) anyone now).kernel (woke.running here.hart ∙ at) woke.agreed
   agreed_deed (Bears entered writes free its_number) =
       cleared_if harts (next_number now) (argument here t 4) (had_child t now) (has_flag (argument here t 0) clone_child_cleartid)
       (agreed_of harts (had_child t now) (tables_child harts t now.threads now.scheduling is.tables free) (held_child 9 t now is.tables.threads held))

@@ -1,5 +1,6 @@
 -- Bytes that can be written among those of an access; and writes of the kernel that have such bytes alone.
-use Rattle.block_model.proofs.Common.{◌≡◌, ℕ, suc, ◌+◌, ◌-◌, ◌*◌, ◌<◌, ◌≤◌, ◌||◌, Bool, true, false, not, cond, List, [], ◌∷◌, ◌++◌, filter, length, Option, Some, None, refl, sym, ap, ◌∙◌, subst, arith, AllByRecursion, Area, CPU_ID, MM_CID, NODE_ID, Named, SIGNAL_FRAME_SIZE, Saved, Store, Stored, Words, Write, Zeroed, and_parts, are_words_writable, can_write_frame, each_byte, frame_at, frame_words, frame_writes, interruption, is_clearable, is_inside, named, stack_pointer, words_stored, words_written, writes_of}
+use Rattle.block_model.proofs.Common.{◌≡◌, ℕ, suc, ◌+◌, ◌-◌, ◌*◌, ◌<◌, ◌≤◌, ◌||◌, Bool, true, false, not, cond, List, [], ◌∷◌, ◌++◌, filter, length, Option, Some, None, refl, sym, ap, ◌∙◌, subst, arith, AllByRecursion, Area, CPU_ID, MM_CID, NODE_ID, Named, Saved, Store, Stored, Words, Write, Zeroed, and_parts, are_words_writable, can_write_frame, each_byte, frame_at, frame_writes, interruption, is_clearable, is_inside, named, stack_pointer, words_stored, words_written, writes_of, Action, Fault, frame_size}
+use Rattle.mach_types.specs.Kernel.SignalFrames.{words_of_frame}
 use Rattle.mach_types.proofs.Laws.{each_byte-split}
 use Rattle.mach_types.specs.Kernel.Areas.{outcome_of}
 use Rattle.mach_types.specs.declared.sequences.BadWhy.TheVariants as bad
@@ -85,12 +86,14 @@ module _ (can_write : ℕ → Bool) where
       )
 
   -- the frame of a handler
-  pub frame_writable : (saved : Saved) (mask : ℕ) → can_write_frame can_write saved ≡ true → AllWritable can_write (frame_writes saved mask)
+  pub frame_writable : (s : ℕ) (a : Action) (fault : Option Fault) (saved : Saved) (mask : ℕ) → can_write_frame can_write a saved ≡ true
+      → AllWritable can_write (frame_writes s a fault saved mask)
   unfolding can_write_frame
-  frame_writable saved mask may =
-      let at = frame_at (stack_pointer saved) in
-      let few = few_words saved mask in
-      words_writable at (frame_words saved mask) (bytes_within can_write at SIGNAL_FRAME_SIZE at (8 * length (frame_words saved mask)) may (omega arith) (omega (arith, few)))
+  frame_writable s a fault saved mask may =
+      let at = frame_at a (stack_pointer saved) in
+      let words = words_of_frame s a fault saved mask in
+      let few = few_words s a fault saved mask in
+      words_writable at words (bytes_within can_write at (frame_size a) at (8 * length words) may (omega arith) (omega (arith, few)))
 
   -- the pointer of an area, which an interruption clears only where it can
   cleared_by : (area : Area) (clear inside : Bool) (abort : ℕ) → is_clearable can_write area ≡ clear

@@ -11,9 +11,10 @@ use Rattle.block_model.specs.Calls.Console.{write, writev}
 use Rattle.block_model.specs.Calls.Ending.{exit, exit_group}
 use Rattle.block_model.specs.Calls.Futexes.{futex}
 use Rattle.block_model.specs.Calls.Limits.{prlimit64}
-use Rattle.block_model.specs.Calls.Memory.{brk, mmap, mprotect, munmap}
+use Rattle.block_model.specs.Calls.Memory.{brk, madvise, mmap, mprotect, munmap}
 use Rattle.block_model.specs.Calls.Numbers.{getegid, geteuid, getgid, getpid, getppid, gettid, getuid, set_tid_address}
 use Rattle.block_model.specs.Calls.Policies.{sched_get_priority_max, sched_get_priority_min, sched_getparam, sched_getscheduler}
+use Rattle.block_model.specs.Calls.Random.{getrandom}
 use Rattle.block_model.specs.Calls.Signals.{rt_sigaction, rt_sigpending, rt_sigprocmask, rt_sigreturn, tgkill, tkill}
 use Rattle.block_model.specs.Calls.System.{uname}
 use Rattle.block_model.specs.Calls.Terminal.{fstat, ioctl}
@@ -29,6 +30,7 @@ pub mod Limits
 pub mod Memory
 pub mod Numbers
 pub mod Policies
+pub mod Random
 pub mod Sequences
 pub mod Signals
 pub mod System
@@ -79,6 +81,8 @@ own_call_of number here t =
     else if number == 220 then clone here t
     else if number == 222 then mmap here t
     else if number == 226 then mprotect here t
+    else if number == 233 then madvise here t
+    else if number == 278 then getrandom here t
     else asking_call_of number here t
 
 -- the call of this number; membarrier(2) and rseq(2) are others where a process is beside their own

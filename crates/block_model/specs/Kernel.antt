@@ -17,7 +17,7 @@ use Rattle.block_model.specs.Ids.{with_id, without_id}
 use Rattle.block_model.specs.Setting.{Setting}
 
 -- at the start thread 1 is ready and may run on every hart; the program, the stack and the return page are mapped, each page in a
--- frame of its own; nothing stands on the console
+-- frame of its own; nothing stands on the console; and the generator of random bytes begins with the zeros at AT_RANDOM
 abbrev pub first_kernel : Setting → Kernel
 first_kernel s = record {
   threads = start_threads;
@@ -32,6 +32,7 @@ first_kernel s = record {
     break_at = s.program.break_at;
   };
   console = [];
+  random = 0;
 }
 
 -- a ready thread begins to run on hart h, and holds an id
@@ -118,3 +119,7 @@ paged pages k = record k { pages = pages }
 -- bytes come to the console
 abbrev pub printed : List ℕ → Kernel → Kernel
 printed bytes k = record k { console = k.console ++ bytes }
+
+-- random bytes were given: this is the state of their generator then
+abbrev pub drawn : ℕ → Kernel → Kernel
+drawn state k = record k { random = state }

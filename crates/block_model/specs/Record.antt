@@ -9,7 +9,8 @@ use Rattle.mach_types.specs.Kernel.Pages.{Pages}
 
 -- the threads with their states; the ready list and the affinities; the actions of signals, and what each thread masks and what is
 -- pending for it; the registered areas, each with the number of its thread; the concurrency ids of the threads that run, each with
--- the number of its thread; for which barriers the process is registered; the pages; and the bytes on the console
+-- the number of its thread; for which barriers the process is registered; the pages; the bytes on the console; and the state of the
+-- generator from which getrandom(2) takes its bytes
 pub record Kernel : Type 0 where
   pub threads : Threads
   pub scheduling : Scheduling
@@ -19,3 +20,4 @@ pub record Kernel : Type 0 where
   pub barriers : Registered
   pub pages : Pages
   pub console : List ℕ
+  pub random : ℕ

@@ -6,8 +6,8 @@ use Rattle.std.specs.List.{list_any}
 use Rattle.mach_types.specs.Bytes.{word_at}
 use Rattle.mach_types.specs.Kernel.Areas.{is_clearable, is_inside, pointer_of}
 use Rattle.mach_types.specs.Kernel.Pages.{permission_of}
-use Rattle.mach_types.specs.Kernel.SignalFrames.{can_write_frame, frame_at, frame_writes, handler_file, stack_pointer}
-use Rattle.mach_types.specs.Kernel.Signals.{action_of, is_handler, mask_of, next_for}
+use Rattle.mach_types.specs.Kernel.SignalFrames.{can_write_frame, frame_at, frame_size, frame_writes, handler_file, stack_pointer}
+use Rattle.mach_types.specs.Kernel.Signals.{Signalling, action_of, fault_of, is_handler, mask_of, next_for}
 use Rattle.mach_types.specs.Kernel.Threads.{is_ready}
 use Rattle.mach_types.specs.declared.address_space.TheConstants.{PAGE_SIZE}
 use Rattle.mach_types.specs.Events.{is_instruction, nature_of}
@@ -24,7 +24,8 @@ use Rattle.mach_types.specs.declared.sequences.Named.TheVariants as names
 use Rattle.mach_types.specs.declared.sequences.Outcome.TheVariants as comes_to
 use Rattle.mach_types.specs.declared.sequences.Seq.{Seq}
 use Rattle.mach_types.specs.declared.sequences.TheConstants.{AREA_SIZE, DESCRIPTOR_SIZE, RSEQ_CS}
-use Rattle.mach_types.specs.declared.signals.TheConstants.{SIGNAL_FRAME_SIZE, SIGSEGV}
+use Rattle.mach_types.specs.declared.signal_words.Action.{Action}
+use Rattle.mach_types.specs.declared.signals.TheConstants.{SIGSEGV}
 use Rattle.mach_types.specs.declared.threads.Saved.{Saved}
 use Rattle.mach_types.specs.declared.user_memory.Store.{Store}
 use Rattle.mach_types.specs.declared.user_memory.Write.{Write}
@@ -56,6 +57,10 @@ pub record HangsReady (s : Setting) (before : History) (t : ℕ) (q : Sequence) 
 
 -- CUT
 
+-- the frame of the handler of a signal that is delivered to thread t, which has this file
+abbrev pub frame_of_handler : ℕ → ℕ → Signalling → Saved → List Write
+frame_of_handler t signal g saved = frame_writes signal (action_of signal g) (fault_of t signal g) saved (mask_of t g)
+
 -- the handler of the signal that is delivered to thread t was entered, and returns to this file: the frame, which is what the event
 -- wrote last, has the file and the mask that the thread had, and the thread starts the handler
 pub record IsHandled (s : Setting) (e : Event) (before : History) (t : ℕ) (saved : Saved) : Type 0 where
@@ -63,7 +68,7 @@ pub record IsHandled (s : Setting) (e : Event) (before : History) (t : ℕ) (sav
   pub next : next_for t (kernel s before).signals ≡ Some signal
   pub handler : is_handler (action_of signal (kernel s before).signals) ≡ true
   pub earlier : List Write
-  pub frame : e.done.entered ≡ earlier ++ frame_writes saved (mask_of t (kernel s before).signals)
+  pub frame : e.done.entered ≡ earlier ++ frame_of_handler t signal (kernel s before).signals saved
   pub starts : file s t (e ∷ before) ≡ handler_file signal (action_of signal (kernel s before).signals) saved
 
 -- a thread t that an event interrupts goes on with this file: at once, or where a signal is delivered once the handler returns
@@ -81,9 +86,13 @@ abbrev pub IsNull : Setting → History → ℕ → Area → Type 0
 IsNull s before h area = word_at (memory (here_in_history s before h)) (area.at + RSEQ_CS) 8 ≡ Some 0
 
 -- the frame of a handler that is entered in thread t lies on the pointer of an area
+abbrev pub lies_on_words : Area → Action → ℕ → Bool
+lies_on_words area a sp = meets (record { at = area.at + RSEQ_CS; count = 8 }) (frame_at a sp) (frame_size a)
+
 abbrev pub lies_on_pointer : Setting → History → ℕ → Area → Bool
 lies_on_pointer s before t area =
-    meets (record { at = area.at + RSEQ_CS; count = 8 }) (frame_at (stack_pointer (file s t before))) SIGNAL_FRAME_SIZE
+    let g = (kernel s before).signals in
+    option_map_or (λ signal. lies_on_words area (action_of signal g) (stack_pointer (file s t before))) (next_for t g) false
 
 -- an event that interrupts thread t leaves the pointer of its area 0; but the frame of a signal's handler may lie on it
 abbrev pub IsNullAfter : Setting → Interruption → Event → History → ℕ → Area → Type 0
@@ -227,7 +236,7 @@ pub record IsKilledByDelivery (s : Setting) (e : Event) (before : History) : Typ
       → is_handler (action_of signal (kernel s before).signals) ≡ false → e.done.ended ≡ Some (Killed signal)
   pub unframed : (FindsBad (here_in_history s before e.entry.hart.0) e.entry.tid.0 → ⊥)
       → is_handler (action_of signal (kernel s before).signals) ≡ true
-      → (e.done.ended ≡ Some (Killed SIGSEGV)) × (can_write_frame (can_be_written s before) (file s e.entry.tid.0 before) ≡ false)
+      → (e.done.ended ≡ Some (Killed SIGSEGV)) × (can_write_frame (can_be_written s before) (action_of signal (kernel s before).signals) (file s e.entry.tid.0 before) ≡ false)
 
 -- how an interruption ends the process, by what it is; a take of requests does so only where the check of
 -- the thread finds something bad

@@ -12,19 +12,19 @@ use Rattle.clap.specs.Lexer.{long_of, name_and_value, short_of}
 use Rattle.clap.specs.Kinds.{Kinds}
 use Rattle.clap.specs.declared.error.kind.ErrorKind.TheVariants.{ArgumentConflict, InvalidValue}
 use Rattle.clap.specs.declared.error.kind.ErrorKind.TheVariants.{UnknownArgument}
-use Rattle.clap.specs.Walk.{Held, Row, Text, Waiting, Walk, arg_by_id, arg_by_long, has_row, idle}
+use Rattle.clap.specs.Walk.{Held, Row, Text, Waiting, Walk, arg_by_long, has_row, idle}
 use Rattle.clap.specs.Walk.{is_pending, option, settled, used, value, walked, word_met}
 use Rattle.clap.specs.Faults.{bundle_fault, settle_fault, step_fault, turn_fault, walk_fault, word_fault}
 use Rattle.command_words.specs.Grammar.{Arguments, Item, Given, is_option}
-use Rattle.command_words.specs.Options.{OptionName, Harts, Frames, Steps, Seed, Policy, Calm, After, RunCount, Until, By, Jobs, From, To, Memory, Expect, Places, Deep, Scripts, Without, Preemptions, OwnSignals, long_name, option_named}
+use Rattle.command_words.specs.Options.{OptionName, long_name, option_named}
 use Rattle.command_words.proofs.Parts.{with_item, with_name, with_option}
 use Rattle.command_words.specs.Words.{Reading, Options, Value, Names, option_read}
 use Rattle.command_words.proofs.ClapRows.{has_held}
 use Rattle.command_words.proofs.ClapEquals.{long_read, short_unread}
-use Rattle.command_words.proofs.ClapWords.{by_form, long_named, rules, option_built, name_built}
+use Rattle.command_words.proofs.ClapWords.{by_form, long_named, name_at_1, name_at_2, name_at_3, name_built, none_at_4, option_built, option_found, rules, shape}
 use Rattle.command_words.proofs.ClapTurns.{AreLetters, Ends, Fits, IsPlainWord, nothing_plain, dash_plain}
 use Rattle.command_words.proofs.ClapTurns.{other_plain, and_false, or_false, held, long_bad, name_bad}
-use Rattle.command_words.proofs.ClapTurns.{or_bad, plain_fine, plain_met, shape, short_bad, step_off, step_to}
+use Rattle.command_words.proofs.ClapTurns.{or_bad, plain_fine, plain_met, short_bad, step_off, step_to}
 use Rattle.command_words.proofs.ClapTurns.{value_of, walk_at}
 use Rattle.command_words.proofs.ClapWalk.{GoesOn, Goes, IsReady, loose, read_on}
 use Rattle.command_words.proofs.ClapWalk.{first_fits, first_free, option_fits, option_free, second_fits, second_free}
@@ -55,8 +55,8 @@ name_goes b word rest given [] rows pending target on few ready met fine =
     let now = rows_of_held rows pending in
     step_to (walk_at h idle 1 b) (walk_at (held now (Some (codes "first", word ∷ []))) idle 2 b) word rest
     (target (with_names (word ∷ []) given))
-    (rw (fine, met) (passed (is_pending (name_built 1 (codes "first")) pending) (settle_fault rules false h) ready.0))
-    (rw (met, and_false (is_pending (name_built 1 (codes "first")) pending), or_false b) refl)
+    (rw (fine, met, name_at_1) (passed (is_pending (name_built 1 (codes "first")) pending) (settle_fault rules false h) ready.0))
+    (rw (met, name_at_1, and_false (is_pending (name_built 1 (codes "first")) pending), or_false b) refl)
     (on (with_names (word ∷ []) given) now (Some (codes "first", word ∷ [])) (omega arith) (
       first_free (with_names [] given) now word ready.1 refl,
       first_fits (with_names [] given) now word
@@ -67,8 +67,8 @@ name_goes b word rest given (a ∷ []) rows pending target on few ready met fine
     let now = rows_of_held rows pending in
     step_to (walk_at h idle 2 b) (walk_at (held now (Some (codes "second", word ∷ []))) idle 3 b) word rest
     (target (with_names (a ∷ word ∷ []) given))
-    (rw (fine, met) (passed (is_pending (name_built 2 (codes "second")) pending) (settle_fault rules false h) ready.0))
-    (rw (met, and_false (is_pending (name_built 2 (codes "second")) pending), or_false b) refl)
+    (rw (fine, met, name_at_2) (passed (is_pending (name_built 2 (codes "second")) pending) (settle_fault rules false h) ready.0))
+    (rw (met, name_at_2, and_false (is_pending (name_built 2 (codes "second")) pending), or_false b) refl)
     (on (with_names (a ∷ word ∷ []) given) now (Some (codes "second", word ∷ [])) (omega arith) (
       second_free (with_names (a ∷ []) given) now word ready.1 a refl,
       second_fits (with_names (a ∷ []) given)
@@ -79,8 +79,8 @@ name_goes b word rest given (a ∷ c ∷ []) rows pending target on few ready me
     let now = rows_of_held rows pending in
     step_to (walk_at h idle 3 b) (walk_at (held now (Some (codes "third", word ∷ []))) idle 4 b) word rest
     (target (with_names (a ∷ c ∷ word ∷ []) given))
-    (rw (fine, met) (passed (is_pending (name_built 3 (codes "third")) pending) (settle_fault rules false h) ready.0))
-    (rw (met, and_false (is_pending (name_built 3 (codes "third")) pending), or_false b) refl)
+    (rw (fine, met, name_at_3) (passed (is_pending (name_built 3 (codes "third")) pending) (settle_fault rules false h) ready.0))
+    (rw (met, name_at_3, and_false (is_pending (name_built 3 (codes "third")) pending), or_false b) refl)
     (on (with_names (a ∷ c ∷ word ∷ []) given) now (Some (codes "third", word ∷ [])) (omega arith) (
       third_free (with_names (a ∷ c ∷ []) given) now word ready.1 a c refl,
       third_fits (with_names (a ∷ c ∷ []) given)
@@ -88,7 +88,7 @@ name_goes b word rest given (a ∷ c ∷ []) rows pending target on few ready me
     ))
 name_goes b word rest given (a ∷ c ∷ d ∷ []) rows pending target on few ready met fine =
     let h = held rows pending in
-    let turn : turn_fault shape [] (walk_at h idle 4 b) word ≡ UnknownArgument ∷ [] = rw (fine, met) refl in
+    let turn : turn_fault shape [] (walk_at h idle 4 b) word ≡ UnknownArgument ∷ [] = rw (fine, met, none_at_4) refl in
     step_off (walk_at h idle 4 b) word rest (λ is. absurd (cc (sym turn ∙ is)))
 name_goes b word rest given (a ∷ c ∷ d ∷ e ∷ more) rows pending target on few ready met fine = absurd (omega arith)
 
@@ -102,30 +102,6 @@ doomed_names (word ∷ rest) names h waiting few bad =
     step_off (walk_at h waiting (1 + length names) true) word rest (name_bad names h few bad)
 
 -- ---- words that are flags
-
-option_words : (o : OptionName) → (arg_by_long rules (long_name o) ≡ Some (option_built (long_name o)))
-    × (arg_by_id rules (long_name o) ≡ Some (option_built (long_name o)))
-option_words Harts = (refl, refl)
-option_words Frames = (refl, refl)
-option_words Steps = (refl, refl)
-option_words Seed = (refl, refl)
-option_words Policy = (refl, refl)
-option_words Calm = (refl, refl)
-option_words After = (refl, refl)
-option_words RunCount = (refl, refl)
-option_words Until = (refl, refl)
-option_words By = (refl, refl)
-option_words Jobs = (refl, refl)
-option_words From = (refl, refl)
-option_words To = (refl, refl)
-option_words Memory = (refl, refl)
-option_words Expect = (refl, refl)
-option_words Places = (refl, refl)
-option_words Deep = (refl, refl)
-option_words Scripts = (refl, refl)
-option_words Without = (refl, refl)
-option_words Preemptions = (refl, refl)
-option_words OwnSignals = (refl, refl)
 
 past_dash : (word : Text) → IsUtf8 (45 ∷ word) → IsUtf8 word
 past_dash word letters = IsUtf8-drop (45 ∷ word) 1 letters (IsCharBoundary-after_ascii (45 ∷ word) 0 letters
@@ -235,10 +211,10 @@ module _ (word : Text) (rest : List Text) (on : GoesOn rest) (given : Arguments)
   unfolding walked
   waits o long =
       let now = rows_of_held rows pending in
-      let turn : turn_fault shape [] here word ≡ [] = rw (dashes, long, (option_words o).0, ready.0) refl in
+      let turn : turn_fault shape [] here word ≡ [] = rw (dashes, long, (option_found o).0, ready.0) refl in
       let goes : walked rules [] here word ≡ walk_at (held now (Some (long_name o, []))) (option (long_name o))
       (1 + length given.names) false =
-      rw (dashes, long, (option_words o).0) refl in
+      rw (dashes, long, (option_found o).0) refl in
       step_to here (walk_at (held now (Some (long_name o, []))) (option (long_name o)) (1 + length given.names) false)
       word rest
       (loose rest given (Value o)) turn goes (on given (Value o) now (Some (long_name o, [])) few (refl, ready.1))
@@ -251,7 +227,7 @@ module _ (word : Text) (rest : List Text) (on : GoesOn rest) (given : Arguments)
       let now = rows_of_held rows pending in
       let there = repeated o v x given now ready.1 some in
       let turn : turn_fault shape [] here word ≡ ArgumentConflict ∷ [] =
-      rw (dashes, long, (option_words o).0, ready.0, there) refl in
+      rw (dashes, long, (option_found o).0, ready.0, there) refl in
       subst (λ (e : Option Arguments). Ends here (word ∷ rest) (e >>= (λ next. loose rest next Options)))
       (sym (option_twice o v x given some)) (step_off here word rest (λ is. absurd (cc (sym turn ∙ is))))
   has_value o v None none long =
@@ -259,9 +235,9 @@ module _ (word : Text) (rest : List Text) (on : GoesOn rest) (given : Arguments)
       let absent = absent_row o given now ready.1 none in
       let after = used (option_built (long_name o)) (v ∷ []) now in
       let next = walk_at (held after None) idle (1 + length (with_option o v given).names) false in
-      let turn : turn_fault shape [] here word ≡ [] = rw (dashes, long, (option_words o).0, ready.0, absent) refl in
+      let turn : turn_fault shape [] here word ≡ [] = rw (dashes, long, (option_found o).0, ready.0, absent) refl in
       let goes : walked rules [] here word ≡ walk_at (held after None) idle (1 + length given.names) false =
-      rw (dashes, long, (option_words o).0) refl in
+      rw (dashes, long, (option_found o).0) refl in
       let placed : walk_at (held after None) idle (1 + length given.names) false ≡ next =
       ap (λ (n : ℕ). walk_at (held after None) idle (1 + n) false) (same_place o v given) in
       subst (λ (e : Option Arguments). Ends here (word ∷ rest) (e >>= (λ later. loose rest later Options)))
@@ -336,7 +312,7 @@ names_turn word rest on given rows pending few ready =
 
 lacking : (o : OptionName) (rows : List Row) → settle_fault rules false (held rows (Some (long_name o, [])))
     ≡ InvalidValue ∷ []
-lacking o rows = rw (option_words o).1 refl
+lacking o rows = rw (option_found o).1 refl
 
 short_waits : (o : OptionName) (y : ℕ) (more : Text) (rows : List Row) → (y == 45) ≡ false
     → word_fault shape [] false (option (long_name o)) (45 ∷ y ∷ more) (held rows (Some (long_name o, [])))
@@ -371,20 +347,20 @@ module _ (o : OptionName) (rest : List Text) (on : GoesOn rest) (later : AreLett
 
     goes : walked rules [] asks w ≡ filled
     unfolding walked
-    goes = rw (is.dashes, is.long, is.short, (option_words o).1, same) refl
+    goes = rw (is.dashes, is.long, is.short, (option_found o).1, same) refl
 
     value_ends : (x : Option Text) → value_of o given ≡ x
         → Ends asks (w ∷ rest) (read_on (loose rest) given (Some (Given o w), Options))
     value_ends (Some v) some =
         let there = repeated o w v given rows fits some in
         let conflict : settle_fault rules false (held rows (Some (long_name o, w ∷ []))) ≡ ArgumentConflict ∷ [] =
-        rw ((option_words o).1, there) refl in
+        rw ((option_found o).1, there) refl in
         subst (λ (e : Option Arguments). Ends asks (w ∷ rest) (e >>= (λ n. loose rest n Options)))
         (sym (option_twice o w v given some)) (step_to asks filled w rest None fine goes
         (doomed rest later given.names rows (Some (long_name o, w ∷ [])) few (λ none. absurd (cc (sym conflict ∙ none)))))
     value_ends None none =
         let settles : (settled rules (held rows (Some (long_name o, w ∷ [])))).rows ≡ used (option_built (long_name o))
-        (w ∷ []) rows = rw (option_words o).1 refl in
+        (w ∷ []) rows = rw (option_found o).1 refl in
         let after = walk_at (held rows (Some (long_name o, w ∷ []))) idle (1 + length (with_option o w given).names)
         false in
         let placed : filled ≡ after = ap (λ (n : ℕ). walk_at (held rows (Some (long_name o, w ∷ []))) idle (1 + n)

@@ -1,20 +1,21 @@
 -- `clap` reads the words behind a command as the grammar does, but for a value that is `-`.
 use Rattle.std.proofs.Common.{◌≡◌, ◌∙◌, Bool, cond, true, false, List, [], ◌∷◌, Option, Some, None, refl}
 use Rattle.std.proofs.Common.{ap, arith}
-use Rattle.std.specs.Prelude.{◌||◌, fold}
+use Rattle.std.specs.Prelude.{◌||◌, fold, not}
 use Rattle.std.specs.Option.{is_some}
 use Rattle.clap.specs.Kinds.{Kinds, or_else}
 use Rattle.clap.specs.Walk.{Row, Rule, Text, has_row, settled, walk, with_default}
-use Rattle.clap.specs.Walk.{nothing_held}
-use Rattle.clap.specs.Simple.{built, entered, matches_of}
-use Rattle.clap.specs.Faults.{defaults_fault, entered_fault, fault_of, settle_fault, walk_fault}
+use Rattle.clap.specs.Walk.{finished, nothing_held, rows_after}
+use Rattle.clap.specs.Simple.{App, entered, matches_of, names_of}
+use Rattle.clap.specs.Takes.{is_given}
+use Rattle.clap.specs.Faults.{built_fault, check_fault, defaults_fault, entered_fault, fault_of, settle_fault, walk_fault}
 use Rattle.command_words.specs.Line.{line}
 use Rattle.command_words.specs.Options.{OptionName, long_name}
 use Rattle.command_words.proofs.Parts.{no_arguments}
 use Rattle.command_words.specs.Words.{Options}
 use Rattle.command_words.proofs.ClapRows.{Holds}
-use Rattle.command_words.proofs.ClapWords.{rules}
-use Rattle.command_words.proofs.ClapTurns.{AreLetters, Ends, end_of, fails, held, shape, value_of}
+use Rattle.command_words.proofs.ClapWords.{HasNoDefaults, line_built, no_defaults, none_required, rules, shape}
+use Rattle.command_words.proofs.ClapTurns.{AreLetters, Ends, end_of, fails, held, value_of}
 use Rattle.command_words.proofs.ClapTurns.{walk_at}
 use Rattle.command_words.proofs.ClapWalk.{loose}
 use Rattle.command_words.proofs.ClapGoes.{goes_on}
@@ -44,41 +45,49 @@ kept : (b : Bool) (rows : List Row) → cond b rows rows ≡ rows
 kept true rows = refl
 kept false rows = refl
 
-abbrev HasNone : List Rule → Type 0
-HasNone [] = Unit {0}
-HasNone (a ∷ rest) = (a.defaults ≡ []) × HasNone rest
-
 unchanged : (rows : List Row) (a : Rule) → a.defaults ≡ [] → with_default rows a ≡ rows
 unchanged rows a none = rw none (kept (has_row a.id rows) rows)
 
-all_unchanged : (rows : List Row) (rs : List Rule) → HasNone rs → fold with_default rows rs ≡ rows
+all_unchanged : (rows : List Row) (rs : List Rule) → HasNoDefaults rs → fold with_default rows rs ≡ rows
 all_unchanged rows [] none = refl
 all_unchanged rows (a ∷ rest) none = ap (λ (now : List Row). fold with_default now rest)
     (unchanged rows a none.0) ∙ all_unchanged rows rest none.1
 
-no_default_fault : (rows : List Row) (rs : List Rule) → HasNone rs → defaults_fault rows rs ≡ []
+no_default_fault : (rows : List Row) (rs : List Rule) → HasNoDefaults rs → defaults_fault rows rs ≡ []
 unfolding defaults_fault
 no_default_fault rows [] none = refl
 no_default_fault rows (a ∷ rest) none =
     rw (none.0, or_true (has_row a.id rows), kept (has_row a.id rows) rows) (no_default_fault rows rest none.1)
 
-none_here : HasNone rules
-none_here = (refl, (refl, (refl, (refl, (refl, (refl, (refl, (refl, (refl, (refl, (refl, (refl, (refl, (refl, (refl, (refl, (refl, (refl, (refl, (refl, (refl, (refl, (refl, (refl, tt))))))))))))))))))))))))
+-- the line, as it is read
+abbrev told : App
+told = record { top = shape; subs = [] }
 
-not_entered : (stop : Option (Text × List Text)) → entered_fault (built line) stop ≡ []
+not_entered : (stop : Option (Text × List Text)) → entered_fault told stop ≡ []
 not_entered None = refl
 not_entered (Some p) = refl
 
-none_entered : (stop : Option (Text × List Text)) → is_some (entered (built line) stop) ≡ false
+none_entered : (stop : Option (Text × List Text)) → is_some (entered told stop) ≡ false
 none_entered None = refl
 none_entered (Some p) = refl
+
+none_missing : (rows : List Row) → check_fault shape rows false ≡ []
+none_missing rows = rw (none_required (λ (rule : Rule). not (is_given rule.id rows))) refl
 
 pub fault_is : (words : List Text) → fault_of line words ≡ fails start words
 fault_is words =
     let stop = (walk rules [] nothing_held words).stopped in
     let end = end_of start words in
-    rw (not_entered stop, none_entered stop, no_default_fault (settled rules end).rows rules none_here)
+    ap (λ (a : App). built_fault a nothing_held words) line_built
+    ∙ rw (
+      not_entered stop,
+      none_entered stop,
+      no_default_fault (settled rules end).rows rules no_defaults,
+      none_missing (finished rules end),
+    )
     (ap (or_else (walk_fault shape [] start words)) (or_nil (settle_fault rules false end)))
 
 pub matches_are : (words : List Text) → matches_of line words ≡ (settled rules (end_of start words)).rows
-matches_are words = all_unchanged (settled rules (end_of start words)).rows rules none_here
+matches_are words =
+    ap (λ (a : App). rows_after a.top.rules (names_of a) words) line_built
+    ∙ all_unchanged (settled rules (end_of start words)).rows rules no_defaults

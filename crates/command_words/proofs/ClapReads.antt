@@ -11,11 +11,11 @@ use Rattle.clap.specs.Simple.{matches_of}
 use Rattle.clap.specs.Faults.{fault_of}
 use Rattle.command_words.specs.Grammar.{Arguments, Item, Name, Given, asked_by, begins_with_dash, is_option, suits}
 use Rattle.command_words.specs.Line.{AsksAlike, arguments_found, line, names_found}
-use Rattle.command_words.specs.Options.{OptionName, Harts, Frames, Steps, Seed, Policy, Calm, After, RunCount, Until, By, Jobs, From, To, Memory, Expect, Places, Deep, Scripts, Without, Preemptions, OwnSignals, is_value, long_name, same_option}
+use Rattle.command_words.specs.Options.{OptionName, is_value, long_name, same_option}
 use Rattle.command_words.specs.Options.{values_of}
 use Rattle.command_words.specs.Takes.{has, takes_kind}
 use Rattle.command_words.specs.Words.{Reading, Options, Value, Names, texts, word_read}
-use Rattle.command_words.proofs.EachOption.{same_is, same_self}
+use Rattle.command_words.proofs.EachOption.{none_passes, same_is, same_self}
 use Rattle.command_words.proofs.Parts.{no_arguments, with_item, with_option}
 use Rattle.command_words.proofs.Gathering.{arguments_gathered, with_words}
 use Rattle.command_words.proofs.Gathering.{word_refused, word_taken, word_unread}
@@ -33,33 +33,7 @@ abbrev pub dash : Text
 dash = 45 ∷ []
 
 none_takes : (o : OptionName) → is_value (values_of o) dash ≡ false
-none_takes Harts = refl
-none_takes Frames = refl
-none_takes Steps = refl
-none_takes Seed = refl
-none_takes Policy = refl
-none_takes Calm = refl
-none_takes After = refl
-none_takes RunCount = refl
-none_takes Until = refl
-none_takes By = refl
-none_takes Jobs = refl
-none_takes From = refl
-none_takes To = refl
-none_takes Memory = refl
-none_takes Expect = refl
-none_takes Places = refl
-none_takes Deep = refl
-none_takes Scripts = refl
-none_takes Without = refl
-none_takes Preemptions = refl
-none_takes OwnSignals = refl
-
-none_asked : (word : Text) (o : OptionName) (given : Arguments) → value_of o given ≡ Some dash
-    → asked_by word given ≡ None
-none_asked word o given is =
-    unsuited word given o (λ kind. ap (suits (takes_kind kind) o) is
-    ∙ ap (λ b. has (takes_kind kind).options o && b) (none_takes o) ∙ and_false (has (takes_kind kind).options o))
+none_takes o = none_passes (λ o. is_value (values_of o) dash) refl o
 
 -- ---- such a value stays
 
@@ -110,53 +84,6 @@ item_stays o x (Some (Name text)) given next there is =
 item_stays o x (Some (Given other text)) given next there is =
     value_stays o other x text given next (value_of other given) refl there is ∙ there
 
-asked_after : (word : Text) (o : OptionName) (given : Arguments) (rest : List Text)
-    (read : Option (Option Item × Reading))
-    → ((next : Arguments) (after : Reading) → value_of o next ≡ Some dash
-    → (loose rest next after >>= asked_by word) ≡ None)
-    → value_of o given ≡ Some dash
-    → ((read >>= read_on (loose rest) given) >>= asked_by word) ≡ None
-asked_after word o given rest None later there = refl
-asked_after word o given rest (Some (item, after)) later there = go (with_item given item) refl
-  where
-    go : (added : Option Arguments) → with_item given item ≡ added
-        → ((added >>= (λ next. loose rest next after)) >>= asked_by word) ≡ None
-    go None is = refl
-    go (Some next) is = later next after (item_stays o dash item given next there is)
-
-none_later : (word : Text) (o : OptionName) (words : List Text) (given : Arguments) (reading : Reading)
-    → value_of o given ≡ Some dash → (loose words given reading >>= asked_by word) ≡ None
-none_later word o [] given Options there = none_asked word o given there
-none_later word o [] given (Value other) there = refl
-none_later word o [] given Names there = none_asked word o given there
-none_later word o (next ∷ rest) given reading there =
-    asked_after word o given rest (loosely reading next)
-    (λ given reading there. none_later word o rest given reading there) there
-
--- ---- the loose reading and the grammar's
-
-abbrev Alike : Text → List Text → Type 0
-Alike word rest = (given : Arguments) (reading : Reading)
-    → (loose rest given reading >>= asked_by word) ≡ (with_words given reading rest >>= asked_by word)
-
-alike_after : (word next : Text) (rest : List Text) (given : Arguments) (reading : Reading)
-    (read : Option (Option Item × Reading)) → word_read reading next ≡ read → Alike word rest
-    → ((read >>= read_on (loose rest) given) >>= asked_by word)
-    ≡ (with_words given reading (next ∷ rest) >>= asked_by word)
-alike_after word next rest given reading None is later =
-    sym (ap (λ (o : Option Arguments). o >>= asked_by word) (word_unread given reading next rest is))
-alike_after word next rest given reading (Some (item, after)) is later = go (with_item given item) refl
-  where
-    go : (added : Option Arguments) → with_item given item ≡ added
-        → ((added >>= (λ more. loose rest more after)) >>= asked_by word)
-        ≡ (with_words given reading (next ∷ rest) >>= asked_by word)
-    go None fits =
-        sym (ap (λ (o : Option Arguments). o >>= asked_by word) (word_refused given reading after item next rest
-        is fits))
-    go (Some more) fits = later more after
-        ∙ sym (ap (λ (o : Option Arguments). o >>= asked_by word) (word_taken given more reading after item next
-        rest is fits))
-
 -- a word that begins with `-` and may be a name is `-`
 alone : (next : Text) → begins_with_dash next ≡ true → is_option next ≡ false → next ≡ dash
 alone next =
@@ -172,54 +99,111 @@ alone next =
 given_dash : (o : OptionName) (given : Arguments) → value_of o (with_option o dash given) ≡ Some dash
 given_dash o given = rw (same_self o) refl
 
-dash_asks_none : (word : Text) (o : OptionName) (rest : List Text) (given : Arguments) (value : Option Text)
-    → value_of o given ≡ value
-    → ((with_item given (Some (Given o dash)) >>= (λ more. loose rest more Options)) >>= asked_by word) ≡ None
-dash_asks_none word o rest given (Some x) has =
-    ap (λ (e : Option Arguments). (e >>= (λ more. loose rest more Options)) >>= asked_by word)
-    (option_twice o dash x given has)
-dash_asks_none word o rest given None has =
-    ap (λ (e : Option Arguments). (e >>= (λ more. loose rest more Options)) >>= asked_by word)
-    (option_item o dash given has)
-    ∙ none_later word o rest (with_option o dash given) Options (given_dash o given)
+-- ---- the loose reading and the grammar's ask for the same
 
-value_asks_none : (word : Text) (o : OptionName) (next : Text) (rest : List Text) (given : Arguments) (b : Bool)
-    → is_option next ≡ b → begins_with_dash next ≡ true
-    → ((cond b None (Some (Some (Given o next), Options)) >>= read_on (loose rest) given) >>= asked_by word) ≡ None
-value_asks_none word o next rest given true is begins = refl
-value_asks_none word o next rest given false is begins =
-    subst (λ (n : Text). ((with_item given (Some (Given o n)) >>= (λ more. loose rest more Options)) >>=
-    asked_by word) ≡ None)
-    (sym (alone next begins is)) (dash_asks_none word o rest given (value_of o given) refl)
+-- whatever is asked of arguments, where nothing is asked of those with a value that is `-`
+module _ {A : Type 0} (ask : Arguments → Option A)
+    (asks_none : (o : OptionName) (given : Arguments) → value_of o given ≡ Some dash → ask given ≡ None) where
+  asked_after : (o : OptionName) (given : Arguments) (rest : List Text)
+      (read : Option (Option Item × Reading))
+      → ((next : Arguments) (after : Reading) → value_of o next ≡ Some dash
+      → (loose rest next after >>= ask) ≡ None)
+      → value_of o given ≡ Some dash
+      → ((read >>= read_on (loose rest) given) >>= ask) ≡ None
+  asked_after o given rest None later there = refl
+  asked_after o given rest (Some (item, after)) later there = go (with_item given item) refl
+    where
+      go : (added : Option Arguments) → with_item given item ≡ added
+          → ((added >>= (λ next. loose rest next after)) >>= ask) ≡ None
+      go None is = refl
+      go (Some next) is = later next after (item_stays o dash item given next there is)
 
-alike_value : (word : Text) (o : OptionName) (next : Text) (rest : List Text) (given : Arguments) (b : Bool)
-    → begins_with_dash next ≡ b → Alike word rest
-    → (loose (next ∷ rest) given (Value o) >>= asked_by word)
-    ≡ (with_words given (Value o) (next ∷ rest) >>= asked_by word)
-alike_value word o next rest given true begins later =
-    let unread : word_read (Value o) next ≡ None = rw begins refl in
-    value_asks_none word o next rest given (is_option next) refl begins
-    ∙ sym (ap (λ (e : Option Arguments). e >>= asked_by word) (word_unread given (Value o) next rest unread))
-alike_value word o next rest given false begins later =
-    let same : loosely (Value o) next ≡ word_read (Value o) next = rw
-    (begins, and_false (nat_lt 1 (length next))) refl in
-    ap (λ (r : Option (Option Item × Reading)). (r >>= read_on (loose rest) given) >>= asked_by word) same
-    ∙ alike_after word next rest given (Value o) (word_read (Value o) next) refl later
+  none_later : (o : OptionName) (words : List Text) (given : Arguments) (reading : Reading)
+      → value_of o given ≡ Some dash → (loose words given reading >>= ask) ≡ None
+  none_later o [] given Options there = asks_none o given there
+  none_later o [] given (Value other) there = refl
+  none_later o [] given Names there = asks_none o given there
+  none_later o (next ∷ rest) given reading there =
+      asked_after o given rest (loosely reading next)
+      (λ given reading there. none_later o rest given reading there) there
 
-alike_on : (word : Text) (words : List Text) → Alike word words
-alike_on word [] given Options = refl
-alike_on word [] given (Value o) = refl
-alike_on word [] given Names = refl
-alike_on word (next ∷ rest) given Options =
-    alike_after word next rest given Options (word_read Options next) refl (alike_on word rest)
-alike_on word (next ∷ rest) given Names =
-    alike_after word next rest given Names (word_read Names next) refl (alike_on word rest)
-alike_on word (next ∷ rest) given (Value o) =
-    alike_value word o next rest given (begins_with_dash next) refl (alike_on word rest)
+  abbrev Alike : List Text → Type 0
+  Alike rest = (given : Arguments) (reading : Reading)
+      → (loose rest given reading >>= ask) ≡ (with_words given reading rest >>= ask)
+
+  alike_after : (next : Text) (rest : List Text) (given : Arguments) (reading : Reading)
+      (read : Option (Option Item × Reading)) → word_read reading next ≡ read → Alike rest
+      → ((read >>= read_on (loose rest) given) >>= ask)
+      ≡ (with_words given reading (next ∷ rest) >>= ask)
+  alike_after next rest given reading None is later =
+      sym (ap (λ (o : Option Arguments). o >>= ask) (word_unread given reading next rest is))
+  alike_after next rest given reading (Some (item, after)) is later = go (with_item given item) refl
+    where
+      go : (added : Option Arguments) → with_item given item ≡ added
+          → ((added >>= (λ more. loose rest more after)) >>= ask)
+          ≡ (with_words given reading (next ∷ rest) >>= ask)
+      go None fits =
+          sym (ap (λ (o : Option Arguments). o >>= ask) (word_refused given reading after item next rest
+          is fits))
+      go (Some more) fits = later more after
+          ∙ sym (ap (λ (o : Option Arguments). o >>= ask) (word_taken given more reading after item next
+          rest is fits))
+
+  dash_asks_none : (o : OptionName) (rest : List Text) (given : Arguments) (value : Option Text)
+      → value_of o given ≡ value
+      → ((with_item given (Some (Given o dash)) >>= (λ more. loose rest more Options)) >>= ask) ≡ None
+  dash_asks_none o rest given (Some x) has =
+      ap (λ (e : Option Arguments). (e >>= (λ more. loose rest more Options)) >>= ask)
+      (option_twice o dash x given has)
+  dash_asks_none o rest given None has =
+      ap (λ (e : Option Arguments). (e >>= (λ more. loose rest more Options)) >>= ask)
+      (option_item o dash given has)
+      ∙ none_later o rest (with_option o dash given) Options (given_dash o given)
+
+  value_asks_none : (o : OptionName) (next : Text) (rest : List Text) (given : Arguments) (b : Bool)
+      → is_option next ≡ b → begins_with_dash next ≡ true
+      → ((cond b None (Some (Some (Given o next), Options)) >>= read_on (loose rest) given) >>= ask) ≡ None
+  value_asks_none o next rest given true is begins = refl
+  value_asks_none o next rest given false is begins =
+      subst (λ (n : Text). ((with_item given (Some (Given o n)) >>= (λ more. loose rest more Options)) >>=
+      ask) ≡ None)
+      (sym (alone next begins is)) (dash_asks_none o rest given (value_of o given) refl)
+
+  alike_value : (o : OptionName) (next : Text) (rest : List Text) (given : Arguments) (b : Bool)
+      → begins_with_dash next ≡ b → Alike rest
+      → (loose (next ∷ rest) given (Value o) >>= ask)
+      ≡ (with_words given (Value o) (next ∷ rest) >>= ask)
+  alike_value o next rest given true begins later =
+      let unread : word_read (Value o) next ≡ None = rw begins refl in
+      value_asks_none o next rest given (is_option next) refl begins
+      ∙ sym (ap (λ (e : Option Arguments). e >>= ask) (word_unread given (Value o) next rest unread))
+  alike_value o next rest given false begins later =
+      let same : loosely (Value o) next ≡ word_read (Value o) next = rw
+      (begins, and_false (nat_lt 1 (length next))) refl in
+      ap (λ (r : Option (Option Item × Reading)). (r >>= read_on (loose rest) given) >>= ask) same
+      ∙ alike_after next rest given (Value o) (word_read (Value o) next) refl later
+
+  alike_on : (words : List Text) → Alike words
+  alike_on [] given Options = refl
+  alike_on [] given (Value o) = refl
+  alike_on [] given Names = refl
+  alike_on (next ∷ rest) given Options =
+      alike_after next rest given Options (word_read Options next) refl (alike_on rest)
+  alike_on (next ∷ rest) given Names =
+      alike_after next rest given Names (word_read Names next) refl (alike_on rest)
+  alike_on (next ∷ rest) given (Value o) =
+      alike_value o next rest given (begins_with_dash next) refl (alike_on rest)
+
+-- a command asks for nothing of such arguments
+none_asked : (word : Text) (o : OptionName) (given : Arguments) → value_of o given ≡ Some dash
+    → asked_by word given ≡ None
+none_asked word o given is =
+    unsuited word given o (λ kind. ap (suits (takes_kind kind) o) is
+    ∙ ap (λ b. has (takes_kind kind).options o && b) (none_takes o) ∙ and_false (has (takes_kind kind).options o))
 
 loose_asks : (words : List Text) → AsksAlike (loose words no_arguments Options) words
 loose_asks words word =
-    alike_on word words no_arguments Options
+    alike_on (asked_by word) (none_asked word) words no_arguments Options
     ∙ ap (λ (o : Option Arguments). o >>= asked_by word) (arguments_gathered words)
 
 asks_as : (a b : Option Arguments) (words : List Text) → a ≡ b → AsksAlike b words → AsksAlike a words

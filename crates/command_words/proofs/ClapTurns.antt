@@ -8,17 +8,15 @@ use Rattle.std.proofs.lemmas.Str.{encodes-chars}
 use Rattle.std.proofs.lemmas.Slice.Eq.{bytes_eq-Decides}
 use Rattle.clap.specs.Lexer.{long_of, short_of}
 use Rattle.clap.specs.Kinds.{Kinds, or_else}
-use Rattle.clap.specs.Walk.{Held, Row, Rule, Text, Waiting, Walk}
+use Rattle.clap.specs.Walk.{Held, Row, Rule, Text, Waiting, Walk, arg_by_index}
 use Rattle.clap.specs.Walk.{idle, is_pending, settled, takes_values, value, walked, word_met}
-use Rattle.clap.specs.Simple.{Shape, built}
-use Rattle.clap.specs.Faults.{flags_fault, long_fault, option_fault, react_fault, settle_fault, step_fault}
+use Rattle.clap.specs.Faults.{flags_fault, long_fault, option_fault, positional_fault, react_fault, settle_fault, step_fault}
 use Rattle.clap.specs.Faults.{turn_fault, walk_fault, word_fault, bundle_fault}
 use Rattle.clap.specs.declared.error.kind.ErrorKind.TheVariants as kind
-use Rattle.command_words.specs.Line.{line}
 use Rattle.command_words.specs.Grammar.{Arguments, is_option}
 use Rattle.command_words.specs.Options.{OptionName, long_name}
 use Rattle.command_words.proofs.ClapRows.{Holds}
-use Rattle.command_words.proofs.ClapWords.{name_built, rules}
+use Rattle.command_words.proofs.ClapWords.{name_at_1, name_at_2, name_at_3, name_built, no_short, none_at_4, rules, shape}
 
 -- each word is UTF-8
 abbrev pub AreLetters : List Text → Type 0
@@ -37,9 +35,6 @@ walk_at h waiting position trailing = record {
   is_trailing = trailing;
   stopped = None;
 }
-
-abbrev pub shape : Shape
-shape = (built line).top
 
 abbrev pub end_of : Walk → List Text → Held
 end_of w words = (fold (walked rules []) w words).held
@@ -151,7 +146,7 @@ pub short_bad : (y : ℕ) (rest : Text) (h : Held) → IsUtf8 (y ∷ rest) → h
 unfolding flags_fault
 short_bad y rest h letters none is =
     let letter = chars_of (y ∷ rest) (chars (y ∷ rest)) letters refl (λ e. absurd (cc e)) in
-    let bad : bundle_fault rules false (y ∷ rest) h ≡ kind.UnknownArgument ∷ [] = rw (none, letter.1) refl in
+    let bad : bundle_fault rules false (y ∷ rest) h ≡ kind.UnknownArgument ∷ [] = rw (none, letter.1, no_short letter.0) refl in
     absurd (cc (sym bad ∙ is))
 
 -- ---- words that are long flags, where what is held fails
@@ -175,13 +170,19 @@ pass : (b : Bool) (k : Kinds) → cond (b && false) [] k ≡ [] → k ≡ []
 pass true k is = is
 pass false k is = is
 
+step_at : (position : ℕ) (a : Rule) (h : Held) → arg_by_index rules position ≡ Some a
+    → step_fault shape position h value ≡ positional_fault rules false a h
+step_at position a h found = rw found refl
+
 pub name_bad : (names : List Text) (h : Held) → length names ≤ 3 → (settle_fault rules false h ≡ [] → ⊥)
     → step_fault shape (1 + length names) h value ≡ [] → ⊥
 name_bad [] h few bad is = bad (pass (is_pending (name_built 1 (codes "first")) h.pending)
-    (settle_fault rules false h) is)
+    (settle_fault rules false h) (sym (step_at 1 (name_built 1 (codes "first")) h name_at_1) ∙ is))
 name_bad (a ∷ []) h few bad is = bad (pass (is_pending (name_built 2 (codes "second")) h.pending)
-    (settle_fault rules false h) is)
+    (settle_fault rules false h) (sym (step_at 2 (name_built 2 (codes "second")) h name_at_2) ∙ is))
 name_bad (a ∷ b ∷ []) h few bad is = bad (pass (is_pending (name_built 3 (codes "third")) h.pending)
-    (settle_fault rules false h) is)
-name_bad (a ∷ b ∷ c ∷ []) h few bad is = absurd (cc is)
+    (settle_fault rules false h) (sym (step_at 3 (name_built 3 (codes "third")) h name_at_3) ∙ is))
+name_bad (a ∷ b ∷ c ∷ []) h few bad is =
+    let stray : step_fault shape 4 h value ≡ kind.UnknownArgument ∷ [] = rw none_at_4 refl in
+    absurd (cc (sym stray ∙ is))
 name_bad (a ∷ b ∷ c ∷ d ∷ more) h few bad is = absurd (omega arith)

@@ -2,23 +2,24 @@
 use Rattle.std.proofs.Common.{◌≡◌, ◌∙◌, ℕ, ◌+◌, ◌≤◌, Bool, cond, true, false, List, [], ◌∷◌}
 use Rattle.std.proofs.Common.{◌++◌, length, Option, Some, None, refl, sym, ap, subst, codes, arith}
 use Rattle.std.proofs.Common.{append-nil}
-use Rattle.std.specs.Prelude.{slice_get, option_map}
+use Rattle.std.specs.Prelude.{not, slice_get, option_map}
+use Rattle.std.specs.List.{list_all}
 use Rattle.std.specs.Option.{is_some}
 use Rattle.std.specs.Str.{bytes_eq}
 use Rattle.step_log.specs.Script.{◌>>=◌}
-use Rattle.clap.specs.Walk.{Row, Text, Waiting, has_row, idle, option, more_values}
+use Rattle.clap.specs.Walk.{Row, Text, Waiting, arg_by_id, has_row, idle, option, more_values}
 use Rattle.clap.specs.Walk.{settled, used, with_values, without}
 use Rattle.clap.specs.Faults.{settle_fault}
 use Rattle.clap.specs.declared.parser.matches.ValueSource.TheVariants.{CommandLine}
 use Rattle.clap.specs.declared.builder.value_parser.Reading.TheVariants.{AsWritten}
 use Rattle.std.proofs.lemmas.Slice.Eq.{bytes_eq-Decides}
 use Rattle.command_words.specs.Grammar.{Arguments, Item, Given, is_option}
-use Rattle.command_words.specs.Options.{OptionName, Harts, Frames, Steps, Seed, Policy, Calm, After, RunCount, Until, By, Jobs, From, To, Memory, Expect, Places, Deep, Scripts, Without, Preemptions, OwnSignals, long_name, same_option}
-use Rattle.command_words.proofs.EachOption.{names_apart, same_is}
+use Rattle.command_words.specs.Options.{OptionName, all_options, long_name, same_option}
+use Rattle.command_words.proofs.EachOption.{names_apart, none_passes, other_way, same_is}
 use Rattle.command_words.proofs.Parts.{with_item, with_option}
 use Rattle.command_words.specs.Words.{Reading, Options, Value, Names, word_read}
 use Rattle.command_words.proofs.ClapRows.{Holds, has_held, found_before, found_last, row_added}
-use Rattle.command_words.proofs.ClapWords.{rules, option_built, name_built}
+use Rattle.command_words.proofs.ClapWords.{first_found, name_built, option_built, option_found, rules, second_found, third_found}
 use Rattle.command_words.proofs.ClapTurns.{Ends, Fits, held}
 use Rattle.command_words.proofs.ClapTurns.{value_of, walk_at}
 
@@ -123,28 +124,14 @@ module _ (given : Arguments) (rows : List Row) (v : Text) (fits : Fits given row
   abbrev IsApart : OptionName → Text → Type 0
   IsApart o name = (bytes_eq (long_name o) name ≡ false) × (bytes_eq name (long_name o) ≡ false)
 
+  is_apart : (name : Text) → list_all (λ o. not (bytes_eq (long_name o) name)) all_options ≡ true
+      → (o : OptionName) → IsApart o name
+  is_apart name none o =
+      let other = none_passes (λ o. bytes_eq (long_name o) name) none o in
+      (other, other_way name (long_name o) ∙ other)
+
   apart : (o : OptionName) → IsApart o (codes "first") × IsApart o (codes "second") × IsApart o (codes "third")
-  apart Harts = ((refl, refl), (refl, refl), (refl, refl))
-  apart Frames = ((refl, refl), (refl, refl), (refl, refl))
-  apart Steps = ((refl, refl), (refl, refl), (refl, refl))
-  apart Seed = ((refl, refl), (refl, refl), (refl, refl))
-  apart Policy = ((refl, refl), (refl, refl), (refl, refl))
-  apart Calm = ((refl, refl), (refl, refl), (refl, refl))
-  apart After = ((refl, refl), (refl, refl), (refl, refl))
-  apart RunCount = ((refl, refl), (refl, refl), (refl, refl))
-  apart Until = ((refl, refl), (refl, refl), (refl, refl))
-  apart By = ((refl, refl), (refl, refl), (refl, refl))
-  apart Jobs = ((refl, refl), (refl, refl), (refl, refl))
-  apart From = ((refl, refl), (refl, refl), (refl, refl))
-  apart To = ((refl, refl), (refl, refl), (refl, refl))
-  apart Memory = ((refl, refl), (refl, refl), (refl, refl))
-  apart Expect = ((refl, refl), (refl, refl), (refl, refl))
-  apart Places = ((refl, refl), (refl, refl), (refl, refl))
-  apart Deep = ((refl, refl), (refl, refl), (refl, refl))
-  apart Scripts = ((refl, refl), (refl, refl), (refl, refl))
-  apart Without = ((refl, refl), (refl, refl), (refl, refl))
-  apart Preemptions = ((refl, refl), (refl, refl), (refl, refl))
-  apart OwnSignals = ((refl, refl), (refl, refl), (refl, refl))
+  apart o = (is_apart (codes "first") refl o, is_apart (codes "second") refl o, is_apart (codes "third") refl o)
 
   as_before : (names : List Text) (o : OptionName) → Holds (long_name o) rows (value_of o (with_names names given))
   as_before names o = fits.options o
@@ -178,34 +165,20 @@ module _ (given : Arguments) (rows : List Row) (v : Text) (fits : Fits given row
   option_free o none =
       let absent : has_row (long_name o) rows ≡ false = has_held (long_name o) rows (value_of o given) (fits.options o)
       ∙ ap (λ (x : Option Text). is_some x) none in
-      go o absent
-    where
-      go : (o : OptionName) → has_row (long_name o) rows ≡ false
-          → settle_fault rules false (held rows (Some (long_name o, v ∷ []))) ≡ []
-      go Harts absent = rw absent refl
-      go Frames absent = rw absent refl
-      go Steps absent = rw absent refl
-      go Seed absent = rw absent refl
-      go Policy absent = rw absent refl
-      go Calm absent = rw absent refl
-      go After absent = rw absent refl
-      go RunCount absent = rw absent refl
-      go Until absent = rw absent refl
-      go By absent = rw absent refl
-      go Jobs absent = rw absent refl
-      go From absent = rw absent refl
-      go To absent = rw absent refl
-      go Memory absent = rw absent refl
-      go Expect absent = rw absent refl
-      go Places absent = rw absent refl
-      go Deep absent = rw absent refl
-      go Scripts absent = rw absent refl
-      go Without absent = rw absent refl
-      go Preemptions absent = rw absent refl
-      go OwnSignals absent = rw absent refl
+      rw ((option_found o).1, absent) refl
+
+  -- a name that is held gets its row
+  abbrev settled_name : Text → List Row
+  settled_name name = (settled rules (held rows (Some (name, v ∷ [])))).rows
+
+  name_settled : (place : ℕ) (name : Text) → arg_by_id rules name ≡ Some (name_built place name)
+      → has_row name rows ≡ false → settled_name name ≡ rows ++ new_row name v ∷ []
+  name_settled place name found absent =
+      let uses : settled_name name ≡ used (name_built place name) (v ∷ []) rows = rw found refl in
+      uses ∙ used_name place name v rows absent
 
   pub first_fits : given.names ≡ []
-      → Fits (with_names (v ∷ []) given) (used (name_built 1 (codes "first")) (v ∷ []) rows)
+      → Fits (with_names (v ∷ []) given) (settled_name (codes "first"))
   first_fits none =
       let first : Holds (codes "first") rows None = fits.first ∙ named_at 0 [] none in
       let second : Holds (codes "second") rows None = fits.second ∙ named_at 1 [] none in
@@ -213,7 +186,7 @@ module _ (given : Arguments) (rows : List Row) (v : Text) (fits : Fits given row
       let absent = has_held (codes "first") rows None first in
       let row = new_row (codes "first") v in
       subst (λ (rs : List Row). Fits (with_names (v ∷ []) given) rs)
-      (sym (used_name 1 (codes "first") v rows absent)) (record {
+      (sym (name_settled 1 (codes "first") first_found absent)) (record {
         options = λ (other : OptionName). found_before (long_name other) rows row
             (value_of other (with_names (v ∷ []) given)) (apart other).0.1 (as_before (v ∷ []) other);
         first = found_last (codes "first") rows row v refl refl absent;
@@ -223,7 +196,7 @@ module _ (given : Arguments) (rows : List Row) (v : Text) (fits : Fits given row
       })
 
   pub second_fits : (a : Text) → given.names ≡ a ∷ []
-      → Fits (with_names (a ∷ v ∷ []) given) (used (name_built 2 (codes "second")) (v ∷ []) rows)
+      → Fits (with_names (a ∷ v ∷ []) given) (settled_name (codes "second"))
   second_fits a one =
       let first : Holds (codes "first") rows (Some a) = fits.first ∙ named_at 0 (a ∷ []) one in
       let second : Holds (codes "second") rows None = fits.second ∙ named_at 1 (a ∷ []) one in
@@ -231,7 +204,7 @@ module _ (given : Arguments) (rows : List Row) (v : Text) (fits : Fits given row
       let absent = has_held (codes "second") rows None second in
       let row = new_row (codes "second") v in
       subst (λ (rs : List Row). Fits (with_names (a ∷ v ∷ []) given) rs)
-      (sym (used_name 2 (codes "second") v rows absent)) (record {
+      (sym (name_settled 2 (codes "second") second_found absent)) (record {
         options = λ (other : OptionName). found_before (long_name other) rows row
             (value_of other (with_names (a ∷ v ∷ []) given)) (apart other).1.1 (as_before (a ∷ v ∷ []) other);
         first = found_before (codes "first") rows row (Some a) refl first;
@@ -241,7 +214,7 @@ module _ (given : Arguments) (rows : List Row) (v : Text) (fits : Fits given row
       })
 
   pub third_fits : (a b : Text) → given.names ≡ a ∷ b ∷ []
-      → Fits (with_names (a ∷ b ∷ v ∷ []) given) (used (name_built 3 (codes "third")) (v ∷ []) rows)
+      → Fits (with_names (a ∷ b ∷ v ∷ []) given) (settled_name (codes "third"))
   third_fits a b two =
       let first : Holds (codes "first") rows (Some a) = fits.first ∙ named_at 0 (a ∷ b ∷ []) two in
       let second : Holds (codes "second") rows (Some b) = fits.second ∙ named_at 1 (a ∷ b ∷ []) two in
@@ -249,7 +222,7 @@ module _ (given : Arguments) (rows : List Row) (v : Text) (fits : Fits given row
       let absent = has_held (codes "third") rows None third in
       let row = new_row (codes "third") v in
       subst (λ (rs : List Row). Fits (with_names (a ∷ b ∷ v ∷ []) given) rs)
-      (sym (used_name 3 (codes "third") v rows absent)) (record {
+      (sym (name_settled 3 (codes "third") third_found absent)) (record {
         options = λ (other : OptionName). found_before (long_name other) rows row
             (value_of other (with_names (a ∷ b ∷ v ∷ []) given)) (apart other).2.1 (as_before (a ∷ b ∷ v ∷ []) other);
         first = found_before (codes "first") rows row (Some a) refl first;
@@ -262,18 +235,18 @@ module _ (given : Arguments) (rows : List Row) (v : Text) (fits : Fits given row
   first_free none =
       let absent : has_row (codes "first") rows ≡ false =
       has_held (codes "first") rows None (fits.first ∙ named_at 0 [] none) in
-      rw absent refl
+      rw (first_found, absent) refl
 
   pub second_free : (a : Text) → given.names ≡ a ∷ []
       → settle_fault rules false (held rows (Some (codes "second", v ∷ []))) ≡ []
   second_free a one =
       let absent : has_row (codes "second") rows ≡ false =
       has_held (codes "second") rows None (fits.second ∙ named_at 1 (a ∷ []) one) in
-      rw absent refl
+      rw (second_found, absent) refl
 
   pub third_free : (a b : Text) → given.names ≡ a ∷ b ∷ []
       → settle_fault rules false (held rows (Some (codes "third", v ∷ []))) ≡ []
   third_free a b two =
       let absent : has_row (codes "third") rows ≡ false =
       has_held (codes "third") rows None (fits.third ∙ named_at 2 (a ∷ b ∷ []) two) in
-      rw absent refl
+      rw (third_found, absent) refl

@@ -1,15 +1,17 @@
 -- What `clap` takes a word for, and what the grammar does.
 use Rattle.std.proofs.Common.{◌≡◌, ◌⊎◌, inl, inr, ℕ, Bool, true, false, List, [], ◌∷◌}
-use Rattle.std.proofs.Common.{◌++◌, map, Option, Some, None, refl, sym, subst, codes}
+use Rattle.std.proofs.Common.{◌++◌, ◌∙◌, map, Option, Some, None, ap, refl, sym, subst, codes}
 use Rattle.std.proofs.lemmas.Slice.Eq.{bytes_eq-Decides}
 use Rattle.std.proofs.lemmas.Bool.Decides.{Decides-eqb}
-use Rattle.std.specs.Prelude.{◌==◌, find}
+use Rattle.std.specs.Prelude.{◌==◌, ◌&&◌, find}
+use Rattle.std.specs.List.{list_any}
 use Rattle.std.specs.Str.{bytes_eq}
-use Rattle.clap.specs.Walk.{Rule, Text, arg_by_long}
-use Rattle.clap.specs.Simple.{built, filled}
+use Rattle.clap.specs.Walk.{Rule, Text, arg_by_id, arg_by_index, arg_by_long, arg_by_short}
+use Rattle.clap.specs.Simple.{Shape, built, filled, new_shape}
 use Rattle.clap.specs.Words.{new_rule}
 use Rattle.command_words.specs.Line.{line, option_rule}
-use Rattle.command_words.specs.Options.{OptionName, all_options, long_name, option_word}
+use Rattle.command_words.specs.Options.{OptionName, all_options, long_name, option_named, option_word}
+use Rattle.command_words.proofs.EachOption.{named_back, other_way}
 
 -- a word is of one of these forms
 pub by_form : (P : Text → Type 0) → P [] → P (45 ∷ []) → P (45 ∷ 45 ∷ [])
@@ -43,57 +45,175 @@ by_form P nothing dash dashes long short plain (x ∷ rest) = first (x == 45) re
     first true is = subst (λ (n : ℕ). P (n ∷ rest)) (sym ((Decides-eqb x 45).0 is)) (behind rest)
     first false is = plain x rest is (turned (45 == x) refl is)
 
+-- ---- the rules of a line
+
 abbrev pub option_built : Text → Rule
 option_built name = filled (option_rule name)
 
 abbrev pub name_built : ℕ → Text → Rule
 name_built place name = record (filled (new_rule name)) { index = Some place }
 
-abbrev pub name_rules : List Rule
+abbrev name_rules : List Rule
 name_rules = name_built 1 (codes "first") ∷ name_built 2 (codes "second") ∷ name_built 3 (codes "third") ∷ []
 
 abbrev rules_with : List OptionName → List Rule
 rules_with options = map (λ option. option_built (long_name option)) options ++ name_rules
 
-abbrev pub rules : List Rule
+-- the rules of a line, which other proofs know by the laws below alone
+pub rules : List Rule
 rules = rules_with all_options
 
-pub rules_are : (built line).top.rules ≡ rules
-rules_are = refl
+-- and what else is read of a line
+abbrev pub shape : Shape
+shape = record (new_shape (codes "rseq_run")) {
+  rules = rules;
+  no_binary_name = true;
+  disable_help_flag = true;
+  disable_help_subcommand = true;
+  is_built = true;
+}
 
--- a long name is that of one of these options, or none's
+pub line_built : built line ≡ record { top = shape; subs = [] }
+unfolding rules
+line_built = refl
+
+-- ---- options
+
 abbrev named_among : List OptionName → Text → Option OptionName
 named_among options word = find (λ option. bytes_eq word (option_word option)) options
 
-abbrev IsNamedAmong : Text → List OptionName → Type 0
-IsNamedAmong name options =
-    ((option : OptionName) × (name ≡ long_name option) × (named_among options (45 ∷ 45 ∷ name) ≡ Some option))
-    ⊎ ((arg_by_long (rules_with options) name ≡ None) × (named_among options (45 ∷ 45 ∷ name) ≡ None))
+-- a name is that of this option, which its word and both ways to look for a rule find
+record IsOption (options : List OptionName) (name : Text) : Type 0 where
+  option : OptionName
+  is : name ≡ long_name option
+  named : named_among options (45 ∷ 45 ∷ name) ≡ Some option
+  by_long : arg_by_long (rules_with options) name ≡ Some (option_built (long_name option))
+  by_id : arg_by_id (rules_with options) name ≡ Some (option_built (long_name option))
 
-unlike : (name other : Text) → bytes_eq name other ≡ false → bytes_eq other name ≡ false
-unlike name other differ = go (bytes_eq other name) refl
-  where
-    go : (b : Bool) → bytes_eq other name ≡ b → b ≡ false
-    go false is = refl
-    go true is =
-        let same : other ≡ name = (bytes_eq-Decides other name).0 is in
-        let agree : bytes_eq name other ≡ true = (bytes_eq-Decides name other).1 (sym same) in
-        absurd (cc (agree, differ))
+-- or no option's, and none is found
+record IsNoOption (options : List OptionName) (name : Text) : Type 0 where
+  named : named_among options (45 ∷ 45 ∷ name) ≡ None
+  by_long : arg_by_long (rules_with options) name ≡ None
+  by_id : arg_by_id (rules_with options) name ≡ arg_by_id name_rules name
 
-long_named_among : (name : Text) (options : List OptionName) → IsNamedAmong name options
-long_named_among name [] = inr (refl, refl)
-long_named_among name (first ∷ options) =
-    go (bytes_eq name (long_name first)) refl (long_named_among name options)
+told_among : (name : Text) (options : List OptionName) → IsOption options name ⊎ IsNoOption options name
+told_among name [] = inr (record { named = refl; by_long = refl; by_id = refl })
+told_among name (first ∷ options) = go (bytes_eq name (long_name first)) refl (told_among name options)
   where
-    go : (b : Bool) → bytes_eq name (long_name first) ≡ b → IsNamedAmong name options
-        → IsNamedAmong name (first ∷ options)
-    go true is later = inl (first, (bytes_eq-Decides name (long_name first)).0 is, rw is refl)
-    go false is (inl found) = inl (found.0, found.1, rw is found.2)
-    go false is (inr none) = inr (rw (unlike name (long_name first) is) none.0, rw is none.1)
+    go : (b : Bool) → bytes_eq name (long_name first) ≡ b → IsOption options name ⊎ IsNoOption options name
+        → IsOption (first ∷ options) name ⊎ IsNoOption (first ∷ options) name
+    go true is later =
+        let back : bytes_eq (long_name first) name ≡ true = other_way (long_name first) name ∙ is in
+        inl (record {
+          option = first;
+          is = (bytes_eq-Decides name (long_name first)).0 is;
+          named = rw is refl;
+          by_long = rw back refl;
+          by_id = rw back refl;
+        })
+    go false is (inl found) =
+        let back : bytes_eq (long_name first) name ≡ false = other_way (long_name first) name ∙ is in
+        inl (record {
+          option = found.option;
+          is = found.is;
+          named = rw is found.named;
+          by_long = rw back found.by_long;
+          by_id = rw back found.by_id;
+        })
+    go false is (inr none) =
+        let back : bytes_eq (long_name first) name ≡ false = other_way (long_name first) name ∙ is in
+        inr (record {
+          named = rw is none.named;
+          by_long = rw back none.by_long;
+          by_id = rw back none.by_id;
+        })
 
 -- a long name is an option's, or none
 abbrev pub IsNamed : Text → Type 0
-IsNamed name = IsNamedAmong name all_options
+IsNamed name =
+    ((option : OptionName) × (name ≡ long_name option) × (option_named (45 ∷ 45 ∷ name) ≡ Some option))
+    ⊎ ((arg_by_long rules name ≡ None) × (option_named (45 ∷ 45 ∷ name) ≡ None))
 
 pub long_named : (name : Text) → IsNamed name
-long_named name = long_named_among name all_options
+unfolding rules
+long_named name = elim (told_among name all_options) [
+  | inl found ↦ inl (found.option, found.is, found.named)
+  | inr none ↦ inr (none.by_long, none.named)
+]
+
+-- an option's rule is found by its name
+pub option_found : (o : OptionName) → (arg_by_long rules (long_name o) ≡ Some (option_built (long_name o)))
+    × (arg_by_id rules (long_name o) ≡ Some (option_built (long_name o)))
+unfolding rules
+option_found o = elim (told_among (long_name o) all_options) [
+  | inl found ↦
+      let same : option_built (long_name found.option) ≡ option_built (long_name o) = ap option_built (sym found.is) in
+      (found.by_long ∙ ap Some same, found.by_id ∙ ap Some same)
+  | inr none ↦ absurd (cc (sym (named_back o) ∙ none.named))
+]
+
+-- ---- names
+
+-- a name's rule is found by its place, and there are three
+pub name_at_1 : arg_by_index rules 1 ≡ Some (name_built 1 (codes "first"))
+unfolding rules
+name_at_1 = refl
+
+pub name_at_2 : arg_by_index rules 2 ≡ Some (name_built 2 (codes "second"))
+unfolding rules
+name_at_2 = refl
+
+pub name_at_3 : arg_by_index rules 3 ≡ Some (name_built 3 (codes "third"))
+unfolding rules
+name_at_3 = refl
+
+pub none_at_4 : arg_by_index rules 4 ≡ None
+unfolding rules
+none_at_4 = refl
+
+-- and by its own name
+pub first_found : arg_by_id rules (codes "first") ≡ Some (name_built 1 (codes "first"))
+unfolding rules
+first_found = refl
+
+pub second_found : arg_by_id rules (codes "second") ≡ Some (name_built 2 (codes "second"))
+unfolding rules
+second_found = refl
+
+pub third_found : arg_by_id rules (codes "third") ≡ Some (name_built 3 (codes "third"))
+unfolding rules
+third_found = refl
+
+-- ---- what no rule has
+
+-- no rule has a letter
+no_short_among : (x : ℕ) (options : List OptionName) → arg_by_short (rules_with options) x ≡ None
+no_short_among x [] = refl
+no_short_among x (first ∷ options) = no_short_among x options
+
+pub no_short : (x : ℕ) → arg_by_short rules x ≡ None
+unfolding rules
+no_short x = no_short_among x all_options
+
+-- nor a value where none is given
+abbrev pub HasNoDefaults : List Rule → Type 0
+HasNoDefaults [] = Unit {0}
+HasNoDefaults (rule ∷ rest) = (rule.defaults ≡ []) × HasNoDefaults rest
+
+no_defaults_among : (options : List OptionName) → HasNoDefaults (rules_with options)
+no_defaults_among [] = (refl, (refl, (refl, tt)))
+no_defaults_among (first ∷ options) = (refl, no_defaults_among options)
+
+pub no_defaults : HasNoDefaults rules
+unfolding rules
+no_defaults = no_defaults_among all_options
+
+-- and none is required
+none_required_among : (f : Rule → Bool) (options : List OptionName)
+    → list_any (λ rule. rule.required && f rule) (rules_with options) ≡ false
+none_required_among f [] = refl
+none_required_among f (first ∷ options) = none_required_among f options
+
+pub none_required : (f : Rule → Bool) → list_any (λ rule. rule.required && f rule) rules ≡ false
+unfolding rules
+none_required f = none_required_among f all_options

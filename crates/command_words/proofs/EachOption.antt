@@ -1,6 +1,6 @@
 -- What holds of each option, and of all of them.
-use Rattle.std.proofs.Common.{◌≡◌, ◌∙◌, Bool, cond, true, false, List, [], ◌∷◌, ◌++◌, Some, refl, sym, ap, subst, codes}
-use Rattle.std.specs.Prelude.{◌||◌, find}
+use Rattle.std.proofs.Common.{◌≡◌, ◌∙◌, ℕ, Bool, cond, true, false, List, [], ◌∷◌, ◌++◌, Some, refl, sym, ap, subst, codes}
+use Rattle.std.specs.Prelude.{◌||◌, find, not}
 use Rattle.std.specs.List.{list_all, list_any}
 use Rattle.std.specs.Str.{bytes_eq}
 use Rattle.std.proofs.lemmas.Bool.{and_parts}
@@ -32,29 +32,41 @@ named_back Without = refl
 named_back Preemptions = refl
 named_back OwnSignals = refl
 
--- and is among all options
+-- two texts agree in either order
+pub other_way : (a b : List ℕ) → bytes_eq a b ≡ bytes_eq b a
+other_way a b = go (bytes_eq a b) refl (bytes_eq b a) refl
+  where
+    go : (x : Bool) → bytes_eq a b ≡ x → (y : Bool) → bytes_eq b a ≡ y → x ≡ y
+    go true is true back = refl
+    go false is false back = refl
+    go true is false back =
+        let agree : bytes_eq b a ≡ true = (bytes_eq-Decides b a).1 (sym ((bytes_eq-Decides a b).0 is)) in
+        absurd (cc (agree, back))
+    go false is true back =
+        let agree : bytes_eq a b ≡ true = (bytes_eq-Decides a b).1 (sym ((bytes_eq-Decides b a).0 back)) in
+        absurd (cc (agree, is))
+
+-- so an option is among all options
+found_among : (o : OptionName) (options : List OptionName)
+    → find (λ x. bytes_eq (option_word o) (option_word x)) options ≡ Some o
+    → list_any (λ x. same_option x o) options ≡ true
+found_among o [] is = absurd (cc is)
+found_among o (x ∷ options) is = go (bytes_eq (option_word o) (option_word x)) refl (found_among o options) is
+  where
+    go : (b : Bool) → bytes_eq (option_word o) (option_word x) ≡ b
+        → (find (λ x. bytes_eq (option_word o) (option_word x)) options ≡ Some o
+        → list_any (λ x. same_option x o) options ≡ true)
+        → cond b (Some x) (find (λ x. bytes_eq (option_word o) (option_word x)) options) ≡ Some o
+        → (same_option x o || list_any (λ x. same_option x o) options) ≡ true
+    go true same later is =
+        let first : same_option x o ≡ true = other_way (option_word x) (option_word o) ∙ same in
+        rw first refl
+    go false other later is =
+        let first : same_option x o ≡ false = other_way (option_word x) (option_word o) ∙ other in
+        rw first (later is)
+
 is_one : (o : OptionName) → list_any (λ x. same_option x o) all_options ≡ true
-is_one Harts = refl
-is_one Frames = refl
-is_one Steps = refl
-is_one Seed = refl
-is_one Policy = refl
-is_one Calm = refl
-is_one After = refl
-is_one RunCount = refl
-is_one Until = refl
-is_one By = refl
-is_one Jobs = refl
-is_one From = refl
-is_one To = refl
-is_one Memory = refl
-is_one Expect = refl
-is_one Places = refl
-is_one Deep = refl
-is_one Scripts = refl
-is_one Without = refl
-is_one Preemptions = refl
-is_one OwnSignals = refl
+is_one o = found_among o all_options (named_back o)
 
 -- two options are told apart by their words
 pub same_self : (o : OptionName) → same_option o o ≡ true
@@ -121,3 +133,11 @@ found_passes {A} f (y ∷ xs) x is = go (found_passes f xs x) (f y) refl is
         let same : y ≡ x = cc is in
         subst (λ (z : A). f z ≡ true) same passes
     go later false fails is = later is
+
+-- what a computation over all options finds to be false of each, is false of each
+pub none_passes : (f : OptionName → Bool) → list_all (λ o. not (f o)) all_options ≡ true → (o : OptionName) → f o ≡ false
+none_passes f none o = go (f o) (each_of (λ o. not (f o)) none o)
+  where
+    go : (b : Bool) → not b ≡ true → b ≡ false
+    go true is = absurd (cc is)
+    go false is = refl

@@ -15,6 +15,7 @@ mod Gathering
 mod Lines
 mod Numbers
 mod Parts
+mod QuestionLaw
 mod ShownRows
 mod SpanTexts
 mod Suits

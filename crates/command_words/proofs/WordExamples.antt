@@ -310,7 +310,7 @@ no_policies = refl
 
 abbrev searching : Limits → ℕ → Bool → SearchSettings
 searching limits places scripts =
-    record { limits = limits; places = places; scripts = scripts; reductions = all_reductions; preemptions = None; signals = Prompt }
+    record { limits = limits; places = places; scripts = scripts; reductions = all_reductions; preemptions = None; signals = Prompt; apart = ByText }
 
 abbrev settings : ℕ → Option ℕ → OutcomeKey → Option ℕ → Settings
 settings runs until apart jobs = record {
@@ -323,7 +323,7 @@ settings runs until apart jobs = record {
   jobs = jobs;
   span = lines 1 None;
   expected = None;
-  search = searching (limits 2 4096 100000) 1000000 true;
+  search = record (searching (limits 2 4096 100000) 1000000 true) { apart = apart };
 }
 
 explore_defaults : command_of (codes "explore" ∷ codes "F" ∷ []) ≡ Some (Explores (codes "F") (settings 10000 None ByText None))
@@ -390,11 +390,17 @@ outcomes_of_all_runs : command_of (codes "outcomes" ∷ codes "F" ∷ codes "--s
 unfolding command_of arguments_of
 outcomes_of_all_runs = refl
 
+outcomes_by_end : command_of (codes "outcomes" ∷ codes "F" ∷ codes "--by" ∷ codes "end" ∷ [])
+    ≡ Some (Searches (codes "F") (record (searching (limits 2 4096 100000) 1000000 true) { apart = ByEnd }))
+unfolding command_of arguments_of
+outcomes_by_end = refl
+
 wrong_outcomes : are_refused (
     codes "outcomes F --places=0" ∷
     codes "outcomes F --places=16000001" ∷
     codes "outcomes F --deep=1000001" ∷
     codes "outcomes F --scripts=maybe" ∷
+    codes "outcomes F --by=console" ∷
     codes "outcomes F --without=steps" ∷
     codes "outcomes F --without=" ∷
     codes "explore F --without=local-steps" ∷

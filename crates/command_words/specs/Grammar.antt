@@ -179,6 +179,7 @@ settings_of values = record {
     reductions = reductions_made (values Without);
     preemptions = number_given (range_of 0 255) (values Preemptions);
     signals = signals_or_prompt (values OwnSignals);
+    apart = apart_or_text (values By);
   };
 }
 

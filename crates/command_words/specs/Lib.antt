@@ -5,6 +5,7 @@ pub mod Grammar
 pub mod Kept
 pub mod Line
 pub mod Options
+pub mod Questions
 pub mod Shown
 pub mod Spans
 pub mod Table

@@ -4,7 +4,7 @@ use Rattle.std.specs.Prelude.{ℕ, ◌≡◌, List, [], ◌∷◌, Option, Some,
 use Rattle.std.specs.Option.{option_to_list}
 use Rattle.clap.specs.Words.{App, Row, Rule, first_of, new_app, new_rule, with_rule}
 use Rattle.command_words.specs.Grammar.{Arguments, asked_by}
-use Rattle.command_words.specs.Options.{all_options, long_name}
+use Rattle.command_words.specs.Options.{OptionName, all_options, long_name}
 use Rattle.command_words.specs.Words.{arguments_of}
 use Rattle.step_log.specs.Script.{◌>>=◌}
 
@@ -18,9 +18,13 @@ bare = record (new_app (codes "rseq_run")) {
   top = record (new_app (codes "rseq_run")).top { no_binary_name = true; disable_help_flag = true };
 }
 
+-- a command with an option more
+abbrev pub with_option : App → OptionName → App
+with_option app option = with_rule app (option_rule (long_name option))
+
 -- the command with its options, and with its names too
 abbrev pub with_options : App
-with_options = fold (λ app option. with_rule app (option_rule (long_name option))) bare all_options
+with_options = fold with_option bare all_options
 
 abbrev pub line : App
 line =

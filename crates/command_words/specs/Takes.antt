@@ -159,7 +159,7 @@ abbrev pub taken_by_search : Takes
 taken_by_search =
     record {
       names = Program ∷ [];
-      options = record no_options { harts = true; frames = true; places = true; deep = true; scripts = true; without = true; preemptions = true; signals = true };
+      options = record no_options { harts = true; frames = true; places = true; deep = true; scripts = true; without = true; preemptions = true; signals = true; by = true };
     }
 
 -- what the making of a guest takes

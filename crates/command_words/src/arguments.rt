@@ -1,12 +1,13 @@
 //! What the words behind a command give it: names, and options with their values.
 
-ghost use Rattle.std.specs.Prelude.{◌≡◌, false, IfOk, option_copied, option_map};
+ghost use Rattle.std.specs.Prelude.{◌≡◌, false, fold, IfOk, map, option_copied, option_map};
 ghost use Rattle.clap.specs.Words.{app_of, found_of, rows_of, rule_of};
-ghost use Rattle.command_words.specs.Kept.{names_kept, stated};
+ghost use Rattle.command_words.specs.Kept.{named, names_kept, stated};
 ghost use Rattle.command_words.specs.Line.{AsksAlike, arguments_found, line, names_found, option_rule};
-ghost use Rattle.command_words.specs.Line.{bare, with_options};
+ghost use Rattle.command_words.specs.Line.{bare, with_option};
 ghost use Rattle.command_words.specs.Words.{texts};
 
+use crate::options::{ALL_OPTIONS, OptionName};
 use clap::error::ErrorKind;
 use clap::{Arg, ArgMatches, Command as Parser};
 use std::alloc::{AllocError, Global};
@@ -90,39 +91,27 @@ fn bare<'a>(alloc: Global) -> Parser<'a>
         .disable_help_flag(true)
 }
 
-/// A parser of the options alone.
-fn options<'a>(alloc: Global) -> Result<Parser<'a>, AllocError>
-    ensures { IfOk result (λ parser. app_of parser ≡ with_options) }
+/// A parser with these options too.
+fn with_options<'a>(
+    alloc: Global,
+    parser: Parser<'a>,
+    options: &[OptionName],
+) -> Result<Parser<'a>, AllocError>
+    ensures { IfOk result (λ added. app_of added
+        ≡ fold with_option (app_of parser.entry) (map named options.now)) }
 {
-    bare(alloc)
-        .arg(option(alloc, "harts"))?
-        .arg(option(alloc, "frames"))?
-        .arg(option(alloc, "steps"))?
-        .arg(option(alloc, "seed"))?
-        .arg(option(alloc, "policy"))?
-        .arg(option(alloc, "calm"))?
-        .arg(option(alloc, "after"))?
-        .arg(option(alloc, "runs"))?
-        .arg(option(alloc, "until"))?
-        .arg(option(alloc, "by"))?
-        .arg(option(alloc, "jobs"))?
-        .arg(option(alloc, "from"))?
-        .arg(option(alloc, "to"))?
-        .arg(option(alloc, "memory"))?
-        .arg(option(alloc, "expect"))?
-        .arg(option(alloc, "places"))?
-        .arg(option(alloc, "deep"))?
-        .arg(option(alloc, "scripts"))?
-        .arg(option(alloc, "without"))?
-        .arg(option(alloc, "preemptions"))?
-        .arg(option(alloc, "signals"))
+    let mut parser = parser;
+    for name in options {
+        parser = parser.arg(option(alloc, name.long_name()))?;
+    }
+    Ok(parser)
 }
 
 /// A parser of what may stand behind a command.
 fn parser<'a>(alloc: Global) -> Result<Parser<'a>, AllocError>
     ensures { IfOk result (λ parser. app_of parser ≡ line) }
 {
-    options(alloc)?
+    with_options(alloc, bare(alloc), &ALL_OPTIONS)?
         .arg(Arg::new(alloc, "first"))?
         .arg(Arg::new(alloc, "second"))?
         .arg(Arg::new(alloc, "third"))

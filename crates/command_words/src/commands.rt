@@ -8,7 +8,6 @@ ghost use Rattle.command_words.specs.Kept.{named, names_kept, pair_said, range, 
 ghost use Rattle.command_words.specs.Grammar.{all_suit, apart_or_text, asked_by, asked_for, command_for, drawn_source, files_for, guest_for, guest_named};
 ghost use Rattle.command_words.specs.Grammar.{harts_for, one_name, policies_or_all, run_for, settings_of, shown_for, suits, trial_of};
 ghost use Rattle.command_words.specs.Grammar.{number_given, pair_for, program_for, reductions_made, said_or_yes, signals_or_prompt, two_names};
-ghost use Rattle.command_words.specs.Options.{After, Memory};
 ghost use Rattle.command_words.specs.Words.{command_of, texts};
 
 use crate::arguments::{Arguments, FileNames, arguments_of};
@@ -144,6 +143,8 @@ pub struct SearchSettings {
     pub preemptions: Option<u8>,
     /// Of which runs the search speaks, by when the signals come that a thread causes itself.
     pub signals: Signals,
+    /// By what the outcomes are told apart that are printed.
+    pub apart: OutcomeKey,
 }
 
 /// What the options of a command come to.
@@ -371,6 +372,7 @@ impl<'a> Arguments<'a> {
             reductions: reductions_made(self.without),
             preemptions: small_in(PREEMPTIONS, self.preemptions),
             signals: signals_or_prompt(self.signals),
+            apart: apart_or_text(self.by),
         }
     }
 
@@ -471,7 +473,13 @@ fn asked_for<'a>(kind: CommandKind, arguments: Arguments<'a>) -> Option<Command<
 {
     if arguments.all_suit(kind.takes()) {
         let settings = arguments.settings();
-        command_for(kind, settings, arguments)
+        let Arguments {
+            names,
+            after,
+            memory,
+            ..
+        } = arguments;
+        command_for(kind, settings, names, after, memory)
     } else {
         None
     }
@@ -482,19 +490,19 @@ fn asked_for<'a>(kind: CommandKind, arguments: Arguments<'a>) -> Option<Command<
 fn command_for<'a>(
     kind: CommandKind,
     settings: Settings,
-    arguments: Arguments<'a>,
+    names: FileNames<'a>,
+    after: Option<&'a str>,
+    memory: Option<&'a str>,
 ) -> Option<Command<'a>>
     requires { AreInRange settings }
-    ensures command { option_map said result
-        ≡ command_for kind settings ((stated arguments.entry).values After)
-        ((stated arguments.entry).values Memory) (stated arguments.entry).names }
+    ensures command { option_map said result ≡ command_for kind settings (option_copied after.entry)
+        (option_copied memory.entry) (names_kept names.entry) }
     ensures limits { IfSome result (λ command. HasLimits (said command)) }
     ensures harts { IfSome result (λ command. HasItsHarts (said command)) }
 {
-    let Arguments { names, .. } = arguments;
     match kind {
         CommandKind::Runs { source, shown } => {
-            let run = run_for(source, shown, settings, arguments)?;
+            let run = run_for(source, shown, settings, names, after, memory)?;
             Some(Command::Runs(run))
         }
         CommandKind::Makes => Some(Command::Makes(guest_for(names)?)),
@@ -611,21 +619,16 @@ fn run_for<'a>(
     kind: SourceKind,
     shown: ShownKind,
     settings: Settings,
-    arguments: Arguments<'a>,
+    names: FileNames<'a>,
+    after: Option<&'a str>,
+    memory: Option<&'a str>,
 ) -> Option<Run<'a>>
     requires { InRange settings.limits }
-    ensures run { option_map run_said result
-        ≡ option_map (run_for kind shown settings ((stated arguments.entry).values Memory))
-        (files_for kind (stated arguments.entry).names settings ((stated arguments.entry).values After)) }
+    ensures run { option_map run_said result ≡ option_map (run_for kind shown settings (option_copied memory.entry))
+        (files_for kind (names_kept names.entry) settings (option_copied after.entry)) }
     ensures limits { IfSome result (λ run. InRange run.limits) }
     ensures harts { IfSome result (λ run. HasHartsOf (source_said run.source) run.limits) }
 {
-    let Arguments {
-        names,
-        after,
-        memory,
-        ..
-    } = arguments;
     let (program, source) = files_for(kind, names, settings, after)?;
     let Limits {
         harts,

@@ -6,6 +6,7 @@ mod commands;
 mod ends;
 mod faults;
 mod options;
+mod questions;
 mod read;
 mod reader;
 mod spans;
@@ -18,7 +19,10 @@ pub use commands::{
     Shown, Source, Trial,
 };
 pub use faults::WordsFault;
+pub use options::{ALL_OPTIONS, OptionName};
+pub use questions::{Question, question_of};
 pub use read::{WordsError, read_words};
 pub use spans::{MemorySpan, MemorySpans};
 pub use table::{COMMANDS, CommandKind, ShownKind, SourceKind, command_kind};
-pub use theorems::words_are_wrong_or_name_a_command;
+pub use takes::NameKind;
+pub use theorems::{questions_are_no_commands, words_are_wrong_or_name_a_command};

@@ -5,7 +5,7 @@ ghost use Rattle.std.specs.Char.{is_ascii_digit};
 ghost use Rattle.std.specs.List.{list_all};
 ghost use Rattle.command_words.specs.Grammar.{number_given, number_or};
 ghost use Rattle.command_words.specs.Kept.{named, range, values_kept};
-ghost use Rattle.command_words.specs.Options.{is_value, number_in, number_of, option_named, values_of, yes_or_no};
+ghost use Rattle.command_words.specs.Options.{is_value, long_name, number_in, number_of, option_named, values_of, yes_or_no};
 
 use crate::ends::end_of_text;
 use crate::spans::are_spans;
@@ -14,7 +14,7 @@ use search_reductions::{Reductions, Signals};
 
 /// The options that commands have.
 #[derive(Clone, Copy, Drop)]
-pub(crate) enum OptionName {
+pub enum OptionName {
     /// How many harts there are.
     Harts,
     /// How many frames of 4,096 bytes there are.
@@ -60,7 +60,7 @@ pub(crate) enum OptionName {
 }
 
 /// All options.
-pub(crate) const ALL_OPTIONS: [OptionName; 21] = [
+pub const ALL_OPTIONS: [OptionName; 21] = [
     OptionName::Harts,
     OptionName::Frames,
     OptionName::Steps,
@@ -218,6 +218,35 @@ impl OptionName {
             "--preemptions" => Some(OptionName::Preemptions),
             "--signals" => Some(OptionName::OwnSignals),
             _ => None,
+        }
+    }
+
+    /// The option's name: what stands behind the two dashes of its word.
+    pub fn long_name<'a>(self) -> &'a str
+        ensures { result.now ≡ long_name (named self) }
+    {
+        match self {
+            OptionName::Harts => "harts",
+            OptionName::Frames => "frames",
+            OptionName::Steps => "steps",
+            OptionName::Seed => "seed",
+            OptionName::Policy => "policy",
+            OptionName::Calm => "calm",
+            OptionName::After => "after",
+            OptionName::RunCount => "runs",
+            OptionName::Until => "until",
+            OptionName::By => "by",
+            OptionName::Jobs => "jobs",
+            OptionName::From => "from",
+            OptionName::To => "to",
+            OptionName::Memory => "memory",
+            OptionName::Expect => "expect",
+            OptionName::Places => "places",
+            OptionName::Deep => "deep",
+            OptionName::Scripts => "scripts",
+            OptionName::Without => "without",
+            OptionName::Preemptions => "preemptions",
+            OptionName::OwnSignals => "signals",
         }
     }
 

@@ -194,12 +194,13 @@ const OF_A_SEARCH: OptionSet = OptionSet {
     without: true,
     preemptions: true,
     signals: true,
+    by: true,
     ..NO_OPTIONS
 };
 
 /// What a name is.
 #[derive(Clone, Copy, Drop)]
-pub(crate) enum NameKind {
+pub enum NameKind {
     /// That of a program's file.
     Program,
     /// That of a second program's file.
@@ -301,6 +302,20 @@ impl ShownKind {
 }
 
 impl CommandKind {
+    /// Whether a command of this kind has an option.
+    pub fn has_option(self, option: OptionName) -> bool
+        ensures { result ≡ has (takes_kind self).options (named option) }
+    {
+        self.takes().options.has(option)
+    }
+
+    /// What the name at this place is, counted from 0; None where a command of this kind has fewer names.
+    pub fn name_kind(self, place: usize) -> Option<NameKind>
+        ensures { result ≡ kind_at (takes_kind self).names place }
+    {
+        self.takes().name_at(place)
+    }
+
     /// What a command of this kind takes.
     pub(crate) fn takes(self) -> Takes
         ensures { takes_kept result ≡ takes_kind self }

@@ -4,6 +4,8 @@ ghost use Rattle.std.specs.Prelude.{◌≡◌, ◌↔◌, ℕ, List, None, Some,
 ghost use Rattle.command_words.specs.Commands.{Command, HasItsShown};
 ghost use Rattle.command_words.specs.Grammar.{IsCommandLine};
 ghost use Rattle.command_words.specs.declared.faults.WordsFault.{WordsFault};
+ghost use Rattle.command_words.specs.declared.questions.Question.{Question};
+ghost use Rattle.command_words.specs.Questions.{question_of};
 ghost use Rattle.command_words.specs.WordFaults.{words_fault};
 ghost use Rattle.command_words.specs.Words.{command_of};
 
@@ -30,4 +32,9 @@ pub fn words_are_wrong_or_name_a_command()
 /// What words ask to be shown of a run can be shown of it: a summary and a trace are of a run by a script alone.
 pub(crate) fn words_ask_for_what_can_be_shown()
     ensures { (words : List (List ℕ)) → IfSome (command_of words) HasItsShown }
+{}
+
+/// Words that ask for help or for the version are no command. So what commands do doesn't hang on how these are answered.
+pub fn questions_are_no_commands()
+    ensures { (words : List (List ℕ)) (question : Question) → question_of words ≡ Some question → command_of words ≡ None }
 {}

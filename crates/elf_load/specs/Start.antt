@@ -41,12 +41,12 @@ start_runs pages = stack_run ∷ return_run ∷ map image_run pages
 abbrev pub page_of : List ImagePage → ℕ → Option ImagePage
 page_of pages n = find (λ p. p.number == n) pages
 
--- the words of the return page: `addi x17, x0, 139` and `ecall`, then zeros
+-- the words of the return page, of 8 bytes: `addi x17, x0, 139` and `ecall`, the same once more, then zeros
 abbrev pub return_words : List ℕ
-return_words = 0x08B00893 ∷ 0x00000073 ∷ []
+return_words = 0x0000007308B00893 ∷ 0x0000007308B00893 ∷ []
 
 abbrev pub return_byte : ℕ → ℕ
-return_byte offset = byte_of (slice_index return_words (offset / 4)) (offset % 4)
+return_byte offset = byte_of (slice_index return_words (offset / 8)) (offset % 8)
 
 abbrev pub image_byte : Option ImagePage → ℕ → ℕ
 image_byte None offset = 0

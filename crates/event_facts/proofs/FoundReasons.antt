@@ -4,7 +4,7 @@ use Rattle.std.proofs.lemmas.Nat.Bits.{bit_at_above}
 use Rattle.std.specs.Option.{option_map, option_map_or, option_or}
 use Rattle.std.specs.Prelude.{IfSome}
 use Rattle.mach_types.specs.Events.{begun_by, choice_of, choice_with, kind_of, nature_of}
-use Rattle.mach_types.specs.Kernel.Signals.{has_signal}
+use Rattle.mach_types.specs.Kernel.Signals.{action_of, has_signal}
 use Rattle.mach_types.specs.Kernel.SignalFrames.{can_write_frame}
 use Rattle.mach_types.specs.Kernel.Threads.{Thread, is_live, state_of, thread_of}
 use Rattle.mach_types.specs.declared.events.Choice.{Choice}
@@ -90,7 +90,7 @@ pub delivery_reason : (here : Here) (t : ℕ) (o : Option ℕ) (found : Option K
     → IfSome o (λ signal. (can_write : Bool) → IsReason found (unhandled can_write signal here.kernel.signals))
     → IsReason found (delivery_kills here t o)
 delivery_reason here t None found reason = tt
-delivery_reason here t (Some signal) found reason = reason (can_write_frame (is_writable here) (file_interrupted here t (interruption_here here t)))
+delivery_reason here t (Some signal) found reason = reason (can_write_frame (is_writable here) (action_of signal here.kernel.signals) (file_interrupted here t (interruption_here here t)))
 
 -- what an interruption found, or what else there is
 pub bad_first : (bad rest : Option KillWhy) (why : KillWhy) → bad ≡ Some why → IsReason (Some why) (option_or bad rest)

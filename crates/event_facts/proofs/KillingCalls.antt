@@ -20,12 +20,15 @@ use Rattle.block_model.specs.Calls.Beside.{barrier_call, sequence_call}
 use Rattle.block_model.specs.Calls.Cloning.{clone, clone_errors}
 use Rattle.block_model.specs.Calls.Console.{Span, span_errors, spans_at, total, write, write_errors, write_spans, writev, writev_errors}
 use Rattle.block_model.specs.Calls.Ending.{exit, is_last}
-use Rattle.block_model.specs.Calls.Futexes.{futex, futex_errors, is_wait, is_wake, operation, requeue_errors, wait_errors}
+use Rattle.block_model.specs.Calls.Futexes.{futex, futex_errors, is_wait, is_wake, requeue_errors, wait_errors}
+use Rattle.mach_types.specs.Kernel.Futexes.{operation}
 use Rattle.block_model.specs.Calls.Limits.{prlimit_errors}
-use Rattle.block_model.specs.Calls.Memory.{changed_unless, mapped_or_refused, mmap, mmap_errors, mprotect, munmap, permission_here}
+use Rattle.block_model.specs.Calls.Memory.{changed_unless, mapped_or_refused, mmap, mmap_errors, mprotect, munmap, permission_here, wrote_unless}
+use Rattle.mach_types.specs.declared.user_memory.Write.{Write}
 use Rattle.block_model.specs.Calls.Policies.{getparam_errors, getscheduler_errors, priority_errors}
 use Rattle.block_model.specs.Calls.Sequences.{registers_or_refused, rseq, unregisters, unregisters_or_refused}
 use Rattle.block_model.specs.Calls.Signals.{post, refuses_signal, resumed, rt_sigaction, rt_sigprocmask, send, sigaction_errors, sigpending_errors, sigprocmask_errors, tgkill, tgkill_errors, tkill, tkill_errors, waits_in_vain, with_posted}
+use Rattle.block_model.specs.Calls.Random.{getrandom_errors}
 use Rattle.block_model.specs.Calls.System.{uname_errors}
 use Rattle.block_model.specs.Calls.Terminal.{fstat_errors, ioctl_errors}
 use Rattle.block_model.specs.Here.{Here, is_writable, memory}
@@ -83,6 +86,10 @@ module _ (here : Here) (t : ℕ) where
   calm_changed : (o : Option Errno) (pages : Pages) → IsCalm (changed_unless here t o pages)
   calm_changed (Some e) pages = refl
   calm_changed None pages = refl
+
+  calm_wrote : (o : Option Errno) (ws : List Write) → IsCalm (wrote_unless here t o ws)
+  calm_wrote (Some e) ws = refl
+  calm_wrote None ws = refl
 
   calm_mapped : (len prot : ℕ) (r : Result ℕ Errno) → IsCalm (mapped_or_refused here t len prot r)
   calm_mapped len prot (Err e) = refl
@@ -200,7 +207,9 @@ module _ (here : Here) (t : ℕ) where
       at_number number 220 _ _ (calm_unless (clone_errors here t) _ refl) (λ _.
       at_number number 222 _ _ calm_mmap (λ _.
       at_number number 226 _ _ (calm_changed _ _) (λ _.
-      calm_asking number ∙ sym (none_told number other another)))))))))))))))))))))))
+      at_number number 233 _ _ (calm_wrote _ _) (λ _.
+      at_number number 278 _ _ (calm_unless (getrandom_errors here t) _ refl) (λ _.
+      calm_asking number ∙ sym (none_told number other another)))))))))))))))))))))))))
 
   told_call : (number : ℕ) → IsTold number (call_of number here t)
   told_call number =

@@ -3,7 +3,8 @@ use Rattle.std.proofs.Common.{◌≡◌, ℕ, suc, List, [], ◌∷◌, length, 
 use Rattle.std.specs.Option.{option_map, option_or, option_to_list}
 use Rattle.mach_types.specs.Events.{choice_of, kind_of, nature_of}
 use Rattle.mach_types.specs.Kernel.SignalFrames.{can_write_frame}
-use Rattle.mach_types.specs.Kernel.Signals.{action_of, has_signal, is_handler, mask_of, next_for, with_pending}
+use Rattle.mach_types.specs.Kernel.Signals.{action_of, has_signal, is_handler, mask_of, next_for, with_fault}
+use Rattle.block_model.specs.Events.Exec.{fault_told as told_here}
 use Rattle.mach_types.specs.Kernel.Threads.{is_stuck}
 use Rattle.mach_types.specs.declared.events.Choice.{Choice}
 use Rattle.mach_types.specs.declared.events.Choice.TheVariants as asked
@@ -54,7 +55,7 @@ module _ (here : Here) where
       go : (masked handled : Bool)
           → Tells
           (cond (not masked && handled)
-          (record (one_instruction here) { kernel = signalled (with_pending t signal here.kernel.signals) here.kernel })
+          (record (one_instruction here) { kernel = signalled (with_fault t (told_here here t signal) here.kernel.signals) here.kernel })
           (record (one_instruction here) { ended = Some (over.Killed signal) }))
           (cond masked (Some Masked) (cond (not handled) (Some NoHandler) None))
       go true handled = refl
@@ -118,14 +119,14 @@ module _ (here : Here) where
   delivers_this : (t signal : ℕ) (o : Outcome)
       → Tells (done_delivery here t signal o)
       (option_or (came_bad (done_delivery here t signal o).interrupted)
-      (unhandled (can_write_frame (is_writable here) (file_interrupted here t o)) signal here.kernel.signals))
+      (unhandled (can_write_frame (is_writable here) (action_of signal here.kernel.signals) (file_interrupted here t o)) signal here.kernel.signals))
   delivers_this t signal o = by o
     where
       handled : Bool
       handled = is_handler (action_of signal here.kernel.signals)
 
       writes : Outcome → Bool
-      writes x = can_write_frame (is_writable here) (file_interrupted here t x)
+      writes x = can_write_frame (is_writable here) (action_of signal here.kernel.signals) (file_interrupted here t x)
 
       by : (x : Outcome)
           → Tells (done_delivery here t signal x)

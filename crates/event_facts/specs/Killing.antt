@@ -73,7 +73,8 @@ unhandled can_write signal g =
 abbrev pub delivery_kills : Here → ℕ → Option ℕ → Option KillWhy
 delivery_kills here t None = None
 delivery_kills here t (Some signal) =
-    unhandled (can_write_frame (is_writable here) (file_interrupted here t (interruption_here here t))) signal here.kernel.signals
+    unhandled (can_write_frame (is_writable here) (action_of signal here.kernel.signals) (file_interrupted here t (interruption_here here t)))
+    signal here.kernel.signals
 
 -- thread t makes a fault of this signal: it masks that, or the signal has no handler
 abbrev pub fault_kills : ℕ → ℕ → Signalling → Option KillWhy

@@ -40,7 +40,9 @@ call_name number =
     else if number == 220 then codes "clone"
     else if number == 222 then codes "mmap"
     else if number == 226 then codes "mprotect"
+    else if number == 233 then codes "madvise"
     else if number == 261 then codes "prlimit64"
+    else if number == 278 then codes "getrandom"
     else if number == 283 then codes "membarrier"
     else if number == 293 then codes "rseq"
     else []
@@ -74,7 +76,9 @@ argument_count number =
     else if number == 220 then 5
     else if number == 222 then 6
     else if number == 226 then 3
+    else if number == 233 then 3
     else if number == 261 then 4
+    else if number == 278 then 3
     else if number == 283 then 3
     else if number == 293 then 4
     else 0

@@ -36,7 +36,7 @@ use Rattle.block_model.specs.Calls.Cloning.{child_file, clone_child_cleartid}
 use Rattle.block_model.specs.Calls.Cloning.{has_flag, with_new_child}
 use Rattle.block_model.specs.Calls.Ending.{clears}
 use Rattle.block_model.specs.Calls.Futexes.{answered_wait}
-use Rattle.block_model.specs.Calls.Futexes.{requeue, wake}
+use Rattle.block_model.specs.Calls.Futexes.{anyone, requeue, wake}
 use Rattle.block_model.specs.Calls.Signals.{broken_wait}
 use Rattle.block_model.specs.Events.{done_of, refusal_of}
 use Rattle.block_model.specs.Events.Exec.{by_call}
@@ -163,7 +163,7 @@ module _ (u : ℕ) where
       by_same (inr other) = as_was ts (moved v to ts)
           (state_of-with_state_other v u other (Waiting to) (with_woken v ts) ∙ state_of-with_state_other v u other Ready ts)
 
-  calm_requeue : (n more at to : ℕ) (k : Kernel) → IsCalm k.threads (requeue n more at to k).kernel.threads
+  calm_requeue : (n more at to : ℕ) (listens : ℕ → Bool) (k : Kernel) → IsCalm k.threads (requeue n more at to listens k).kernel.threads
   calm_requeue = requeue_keeps (λ a b. IsCalm a.threads b.threads) (λ k. calm_alike k.threads k.threads refl)
       (λ v k after waiting rest. calm_then k.threads (woken v k).threads after.threads
       (calm_woken v k.threads) rest)
@@ -307,18 +307,18 @@ module _ (here : Here) (t u number : ℕ) where
   step_call : {c : CallDone} → CallDeed here t number c → CallStep c
   step_call (Says n) = plain _ refl refl
   step_call (Answers n entered k answer writes step) = step_said n entered step
-  step_call (Wakes n more at to small) = StaysCalm (calm_requeue u n more at to here.kernel)
-      (λ other. past_own _ (map (answered_wait here) (requeue n more at to here.kernel).threads) other
-      ∙ answered_pc (requeue n more at to here.kernel).threads)
+  step_call (Wakes n more at to listens small) = StaysCalm (calm_requeue u n more at to listens here.kernel)
+      (λ other. past_own _ (map (answered_wait here) (requeue n more at to listens here.kernel).threads) other
+      ∙ answered_pc (requeue n more at to listens here.kernel).threads)
   step_call (Breaks v g waiting keeps stand heeded others) = StaysCalm (calm_woken u v here.kernel.threads)
       (λ other. past_own _ (broken_wait here v ∷ []) other ∙ broken_pc v (eqb v u) refl)
   step_call (Exits more) =
       let n : ℕ = cond (clears here t) 1 0 in
       let at = clear_of t here.kernel.threads in
-      let then = (wake n at here.kernel).kernel in
+      let then = (wake n at anyone here.kernel).kernel in
       StaysCalm (calm_then u here.kernel.threads then.threads (without t then.threads)
-      (calm_requeue u n 0 at 0 here.kernel) (calm_gone u t then.threads))
-      (λ other. answered_pc (wake n at here.kernel).threads)
+      (calm_requeue u n 0 at 0 anyone here.kernel) (calm_gone u t then.threads))
+      (λ other. answered_pc (wake n at anyone here.kernel).threads)
   step_call (Bears entered writes free is) = step_born is entered
   step_call (Begins targets restart others no_error is) = plain _ refl refl
   step_call (Resumes words frame is) = plain _ refl refl

@@ -1,1 +1,3 @@
 mod Agreement
+pub mod Laws
+mod SameEnds

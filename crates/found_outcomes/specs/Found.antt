@@ -1,8 +1,9 @@
 -- What the outcomes that were found say: each is that of a run, and no two are alike (own).
-use Rattle.std.specs.Prelude.{ℕ, ◌≡◌, List, Some, Contains}
+use Rattle.std.specs.Prelude.{ℕ, ◌≡◌, ◌==◌, Bool, true, false, List, Some, Contains}
 use Rattle.std.specs.List.{AllPairs}
 use Rattle.mach_types.specs.declared.events.Entry.{Entry}
 use Rattle.mach_types.specs.declared.limits.End.{End}
+use Rattle.mach_types.specs.declared.limits.End.TheVariants.{Exit, Killed, Stuck, Limit, Unended}
 use Rattle.block_model.specs.Plain.{plain_after, plain_over}
 use Rattle.block_model.specs.Setting.{Setting}
 use Rattle.prompt_runs.specs.Prompt.{IsSpokenOf}
@@ -32,3 +33,12 @@ IsOther o p = o.end ≡ p.end → o.console ≡ p.console → ⊥
 -- no two of the outcomes are alike
 abbrev pub AreDifferent : List OutcomeFound → Type 0
 AreDifferent os = AllPairs IsOther os
+
+-- whether two ends are one
+abbrev pub same_end : End → End → Bool
+same_end (Exit a) (Exit b) = a == b
+same_end (Killed a) (Killed b) = a == b
+same_end Stuck Stuck = true
+same_end Limit Limit = true
+same_end Unended Unended = true
+same_end _ _ = false

@@ -1,7 +1,8 @@
 //! What a search of all runs of a program found: its outcomes, each with a run that ends so, and why the
 //! search ended.
 //!
-//! What the findings mean stands in `specs/`, by `block_model` and `same_places`.
+//! What the findings mean stands in `specs/`, by `block_model` and `same_places`. Crates above cite `proofs/Laws.antt`, and nothing else
+//! of `proofs/`.
 #![tactic(auto)]
 
 mod console;

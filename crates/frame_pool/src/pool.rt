@@ -105,6 +105,15 @@ impl FramePool {
         self.written.fill(false);
     }
 
+    /// Makes all bytes of a taken frame zero. No other frame changes. It takes no memory.
+    pub fn zero_frame(&mut self, frame: &Frame)
+        requires { IsTaken self.old frame.now }
+        ensures { self.new ≡ slice_set self.old frame.now (Some fresh) }
+    {
+        let place = frame.place();
+        self.written[place] = false;
+    }
+
     /// Whether a taken frame has zero bytes because nothing has written it. It looks at none of its bytes,
     /// and is false of a frame that was written, with whatever bytes.
     pub fn is_fresh(&self, frame: &Frame) -> bool
@@ -151,6 +160,16 @@ impl FramePool {
         reach(&mut self.region, place);
         self.region[place].copy_from_slice(bytes);
         self.written[place] = true;
+    }
+
+    /// A taken frame has zero bytes again. No other frame changes. It takes no memory, and writes no byte of the
+    /// frame.
+    pub fn zero(&mut self, frame: &Frame)
+        requires { IsTaken self.old frame.now }
+        ensures { self.new ≡ slice_set self.old frame.now (Some fresh) }
+    {
+        let place = frame.place();
+        self.written[place] = false;
     }
 }
 

@@ -94,6 +94,24 @@ impl HartState {
         self.cid = 0;
     }
 
+    /// Makes the hart one that is as another. It takes no memory.
+    pub fn copy_from(&mut self, other: &HartState)
+        ensures { self.new ≡ other.now }
+    {
+        self.buffer.copy_from(&other.buffer);
+        self.file = other.file;
+        self.pc = other.pc;
+        self.running = other.running;
+        self.requests = other.requests;
+        self.restart = other.restart;
+        self.waits = other.waits;
+        self.reserved = other.reserved;
+        self.ran = other.ran;
+        self.credit = other.credit;
+        self.events = other.events;
+        self.cid = other.cid;
+    }
+
     /// Whether no thread runs on the hart.
     pub fn is_idle(&self) -> bool
         ensures { result ≡ not (is_some self.now.running) }

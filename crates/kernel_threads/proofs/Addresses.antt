@@ -1,5 +1,5 @@
 -- Each waiter has the address of its wait after each change of the threads.
-use Rattle.std.proofs.Common.{ℕ, ◌+◌, ◌≡◌, ◌≢◌, Bool, true, false, not, cond, List, [], ◌∷◌, ◌++◌, filter, find, Some, eqb, refl, sym, ap, ◌∙◌}
+use Rattle.std.proofs.Common.{ℕ, ◌+◌, ◌≡◌, ◌≢◌, ◌&&◌, Bool, true, false, not, cond, List, [], ◌∷◌, ◌++◌, filter, find, Some, eqb, refl, sym, ap, ◌∙◌}
 use Rattle.std.specs.Option.{option_map}
 use Rattle.std.proofs.lemmas.Bool.{false≢true}
 use Rattle.std.proofs.lemmas.Bool.Decides.{Decides-eqb}
@@ -12,14 +12,15 @@ use Rattle.mach_types.specs.declared.threads.ThreadState.TheVariants.{Ready, Run
 use Rattle.kernel_threads.specs.Waits.{HaveAddresses, numbers_of, waits_at, is_waiter}
 use Rattle.kernel_threads.specs.declared.waiters.Waiter.{Waiter}
 
--- the first waiter at an address, read beside the numbers, is the one whose state says so
-pub first_waits : (at : ℕ) (ts : Threads) (ws : List Waiter) → HaveAddresses ts ws
-    → option_map (λ (w : Waiter). w.number) (find (waits_at at) ws) ≡ find (λ t. is_waiting_at at (state_of t ts)) (numbers_of ws)
-first_waits at ts [] each = refl
-first_waits at ts (w ∷ ws) each =
-    elim (waits_at at w) as (λ b. option_map (λ (v : Waiter). v.number) (cond b (Some w) (find (waits_at at) ws)) ≡ cond b (Some w.number) (find (λ t. is_waiting_at at (state_of t ts)) (numbers_of ws)))
-    [ true ↦ refl | false ↦ first_waits at ts ws each.1 ]
-    ∙ ap (λ o. cond (is_waiting_at at o) (Some w.number) (find (λ t. is_waiting_at at (state_of t ts)) (numbers_of ws))) (sym each.0)
+-- the first waiter at an address that listens, read beside the numbers, is the one whose state says so
+pub first_waits : (at : ℕ) (listens : ℕ → Bool) (ts : Threads) (ws : List Waiter) → HaveAddresses ts ws
+    → option_map (λ (w : Waiter). w.number) (find (waits_at at listens) ws) ≡ find (λ t. is_waiting_at at (state_of t ts) && listens t) (numbers_of ws)
+first_waits at listens ts [] each = refl
+first_waits at listens ts (w ∷ ws) each =
+    elim (waits_at at listens w)
+    as (λ b. option_map (λ (v : Waiter). v.number) (cond b (Some w) (find (waits_at at listens) ws)) ≡ cond b (Some w.number) (find (λ t. is_waiting_at at (state_of t ts) && listens t) (numbers_of ws)))
+    [ true ↦ refl | false ↦ first_waits at listens ts ws each.1 ]
+    ∙ ap (λ o. cond (is_waiting_at at o && listens w.number) (Some w.number) (find (λ t. is_waiting_at at (state_of t ts) && listens t) (numbers_of ws))) (sym each.0)
 
 -- a waiter that is taken out, by its number
 pub numbers_without : (n : ℕ) (ws later : List Waiter) → later ≡ filter (λ w. not (is_waiter n w)) ws → numbers_of later ≡ no_waiter n (numbers_of ws)

@@ -4,7 +4,7 @@ use Rattle.std.specs.List.{find}
 use Rattle.std.specs.Option.{option_and_then, IsSome}
 use Rattle.mach_types.specs.declared.events.Hart.{Hart}
 use Rattle.mach_types.specs.declared.threads.Saved.{Saved}
-use Rattle.mach_types.specs.declared.threads.ThreadState.TheVariants.{Ready, Running}
+use Rattle.mach_types.specs.declared.threads.ThreadState.TheVariants.{Ready, Running, Waiting}
 use Rattle.mach_types.specs.Kernel.Threads.{state_of}
 use Rattle.kernel_threads.specs.Table.{Table, IsTable, SavedList, is_of, saved_of, with_saved}
 use Rattle.kernel_threads.proofs.SavedAfter as after
@@ -34,3 +34,7 @@ emptied t saved = after.saved_of-emptied t saved
 -- something is saved of a thread that is ready
 pub ready_saves_something : (t : ℕ) (table : Table) → IsTable table → state_of t table.threads ≡ Some Ready → IsSome (saved_of t table.saved)
 ready_saves_something t table holds ready = there.saved_of-not_running t Ready table holds ready refl
+
+-- and of one that waits
+pub waiting_saves_something : (t at : ℕ) (table : Table) → IsTable table → state_of t table.threads ≡ Some (Waiting at) → IsSome (saved_of t table.saved)
+waiting_saves_something t at table holds waits = there.saved_of-not_running t (Waiting at) table holds waits refl

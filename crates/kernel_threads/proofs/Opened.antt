@@ -1,8 +1,8 @@
 -- The table that the fields stand for, where they were borrowed; and what a thread's state says of what is saved of it.
-use Rattle.std.proofs.Common.{ℕ, ◌<◌, ◌≤◌, ◌≡◌, Bool, true, false, cond, eqb, List, [], ◌∷◌, length, map, find, Option, Some, None, refl, sym, ap, ◌∙◌, subst, arith}
+use Rattle.std.proofs.Common.{ℕ, ◌<◌, ◌≤◌, ◌≡◌, ◌&&◌, Bool, true, false, cond, eqb, List, [], ◌∷◌, length, map, find, Option, Some, None, refl, sym, ap, ◌∙◌, subst, arith}
 use Rattle.std.specs.List.Sorted.{IsStrictlyIncreasing}
 use Rattle.std.specs.Option.{option_map, option_and_then}
-use Rattle.std.proofs.lemmas.Bool.{false≢true}
+use Rattle.std.proofs.lemmas.Bool.{and_parts, false≢true}
 use Rattle.std.proofs.lemmas.Bool.Decides.{nat_tests}
 use Rattle.std.proofs.lemmas.List.{length-map}
 use Rattle.kernel_threads.specs.Rows.{are_rising, state_at, kept_at, thread_in, threads_in, all_saved_in, is_row, table_in}
@@ -72,7 +72,7 @@ room n s given t hart v h was =
       length-map s.waiters.items (λ (w : Waiter). w.number),
     )
 
--- the thread that waits longest at an address waits
+-- the thread that waits longest at an address, of those that listen, waits
 found_step : {X : Type 0} (p : X → Bool) (y : X) (ys : List X) (x : X) (b : Bool) → p y ≡ b → (find p ys ≡ Some x → p x ≡ true) → cond b (Some y) (find p ys) ≡ Some x → p x ≡ true
 found_step p y ys x true h rest e = let same : x ≡ y = cc in ap p same ∙ h
 found_step p y ys x false h rest e = rest e
@@ -87,9 +87,10 @@ waits_there (Some Ready) at e = absurd (false≢true e)
 waits_there (Some (Running h)) at e = absurd (false≢true e)
 waits_there (Some (Waiting b)) at e = (b, refl)
 
-pub longest_waits : (at n : ℕ) (ts : Threads) → Some n ≡ longest_waiter at ts → waits ts n
-longest_waits at n ts e =
-    waits_there (state_of n ts) at (found_passes (λ t. is_waiting_at at (state_of t ts)) ts.waiters n (sym e))
+pub longest_waits : (at : ℕ) (listens : ℕ → Bool) (n : ℕ) (ts : Threads) → Some n ≡ longest_waiter at listens ts → waits ts n
+longest_waits at listens n ts e =
+    let both = found_passes (λ t. is_waiting_at at (state_of t ts) && listens t) ts.waiters n (sym e) in
+    waits_there (state_of n ts) at (and_parts (is_waiting_at at (state_of n ts)) (listens n) both).0
 
 -- no waiter stands twice
 pub waiters_once : (s : Slots) (given : ℕ) (waiters : List Waiter) → waiters ≡ s.waiters.items → IsTable (slots_table s given) → stand_once waiters

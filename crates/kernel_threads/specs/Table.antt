@@ -1,7 +1,8 @@
 -- The table of threads: the threads of a process, and what each keeps while it doesn't run (own).
-use Rattle.std.specs.Prelude.{ℕ, ◌≡◌, ◌-◌, ◌^◌, ◌==◌, Bool, not, List, [], ◌∷◌, ◌++◌, map, filter, find, if◌then◌else◌, Option, Some, is_some}
-use Rattle.std.specs.Option.{option_map, option_and_then}
+use Rattle.std.specs.Prelude.{ℕ, ◌≡◌, ◌-◌, ◌^◌, ◌==◌, Bool, true, false, not, List, [], ◌∷◌, ◌++◌, map, filter, find, if◌then◌else◌, Option, Some, None, is_some}
+use Rattle.std.specs.Option.{option_map, option_map_or, option_and_then}
 use Rattle.mach_types.specs.Registers.{with_register}
+use Rattle.mach_types.specs.Kernel.Futexes.{hears}
 use Rattle.mach_types.specs.Kernel.Threads as process
 use Rattle.mach_types.specs.declared.errors.TheConstants.{EINTR}
 use Rattle.mach_types.specs.declared.threads.Saved.{Saved}
@@ -25,6 +26,11 @@ is_of t pair = pair.0 == t
 -- what a thread was saved with; none where it runs, or isn't live
 abbrev pub saved_of : ℕ → SavedList → Option Saved
 saved_of t saved = option_and_then (λ pair. pair.1) (find (is_of t) saved)
+
+-- whether a thread that waits hears a wake with this mask, or without one (futex(2))
+abbrev pub hears_saved : Option ℕ → SavedList → ℕ → Bool
+hears_saved None saved t = true
+hears_saved (Some mask) saved t = option_map_or (hears (Some mask)) (saved_of t saved) false
 
 -- what a thread was saved with becomes this, or none
 abbrev pub saved_if : ℕ → Option Saved → ℕ × Option Saved → ℕ × Option Saved

@@ -1,5 +1,5 @@
 -- The threads that wait, each with the address of its wait, as the plain values that they stand for.
-use Rattle.std.specs.Prelude.{ℕ, ◌≡◌, ◌==◌, Bool, List, map, Some}
+use Rattle.std.specs.Prelude.{ℕ, ◌≡◌, ◌==◌, ◌&&◌, Bool, List, map, Some}
 use Rattle.std.specs.List.{AllByRecursion, IsDistinct}
 use Rattle.kernel_threads.specs.Rows.{table_in}
 use Rattle.kernel_threads.specs.Table.{IsTable}
@@ -18,8 +18,9 @@ stand_once waiters = IsDistinct (λ t u. t == u) (numbers_of waiters)
 abbrev pub is_waiter : ℕ → Waiter → Bool
 is_waiter n waiter = waiter.number == n
 
-abbrev pub waits_at : ℕ → Waiter → Bool
-waits_at at waiter = waiter.at == at
+-- whether one waits at an address and listens
+abbrev pub waits_at : ℕ → (ℕ → Bool) → Waiter → Bool
+waits_at at listens waiter = waiter.at == at && listens waiter.number
 
 -- each waiter is a thread that waits at its address
 abbrev pub HaveAddresses : Threads → List Waiter → Type 0

@@ -4,12 +4,14 @@
 //! The table is fixed: after it is made, no call takes memory. At most 64 threads live (own).
 #![tactic(auto)]
 
+mod masks;
 mod rows;
 mod table;
 mod theorems;
 mod waiters;
 
 pub use mach_types::{Saved, ThreadState};
+pub use masks::futex_operation;
 pub use rows::{Row, Stage};
 pub use table::Threads;
 pub use theorems::{

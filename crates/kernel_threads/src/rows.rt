@@ -5,6 +5,7 @@ ghost use Rattle.std.specs.List.{position};
 ghost use Rattle.kernel_threads.specs.Rows.{are_rising, state_at, kept_at, all_saved_in, change_if, changed_by, clear_in, clear_row_if, is_row, new_row, stage_if, state_in};
 ghost use Rattle.kernel_threads.specs.Table as spec;
 
+use crate::masks;
 use arrayvec::ArrayVec;
 use mach_types::{Hart, MOST_THREADS, Regs, Saved, ThreadState};
 
@@ -138,6 +139,20 @@ pub fn saved_of(rows: &Rows, number: u32) -> Option<Saved>
 {
     let row = row_of(rows, number)?;
     row.stage.kept()
+}
+
+/// Whether the thread with this number, which waits, hears a wake with this mask, or without one.
+pub fn hears(rows: &Rows, number: u32, mask: Option<u32>) -> bool
+    requires { are_rising rows.now.items }
+    ensures { result ≡ spec.hears_saved mask (all_saved_in rows.now.items) number }
+{
+    match mask {
+        Some(mask) => match saved_of(rows, number) {
+            Some(saved) => masks::hears(&saved, mask),
+            None => false,
+        },
+        None => true,
+    }
 }
 
 /// The address that the exit of the thread with this number clears, 0 where none is set.

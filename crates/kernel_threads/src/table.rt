@@ -68,6 +68,17 @@ impl Slots {
         self.rows.push(Row::new(1, start));
         self.waiters.clear();
     }
+
+    /// The rows and the waiters of another table.
+    fn copy_from(&mut self, other: &Slots)
+        ensures rows { self.new.rows.items ≡ other.now.rows.items }
+        ensures waiters { self.new.waiters.items ≡ other.now.waiters.items }
+    {
+        self.rows.clear();
+        let _ = self.rows.try_extend_from_slice(&other.rows);
+        self.waiters.clear();
+        let _ = self.waiters.try_extend_from_slice(&other.waiters);
+    }
 }
 
 impl Threads {
@@ -90,6 +101,14 @@ impl Threads {
     {
         self.slots.start_over(start);
         self.given = 1;
+    }
+
+    /// The threads of another table, in place of its own. It takes no memory.
+    pub fn copy_from(&mut self, other: &Threads)
+        ensures { self.new ≡ other.now }
+    {
+        self.slots.copy_from(&other.slots);
+        self.given = other.given;
     }
 
     /// Makes a child of a live thread, ready with `start`, and answers its number: the next one (clone(2)).
@@ -162,12 +181,14 @@ impl Threads {
         self.slots.waiters.push(Waiter { number: tid.0, at });
     }
 
-    /// The number of the thread that waits longest at an address.
-    fn longest_waiter(&self, at: u64) -> Option<u32>
-        ensures longest { result ≡ process.longest_waiter at self.now.threads }
+    /// The number of the thread that waits longest at an address, of those that hear a wake with this mask, or without one.
+    fn longest_waiter(&self, at: u64, mask: Option<u32>) -> Option<u32>
+        ensures longest { result
+            ≡ process.longest_waiter at (spec.hears_saved mask self.now.saved) self.now.threads }
         ensures table { spec.IsTable self.now }
     {
-        waiters::first_at(self.slots.waiters.as_slice(), at)
+        let waiters = self.slots.waiters.as_slice();
+        waiters::first_at(waiters, &self.slots.rows, at, mask)
     }
 
     /// Makes a waiting thread ready, with this answer of its wait.
@@ -185,16 +206,18 @@ impl Threads {
         waiters::take_out(&mut self.slots.waiters, number);
     }
 
-    /// Makes the thread that waits longest at an address ready, its wait answering 0, and answers which it
-    /// is; None exactly where nobody waits there (futex(2)).
-    pub fn wake_one(&mut self, at: u64) -> Option<Tid>
-        ensures longest { option_map (λ t. t.0) result ≡ process.longest_waiter at self.old.threads }
+    /// Makes a thread ready, its wait answering 0, and answers which it is: of those that wait at an address and hear
+    /// a wake with this mask, or without one, the one that waits longest. None exactly where there is none (futex(2)).
+    pub fn wake_one(&mut self, at: u64, mask: Option<u32>) -> Option<Tid>
+        ensures longest { option_map (λ t. t.0) result
+            ≡ process.longest_waiter at (spec.hears_saved mask self.old.saved) self.old.threads }
         ensures nobody { IfNone result (self.new ≡ self.old) }
         ensures threads { IfSome result (λ t. self.new.threads ≡ process.with_woken t.0 self.old.threads) }
         ensures saved { IfSome result (λ t. self.new.saved ≡ spec.with_answer t.0 0 self.old.saved) }
+        ensures was_table { spec.IsTable self.old }
         ensures table { spec.IsTable self.new }
     {
-        let number = self.longest_waiter(at)?;
+        let number = self.longest_waiter(at, mask)?;
         self.wake(number, 0);
         Some(Tid(number))
     }

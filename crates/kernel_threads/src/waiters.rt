@@ -3,9 +3,11 @@
 ghost use Rattle.std.specs.Prelude.{◌≡◌, not, filter, find};
 ghost use Rattle.std.specs.List.{position};
 ghost use Rattle.std.specs.Option.{option_map};
+ghost use Rattle.kernel_threads.specs.Rows.{all_saved_in, are_rising};
+ghost use Rattle.kernel_threads.specs.Table.{hears_saved};
 ghost use Rattle.kernel_threads.specs.Waits.{stand_once, waits_at, is_waiter};
 
-use crate::rows::ROOM;
+use crate::rows::{self, ROOM, Rows};
 use arrayvec::ArrayVec;
 
 /// A thread that waits.
@@ -20,12 +22,22 @@ pub struct Waiter {
 /// The threads that wait, the longest waiting first.
 pub type Waiters = ArrayVec<Waiter, ROOM>;
 
-/// The number of the first one that waits at an address.
-pub fn first_at(waiters: &[Waiter], at: u64) -> Option<u32>
-    ensures { result ≡ option_map (λ waiter. waiter.number) (find (waits_at at) waiters.now) }
+/// Whether one waits at an address and hears a wake with this mask, or without one.
+fn is_next(waiter: &Waiter, live: &Rows, at: u64, mask: Option<u32>) -> bool
+    requires { are_rising live.now.items }
+    ensures { result ≡ waits_at at (hears_saved mask (all_saved_in live.now.items)) waiter.now }
+{
+    waiter.at == at && rows::hears(live, waiter.number, mask)
+}
+
+/// The number of the first one that waits at an address and hears a wake with this mask, or without one.
+pub fn first_at(waiters: &[Waiter], live: &Rows, at: u64, mask: Option<u32>) -> Option<u32>
+    requires { are_rising live.now.items }
+    ensures { result ≡ option_map (λ waiter. waiter.number)
+        (find (waits_at at (hears_saved mask (all_saved_in live.now.items))) waiters.now) }
 {
     for waiter in waiters {
-        if waiter.at == at {
+        if is_next(waiter, live, at, mask) {
             return Some(waiter.number);
         }
     }

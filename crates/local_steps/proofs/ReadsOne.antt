@@ -1,11 +1,12 @@
 -- Of the files of threads an event reads that of its own thread alone; but who wakes a thread, or breaks its
 -- wait, sets that one's too.
 use Rattle.local_steps.proofs.Common.{◌≡◌, ◌≢◌, ◌⊎◌, inl, inr, ℕ, List, [], ◌∷◌, map, length, refl, sym, ap, ◌∙◌, subst, Bool, false, eqb_tells, Option, Some, None, CallDone, Done, Effect, Here, Kernel, Saved, answered_wait, argument, broken_wait, by_call, by_outcome, call_number, called, done_exec_by, int_argument, is_call, is_inside_here, is_waiting_state, killed_in_call, next_effect, next_fault, one_instruction, outcome_of, refusal_exec_by, returned, said, state_of, wake, waits, woken}
-use Rattle.std.specs.Prelude.{◌==◌, if◌then◌else◌}
-use Rattle.block_model.specs.Calls.Futexes.{Woken, futex, futex_errors, futex_wait, is_wait, is_wake, operation, requeue, requeue_errors}
+use Rattle.std.specs.Prelude.{◌==◌, ◌&&◌, if◌then◌else◌, find, zero, suc}
+use Rattle.block_model.specs.Calls.Futexes.{Woken, anyone, futex, futex_errors, futex_wait, is_wait, is_wake, move, nobody, requeue, requeue_errors, wake_mask, woken_first}
+use Rattle.mach_types.specs.Kernel.Futexes.{hears, operation}
 use Rattle.block_model.specs.Kernel.{requeued}
-use Rattle.mach_types.specs.Kernel.Threads.{with_woken}
-use Rattle.block_model.proofs.Laws.{requeue_by}
+use Rattle.mach_types.specs.Kernel.Threads.{is_waiting_at, longest_waiter, with_woken}
+use Rattle.block_model.proofs.Laws.{longest_waits, requeue_by}
 use Rattle.mach_types.proofs.Laws.{state_of-with_state_other}
 use Rattle.mach_types.specs.declared.threads.ThreadState.TheVariants.{Ready, Waiting}
 use Rattle.mach_types.specs.declared.threads.ThreadState.{ThreadState}
@@ -18,8 +19,9 @@ use Rattle.block_model.specs.Calls.Beside.{barrier_call, sequence_call}
 use Rattle.block_model.specs.Calls.Cloning.{clone}
 use Rattle.block_model.specs.Calls.Console.{write, writev}
 use Rattle.block_model.specs.Calls.Ending.{clearing, exit, exit_group, is_last, last_exits, woken_at_exit}
-use Rattle.block_model.specs.Calls.Memory.{brk, mmap, mprotect, munmap}
+use Rattle.block_model.specs.Calls.Memory.{brk, madvise, mmap, mprotect, munmap}
 use Rattle.block_model.specs.Calls.Numbers.{getpid, gettid, set_tid_address}
+use Rattle.block_model.specs.Calls.Random.{getrandom}
 use Rattle.block_model.specs.Calls.Signals.{refuses_signal, rt_sigaction, rt_sigprocmask, rt_sigreturn, tgkill, tgkill_errors, tkill, tkill_errors, waits_in_vain, with_posted}
 use Rattle.block_model.specs.Kernel.{gone}
 use Rattle.mach_types.specs.declared.errors.TheConstants.{EINVAL}
@@ -57,9 +59,46 @@ awake_state t k awake = by_state (state_of t k.threads) refl
     by_state (Some (Waiting at)) is = absurd (awake (at, is))
     by_state o is = refl
 
+-- of who listens only those matter that wait: so not a thread that waits for nothing
+module _ (t : ℕ) (a b : ℕ → Bool) (agree : (u : ℕ) → u ≢ t → a u ≡ b u) where
+  apart : (v : ℕ) (k : Kernel) → waits k.threads v → IsAwake t k → v ≢ t
+  apart v k waiting awake same = awake (subst (waits k.threads) same waiting)
+
+  longest_alike : (at : ℕ) (k : Kernel) → IsAwake t k → longest_waiter at a k.threads ≡ longest_waiter at b k.threads
+  longest_alike at k awake = λ i. find (λ u. same u i) k.threads.waiters
+    where
+      by_state : (u : ℕ) (o : Option ThreadState) → state_of u k.threads ≡ o → (is_waiting_at at o && a u) ≡ (is_waiting_at at o && b u)
+      by_state u (Some (Waiting c)) was = ap (λ l. (c == at) && l) (agree u (apart u k (c, was) awake))
+      by_state u o was = refl
+
+      same : (u : ℕ) → (is_waiting_at at (state_of u k.threads) && a u) ≡ (is_waiting_at at (state_of u k.threads) && b u)
+      same u = by_state u (state_of u k.threads) refl
+
+  next_alike : (at : ℕ) (k : Kernel) → IsAwake t k → (x y : ℕ → Woken)
+      → ((u : ℕ) → waits k.threads u → u ≢ t → x u ≡ y u) → (o : Option ℕ) → longest_waiter at b k.threads ≡ o
+      → option_map_or (λ u. woken_first u (x u)) o (nobody k) ≡ option_map_or (λ u. woken_first u (y u)) o (nobody k)
+  next_alike at k awake x y same None is = refl
+  next_alike at k awake x y same (Some u) is =
+      let waiting = longest_waits at b k.threads u is in
+      ap (woken_first u) (same u waiting (apart u k waiting awake))
+
+  move_alike : (n at to : ℕ) (k : Kernel) → IsAwake t k → move n at to a k ≡ move n at to b k
+  move_alike zero at to k awake = refl
+  move_alike (suc n) at to k awake =
+      ap (λ o. option_map_or (λ u. woken_first u (move n at to a (requeued u to k))) o (nobody k)) (longest_alike at k awake)
+      ∙ next_alike at k awake (λ u. move n at to a (requeued u to k)) (λ u. move n at to b (requeued u to k))
+      (λ u waiting ne. move_alike n at to (requeued u to k) (awake_requeued u to t k ne awake)) (longest_waiter at b k.threads) refl
+
+  requeue_alike : (n more at to : ℕ) (k : Kernel) → IsAwake t k → requeue n more at to a k ≡ requeue n more at to b k
+  requeue_alike zero more at to k awake = move_alike more at to k awake
+  requeue_alike (suc n) more at to k awake =
+      ap (λ o. option_map_or (λ u. woken_first u (requeue n more at to a (woken u k))) o (nobody k)) (longest_alike at k awake)
+      ∙ next_alike at k awake (λ u. requeue n more at to a (woken u k)) (λ u. requeue n more at to b (woken u k))
+      (λ u waiting ne. requeue_alike n more at to (woken u k) (awake_woken u t k ne awake)) (longest_waiter at b k.threads) refl
+
 module _ (here : Here) (t : ℕ) (f g : ℕ → Saved) (agree : AgreeBut t f g) where
-  woken_alike : (n more at to : ℕ) (k : Kernel) → IsAwake t k
-      → map (answered_wait (with_files f here)) (requeue n more at to k).threads ≡ map (answered_wait (with_files g here)) (requeue n more at to k).threads
+  woken_alike : (n more at to : ℕ) (listens : ℕ → Bool) (k : Kernel) → IsAwake t k
+      → map (answered_wait (with_files f here)) (requeue n more at to listens k).threads ≡ map (answered_wait (with_files g here)) (requeue n more at to listens k).threads
   woken_alike =
       requeue_by (λ k done. IsAwake t k → map (answered_wait (with_files f here)) done.threads ≡ map (answered_wait (with_files g here)) done.threads)
       (λ k awake. refl)
@@ -82,18 +121,22 @@ module _ (here : Here) (t : ℕ) (f g : ℕ → Saved) (agree : AgreeBut t f g) 
   counted_with here u done files =
       record { files = (u, returned (length done.threads) (here.file u)) ∷ files; entered = []; kernel = done.kernel; barrier = None; ended = None }
 
-  abbrev woken_by : Here → ℕ → Woken
-  woken_by here u = wake (int_argument here u 2) (argument here u 0) here.kernel
+  abbrev woken_by : Here → ℕ → (ℕ → Bool) → Woken
+  woken_by here u listens = wake (int_argument here u 2) (argument here u 0) listens here.kernel
+
+  -- who hears the wake of a thread, where these are the files
+  abbrev heard : Here → ℕ → (ℕ → Saved) → ℕ → Bool
+  heard here u file v = hears (wake_mask here u) (file v)
 
   abbrev moved_by : Here → ℕ → Woken
-  moved_by here u = requeue (int_argument here u 2) (int_argument here u 3) (argument here u 0) (argument here u 4) here.kernel
+  moved_by here u = requeue (int_argument here u 2) (int_argument here u 3) (argument here u 0) (argument here u 4) anyone here.kernel
 
-  abbrev futex_with : Here → ℕ → List (ℕ × Saved) → List (ℕ × Saved) → CallDone
-  futex_with here u woken moved =
+  abbrev futex_with : Here → ℕ → Woken → List (ℕ × Saved) → List (ℕ × Saved) → CallDone
+  futex_with here u done woken moved =
       let op = operation (int_argument here u 1) in
       unless here u (futex_errors here u)
       (if is_wait op then futex_wait here u
-      else if is_wake op then counted_with here u (woken_by here u) woken
+      else if is_wake op then counted_with here u done woken
       else unless here u (requeue_errors here u) (counted_with here u (moved_by here u) moved))
 
   futex_alike : (u : ℕ) → u ≢ t → IsAwake t here.kernel → futex (with_files f here) u ≡ futex (with_files g here) u
@@ -101,13 +144,19 @@ module _ (here : Here) (t : ℕ) (f g : ℕ → Saved) (agree : AgreeBut t f g) 
       let p = agree u ne in
       let at = with_all (g u) here in
       let first : futex (with_files f here) u
-      ≡ futex_with at u (map (answered_wait (with_files f here)) (woken_by at u).threads) (map (answered_wait (with_files f here)) (moved_by at u).threads) =
+      ≡ futex_with at u (woken_by at u (heard at u f)) (map (answered_wait (with_files f here)) (woken_by at u (heard at u f)).threads)
+      (map (answered_wait (with_files f here)) (moved_by at u).threads) =
       ap (λ (x : Saved).
       let own = with_all x here in
-      futex_with own u (map (answered_wait (with_files f here)) (woken_by own u).threads) (map (answered_wait (with_files f here)) (moved_by own u).threads)) p in
-      let woken = woken_alike (int_argument at u 2) 0 (argument at u 0) 0 here.kernel awake in
-      let moved = woken_alike (int_argument at u 2) (int_argument at u 3) (argument at u 0) (argument at u 4) here.kernel awake in
-      first ∙ (λ i. futex_with at u (woken i) (moved i))
+      let done = woken_by own u (heard own u f) in
+      futex_with own u done (map (answered_wait (with_files f here)) done.threads) (map (answered_wait (with_files f here)) (moved_by own u).threads)) p in
+      let same = requeue_alike t (heard at u f) (heard at u g) (λ v other. ap (hears (wake_mask at u)) (agree v other))
+      (int_argument at u 2) 0 (argument at u 0) 0 here.kernel awake in
+      let woken = woken_alike (int_argument at u 2) 0 (argument at u 0) 0 (heard at u g) here.kernel awake in
+      let moved = woken_alike (int_argument at u 2) (int_argument at u 3) (argument at u 0) (argument at u 4) anyone here.kernel awake in
+      first
+      ∙ (λ i. futex_with at u (same i) (map (answered_wait (with_files f here)) (same i).threads) (map (answered_wait (with_files f here)) (moved_by at u).threads))
+      ∙ (λ i. futex_with at u (woken_by at u (heard at u g)) (woken i) (moved i))
 
   -- exit(2)
   abbrev exit_with : Here → ℕ → List (ℕ × Saved) → CallDone
@@ -120,7 +169,7 @@ module _ (here : Here) (t : ℕ) (f g : ℕ → Saved) (agree : AgreeBut t f g) 
       let p = agree u ne in
       let first : exit (with_files f here) u ≡ exit_with (with_all (g u) here) u (map (answered_wait (with_files f here)) (woken_at_exit here u).threads) =
       ap (λ (x : Saved). exit_with (with_all x here) u (map (answered_wait (with_files f here)) (woken_at_exit here u).threads)) p in
-      first ∙ ap (exit_with (with_all (g u) here) u) (woken_alike _ 0 _ 0 here.kernel awake)
+      first ∙ ap (exit_with (with_all (g u) here) u) (woken_alike _ 0 _ 0 anyone here.kernel awake)
 
   -- tkill(2) and tgkill(2): with whether thread v waits in vain, and the file of its broken wait
   abbrev send_with : Here → ℕ → ℕ → ℕ → Bool → ℕ × Saved → CallDone
@@ -215,6 +264,8 @@ module _ (here : Here) (t : ℕ) (f g : ℕ → Saved) (agree : AgreeBut t f g) 
       else if number == 220 then clone at u
       else if number == 222 then mmap at u
       else if number == 226 then mprotect at u
+      else if number == 233 then madvise at u
+      else if number == 278 then getrandom at u
       else asking_call_of number at u
 
   -- INSTRUCTIONS

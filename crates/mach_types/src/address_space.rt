@@ -15,8 +15,14 @@ pub const STACK_PAGES: u64 = 64;
 /// The number of the page that signal handlers return to, which begins at 0x3FFFFF0000.
 pub const RETURN_PAGE: u64 = 0x3FF_FFF0;
 
-/// Where signal handlers return to: the first address of that page.
+/// Where signal handlers without SA_SIGINFO return to: the first address of that page.
 pub const HANDLER_RETURN: u64 = 0x3F_FFFF_0000;
+
+/// Where signal handlers with SA_SIGINFO return to, two instructions further on.
+pub const INFO_HANDLER_RETURN: u64 = 0x3F_FFFF_0008;
+
+/// Where the call stands by which a handler with SA_SIGINFO returns.
+pub const INFO_RETURN_CALL: u64 = 0x3F_FFFF_000C;
 
 /// Mappings lie from this address upwards, and segments of a program below it: 2^37.
 pub const MAPPING_START: u64 = 0x20_0000_0000;

@@ -29,6 +29,6 @@ pub use kernel_words::{CONSOLE_ROOM, MOST_PROT, MOST_THREADS, PROT_EXEC, PROT_RE
 pub use limits::{End, Limits};
 pub use registers::Regs;
 pub use sequences::{Area, BadWhy, Descriptor, Named, Outcome, Seq};
-pub use signal_words::{Action, ThreadSignals};
+pub use signal_words::{Action, Fault, ThreadSignals};
 pub use threads::{Saved, ThreadState};
 pub use user_memory::{STORE_BUFFER_CAPACITY, Store, UserMem, Write};

@@ -39,6 +39,9 @@ pub const SIG_DFL: u64 = 0;
 /// The handler of an action that ignores the signal.
 pub const SIG_IGN: u64 = 1;
 
+/// The handler is given a `siginfo_t` and a `struct ucontext` (sigaction(2)).
+pub const SA_SIGINFO: u64 = 4;
+
 /// While a handler runs, its own signal isn't masked.
 pub const SA_NODEFER: u64 = 0x4000_0000;
 
@@ -54,5 +57,33 @@ pub const SIG_UNBLOCK: u32 = 1;
 /// The mask is set.
 pub const SIG_SETMASK: u32 = 2;
 
-/// The bytes of a signal frame: 34 words of 8 bytes (own).
+/// The bytes of the frame of a handler without SA_SIGINFO: 34 words of 8 bytes (own).
 pub const SIGNAL_FRAME_SIZE: u64 = 272;
+
+/// The bytes of a `siginfo_t`, with which the frame of a handler with SA_SIGINFO begins (Linux).
+pub const SIGINFO_SIZE: u64 = 128;
+
+/// The bytes of the frame of a handler with SA_SIGINFO: a `siginfo_t` of 128 bytes, and a `struct ucontext` of 960
+/// (Linux, RISC-V).
+pub const INFO_FRAME_SIZE: u64 = 1088;
+
+/// A signal that tkill(2) or tgkill(2) posted: -6 in 32 bits (Linux, `si_code`).
+pub const SI_TKILL: u32 = 0xFFFF_FFFA;
+
+/// A word that is no instruction (`si_code` of SIGILL).
+pub const ILL_ILLOPC: u32 = 1;
+
+/// EBREAK (`si_code` of SIGTRAP).
+pub const TRAP_BRKPT: u32 = 1;
+
+/// An address that isn't aligned (`si_code` of SIGBUS).
+pub const BUS_ADRALN: u32 = 1;
+
+/// An address that lies on no page (`si_code` of SIGSEGV).
+pub const SEGV_MAPERR: u32 = 1;
+
+/// An address on a page that can't be used so (`si_code` of SIGSEGV).
+pub const SEGV_ACCERR: u32 = 2;
+
+/// There is no other stack for handlers (sigaltstack(2), `ss_flags`).
+pub const SS_DISABLE: u64 = 2;

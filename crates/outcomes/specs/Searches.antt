@@ -15,4 +15,4 @@ pub record IsSearchOutput (files : Files) (program : List ℕ) (settings : Searc
   pub taken : IsProgram files program settings.limits image
   pub found : Findings
   pub searched : IsSearchBy (setting_of image settings.limits) settings.signals settings.reductions settings.places settings.preemptions found
-  pub text : written ≡ findings_text settings.signals settings.scripts found
+  pub text : written ≡ findings_text settings.apart settings.signals settings.scripts found

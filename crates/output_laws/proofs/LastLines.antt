@@ -6,6 +6,7 @@ use Rattle.std.proofs.lemmas.Fmt.{decimal_by_steps, decimal_injective}
 use Rattle.std.proofs.lemmas.List.{append_assoc, reverse-append, reverse-reverse}
 use Rattle.block_model.specs.Setting.{Setting, setting_of}
 use Rattle.command_words.specs.declared.commands.SearchSettings.{SearchSettings}
+use Rattle.draw_policies.specs.declared.outcome_keys.OutcomeKey.{OutcomeKey}
 use Rattle.found_outcomes.specs.Complete.{IsComplete, IsCompleteWithin}
 use Rattle.found_outcomes.specs.Search.{IsSearchOf}
 use Rattle.found_outcomes.specs.declared.findings.Closing.{Closing}
@@ -13,7 +14,7 @@ use Rattle.found_outcomes.specs.declared.findings.Closing.TheVariants.{Complete,
 use Rattle.found_outcomes.specs.declared.findings.Findings.{Findings}
 use Rattle.place_text.specs.Ends.{number_line}
 use Rattle.search_reductions.specs.declared.signals.Signals.{Signals}
-use Rattle.search_text.specs.Text.{closing_line, findings_text, outcomes_text, places_text}
+use Rattle.search_text.specs.Text.{closing_line, findings_text, outcomes_text, places_text, printed}
 use Rattle.outcomes.specs.Programs.{Files}
 use Rattle.outcomes.specs.Searches.{IsSearchOutput}
 
@@ -137,13 +138,13 @@ told_within Memory front before p few small is =
     absurd (omega arith)
 
 -- what stands before the last line
-abbrev before_last : Signals → Bool → Findings → List ℕ
-before_last signals scripts found =
-    (number_line (codes "outcomes") (length found.outcomes.items) ++ outcomes_text scripts 0 found.outcomes.items) ++ places_text signals scripts found
+abbrev before_last : OutcomeKey → Signals → Bool → Findings → List ℕ
+before_last apart signals scripts found =
+    (number_line (codes "outcomes") (length (printed apart found.outcomes.items)) ++ outcomes_text apart scripts 0 (printed apart found.outcomes.items)) ++ places_text signals scripts found
 
-whole : (signals : Signals) (scripts : Bool) (found : Findings) → findings_text signals scripts found ≡ before_last signals scripts found ++ closing_line found.closing
+whole : (apart : OutcomeKey) (signals : Signals) (scripts : Bool) (found : Findings) → findings_text apart signals scripts found ≡ before_last apart signals scripts found ++ closing_line found.closing
 unfolding findings_text
-whole signals scripts found = refl
+whole apart signals scripts found = refl
 
 -- a number of preemptions is one of a byte
 small_within : (s : Setting) (signals : Signals) (most : ℕ) (preemptions : Option ℕ) (found : Findings) → IsSearchOf s signals most preemptions found → (q : ℕ) → found.closing ≡ Within q → q < 256
@@ -157,8 +158,8 @@ all_there files program written before settings output is =
     let s = setting_of output.image settings.limits in
     let search = output.searched.search in
     search.complete
-    (told found.closing (before_last settings.signals settings.scripts found) before (small_within s settings.signals settings.places settings.preemptions found search)
-    (sym (whole settings.signals settings.scripts found) ∙ sym output.text ∙ is))
+    (told found.closing (before_last settings.apart settings.signals settings.scripts found) before (small_within s settings.signals settings.places settings.preemptions found search)
+    (sym (whole settings.apart settings.signals settings.scripts found) ∙ sym output.text ∙ is))
 
 pub all_within : (files : Files) (program written before : List ℕ) (settings : SearchSettings) (p : ℕ)
     → (output : IsSearchOutput files program settings written) → p < 256 → written ≡ before ++ number_line (codes "complete preemptions") p
@@ -168,6 +169,6 @@ all_within files program written before settings p output few is =
     let s = setting_of output.image settings.limits in
     let search = output.searched.search in
     let within = search.within p
-    (told_within found.closing (before_last settings.signals settings.scripts found) before p few (small_within s settings.signals settings.places settings.preemptions found search)
-    (sym (whole settings.signals settings.scripts found) ∙ sym output.text ∙ is)) in
+    (told_within found.closing (before_last settings.apart settings.signals settings.scripts found) before p few (small_within s settings.signals settings.places settings.preemptions found search)
+    (sym (whole settings.apart settings.signals settings.scripts found) ∙ sym output.text ∙ is)) in
     (within.0, within.2)

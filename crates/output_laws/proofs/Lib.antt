@@ -12,6 +12,7 @@ mod OnePairRun
 mod PairExclusions
 mod PairReplays
 mod PlainOutputs
+mod PrintedEnds
 mod ReadLines
 mod Repeats
 mod RoundRuns

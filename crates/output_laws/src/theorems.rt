@@ -1,11 +1,12 @@
 //! Laws of the outputs, each as the contract of a function that does nothing.
 
-ghost use Rattle.std.specs.Prelude.{◌≡◌, ◌<◌, ◌++◌, codes, false, ℕ, List, Option, Some, All, IsSome};
+ghost use Rattle.std.specs.Prelude.{◌≡◌, ◌<◌, ◌++◌, codes, false, ℕ, List, Option, Some, All, AllPairs, IsSome};
 ghost use Rattle.mach_types.specs.{declared.events.Entry.Entry, Limits.InRange};
 ghost use Rattle.step_log.specs.Grammar.{log_text};
 ghost use Rattle.block_model.specs.Setting.{Setting, setting_of};
 ghost use Rattle.log_gather.specs.Gathered.{gathered};
 ghost use Rattle.draw_policies.specs.Policies.{policy_for};
+ghost use Rattle.draw_policies.specs.declared.outcome_keys.OutcomeKey.TheVariants.{ByText, ByEnd};
 ghost use Rattle.draw_policies.specs.declared.policies.Policies.{Policies};
 ghost use Rattle.explored_runs.specs.declared.explored.Found.{Found};
 ghost use Rattle.outcomes.specs.Explorations.{IsExploreOutput};
@@ -20,10 +21,13 @@ ghost use Rattle.whole_runs.specs.Runs.{IsChosenRun};
 ghost use Rattle.outcomes.specs.Told.{AreTold, TellsGoodFiles};
 ghost use Rattle.output_laws.specs.Agreement.{AreAlike, HasOneOutput, IsOneStatus, WroteOneText};
 ghost use Rattle.output_laws.specs.DrawnOutcomes.{HasOutcome, drawing};
+ghost use Rattle.output_laws.specs.PrintedEnds.{HasEnd, HasOtherEnd};
+ghost use Rattle.search_text.specs.Text.{printed};
 ghost use Rattle.command_words.specs.Shown.{Gathered, Output};
 ghost use Rattle.command_words.specs.declared.commands.SearchSettings.{SearchSettings};
 ghost use Rattle.command_words.specs.declared.commands.Settings.{Settings};
 ghost use Rattle.found_outcomes.specs.Complete.{IsComplete, IsCompleteWithin};
+ghost use Rattle.found_outcomes.specs.declared.findings.OutcomeFound.{OutcomeFound};
 ghost use Rattle.outcomes.specs.Searches.{IsSearchOutput};
 ghost use Rattle.place_text.specs.Ends.{number_line};
 ghost use Rattle.command_words.specs.Commands.{Command, PairRun, Run, depends_on_host};
@@ -128,4 +132,12 @@ pub fn limited_outputs_have_every_outcome()
         → p < 256 → written ≡ before ++ number_line (codes "complete preemptions") p
         → (settings.preemptions ≡ Some p)
         × IsCompleteWithin (setting_of output.image settings.limits) settings.signals p output.found.outcomes.items }
+{}
+
+/// Of the outcomes that a search found each is printed, or with `--by end` the first with each end. So where every run that ends is one of
+/// those that were found, its end is one of those that are printed; and no end is printed twice.
+pub fn printed_outcomes_have_every_end()
+    ensures all { (os : List OutcomeFound) → printed ByText os ≡ os }
+    ensures each { (os : List OutcomeFound) → All (λ (o : OutcomeFound). HasEnd (printed ByEnd os) o.end) os }
+    ensures once { (os : List OutcomeFound) → AllPairs HasOtherEnd (printed ByEnd os) }
 {}

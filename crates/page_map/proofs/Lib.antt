@@ -13,6 +13,7 @@ mod Standing
 mod Starts
 mod Stores
 mod Tables
+mod TakenPages
 mod Unrefused
 mod WordWrites
 mod Writings

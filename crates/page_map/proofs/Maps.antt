@@ -10,9 +10,9 @@ use Rattle.byte_views.specs.Words.{with_word}
 use Rattle.mach_types.specs.Kernel.Pages.{pages_of}
 use Rattle.elf_load.specs.Images.{IsPermission}
 use Rattle.frame_pool.specs.Held.{AreHeld}
-use Rattle.frame_pool.specs.Pool.{IsTaken, free_count}
+use Rattle.frame_pool.specs.Pool.{IsTaken, free_count, fresh}
 use Rattle.frame_pool.proofs.Laws.{AreHeld-apart, AreHeld-at, AreHeld-push, AreHeld-write, IsTaken-apart, free_count-taking, free_count-writing, slice_get-append_left, slice_get-set_other, slice_get-set_same}
-use Rattle.page_map.specs.Map.{Map, Page, frame_bytes, page_at, page_in, page_with, page_with_words, permission_in, with_words}
+use Rattle.page_map.specs.Map.{Map, Page, frame_bytes, page_at, page_in, page_with, page_with_words, permission_in, with_words, zeroed_page}
 use Rattle.page_map.specs.Mapping.{CanLie, IsMap, frames_of}
 use Rattle.page_map.specs.declared.map.PageMap.TheInside.{Inside}
 use Rattle.page_map.specs.Table.{Table, place_in}
@@ -275,6 +275,19 @@ module _ (m : Map) (capacity : ℕ) (kept : IsMap m capacity) where
       ≡ cond (nat_eq n number) (option_map (page_with offset size value) (page_in m n)) (page_in m n)
   written-with number i p offset size value place at n =
       written-pages number i p (with_word (frame_bytes (slice_get m.pool p.frame)) offset size value) place at n
+      ∙ elim (cases_eq n number) [
+        | inl same ↦
+            let here : page_in m n ≡ Some (page_at m.pool p) = page-some m n i p (ap (place_in m.table) same ∙ place) at in
+            rw (eq-eqb n number same, here) refl
+        | inr two ↦ rw (ne_eqb n number two) refl
+      ]
+
+  -- the frame of a page is zero
+  pub written-zeros : (number i : ℕ) (p : MappedPage) → place_in m.table number ≡ Some i → slice_get m.mapped i ≡ Some p → (n : ℕ)
+      → page_in (record { pool = slice_set m.pool p.frame (Some fresh); mapped = m.mapped; table = m.table; break_at = m.break_at; break_start = m.break_start }) n
+      ≡ cond (nat_eq n number) (option_map zeroed_page (page_in m n)) (page_in m n)
+  written-zeros number i p place at n =
+      written-pages number i p fresh place at n
       ∙ elim (cases_eq n number) [
         | inl same ↦
             let here : page_in m n ≡ Some (page_at m.pool p) = page-some m n i p (ap (place_in m.table) same ∙ place) at in

@@ -6,7 +6,7 @@ use Rattle.mach_types.specs.Kernel.Pages.{PageRun, can_execute, first_page, fits
 use Rattle.mach_types.specs.Kernel.PageCalls.{has_prot, permission_for}
 use Rattle.mach_types.proofs.Laws.{count_pages-more, count_pages-none, count_pages-one, each_page-at, each_page-fails, each_page-of, first_page-is, first_page-no, first_page-none, first_page-some}
 use Rattle.frame_pool.proofs.Laws.{fresh-at}
-use Rattle.page_map.specs.Map.{Map, Page, break_in, break_start_in, byte_at, bytes_if, code_in, free_in, held_in, held_over, page_in, page_over, permission_in, protected_page, zero_page}
+use Rattle.page_map.specs.Map.{Map, Page, break_in, break_start_in, byte_at, bytes_if, code_in, free_in, held_in, held_over, held_zeroed, page_in, page_over, permission_in, protected_page, zero_page, zeroed_page}
 use Rattle.page_map.specs.Mapping.{CanLie}
 
 -- pages that are in a run, and that aren't
@@ -495,3 +495,39 @@ module _ (m m' : Map) (first count permission : ℕ)
       ap (option_map (byte_at (a % 4096)))
       (protected-code-bytes (is_in (run first count (Some permission)) (a / 4096)) (page_in m (a / 4096)) (page_in m' (a / 4096)) permission (pages (a / 4096)) none
       (λ inside. let both = run-in first count (a / 4096) (Some permission) inside in old (a / 4096) both.0 both.1))
+
+-- pages that are zero
+zeroed-permission : (b : Bool) (o new : Option Page) → new ≡ cond b (option_map zeroed_page o) o
+    → option_map (λ (p : Page). p.permission) new ≡ option_map (λ (p : Page). p.permission) o
+zeroed-permission true None new is = ap (option_map (λ (q : Page). q.permission)) is
+zeroed-permission true (Some p) new is = ap (option_map (λ (q : Page). q.permission)) is
+zeroed-permission false o new is = ap (option_map (λ (q : Page). q.permission)) is
+
+zeroed-bytes : (b : Bool) (o new : Option Page) (offset : ℕ) → new ≡ cond b (option_map zeroed_page o) o
+    → option_map (λ (p : Page). byte_at offset p.bytes) new
+    ≡ cond b (option_map (λ _. 0) (option_map (λ (p : Page). byte_at offset p.bytes) o)) (option_map (λ (p : Page). byte_at offset p.bytes) o)
+zeroed-bytes true None new offset is = ap (option_map (λ (q : Page). byte_at offset q.bytes)) is
+zeroed-bytes true (Some p) new offset is =
+    ap (option_map (λ (q : Page). byte_at offset q.bytes)) is ∙ ap Some (ap (λ (x : ℕ). x % 256) (fresh-at offset))
+zeroed-bytes false o new offset is = ap (option_map (λ (q : Page). byte_at offset q.bytes)) is
+
+zeroed-no-code : (b : Bool) (o new : Option Page) → new ≡ cond b (option_map zeroed_page o) o
+    → (b ≡ true → can_execute (option_map (λ (p : Page). p.permission) o) ≡ false) → bytes_if 1 new ≡ bytes_if 1 o
+zeroed-no-code true None new is old = ap (bytes_if 1) is
+zeroed-no-code true (Some p) new is old =
+    ap (bytes_if 1) is ∙ no-code (Some (zeroed_page p)) (old refl) ∙ sym (no-code (Some p) (old refl))
+zeroed-no-code false o new is old = ap (bytes_if 1) is
+
+module _ (m m' : Map) (first count : ℕ)
+    (pages : (n : ℕ) → page_in m' n ≡ cond (is_in (run first count None) n) (option_map zeroed_page (page_in m n)) (page_in m n)) where
+  pub zeroed-permissions : (n : ℕ) → permission_in m' n ≡ permission_in m n
+  zeroed-permissions n = zeroed-permission (is_in (run first count None) n) (page_in m n) (page_in m' n) (pages n)
+
+  pub zeroed-held : (a : ℕ) → held_in m' a ≡ held_zeroed (run first count None) (held_in m) a
+  zeroed-held a = zeroed-bytes (is_in (run first count None) (a / 4096)) (page_in m (a / 4096)) (page_in m' (a / 4096)) (a % 4096) (pages (a / 4096))
+
+  pub zeroed-code : ((n : ℕ) → first ≤ n → n < first + count → can_execute (permission_in m n) ≡ false) → (a : ℕ) → code_in m' a ≡ code_in m a
+  zeroed-code old a =
+      ap (option_map (byte_at (a % 4096)))
+      (zeroed-no-code (is_in (run first count None) (a / 4096)) (page_in m (a / 4096)) (page_in m' (a / 4096)) (pages (a / 4096))
+      (λ inside. let both = run-in first count (a / 4096) None inside in old (a / 4096) both.0 both.1))

@@ -47,7 +47,7 @@ page_of-missing (p ∷ pages) n (suc i) q none at same = page_of-missing pages n
 
 module _ (m : Map) (capacity : ℕ) (kept : IsMap m capacity) where
   -- a page that stands at a place is mapped
-  shown-at : (n i permission : ℕ) → StandsWith m.mapped i n permission → permission_in m n ≡ Some permission
+  pub shown-at : (n i permission : ℕ) → StandsWith m.mapped i n permission → permission_in m n ≡ Some permission
   shown-at n i permission at =
       ap (option_map (λ (p : Page). p.permission))
       (page-some m n i at.page (ap (place_in m.table) (sym at.number) ∙ kept.entered i at.page at.there) at.there)

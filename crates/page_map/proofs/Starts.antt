@@ -31,46 +31,46 @@ past_two a b zero h = absurd (omega arith)
 past_two a b (suc zero) h = absurd (omega arith)
 past_two a b (suc (suc k)) h = refl
 
-high_return : (k : ℕ) → 8 ≤ k → 0 ≡ return_byte k
+high_return : (k : ℕ) → 16 ≤ k → 0 ≡ return_byte k
 high_return k h =
-    let none : slice_index return_words (k / 4) ≡ 0 = past_two 0x08B00893 0x00000073 (k / 4) (omega arith) in
-    sym (ap (λ w. byte_of w (k % 4)) none ∙ ap (λ x. x % 256) (zero-div (256 ^ (k % 4))))
+    let none : slice_index return_words (k / 8) ≡ 0 = past_two 0x0000007308B00893 0x0000007308B00893 (k / 8) (omega arith) in
+    sym (ap (λ w. byte_of w (k % 8)) none ∙ ap (λ x. x % 256) (zero-div (256 ^ (k % 8))))
 
 -- the return page has its two words, and else zeros
 pub return-at : (zeros one two : List ℕ) (first second : Bool) → zeros ≡ fresh → length zeros ≡ 4096 → length one ≡ 4096
-    → first ≡ true → OnTrue first (one ≡ with_word zeros 0 4 0x08B00893)
-    → second ≡ true → OnTrue second (two ≡ with_word one 4 4 0x00000073)
+    → first ≡ true → OnTrue first (one ≡ with_word zeros 0 8 0x0000007308B00893)
+    → second ≡ true → OnTrue second (two ≡ with_word one 8 8 0x0000007308B00893)
     → (k : ℕ) → slice_index two k ≡ return_byte k
 return-at zeros one two first second empty long long' made write made' write' k =
-    let is : one ≡ with_word zeros 0 4 0x08B00893 = on-true first (one ≡ with_word zeros 0 4 0x08B00893) made write in
-    let is' : two ≡ with_word one 4 4 0x00000073 = on-true second (two ≡ with_word one 4 4 0x00000073) made' write' in
-    ap (λ bs. slice_index bs k) is' ∙ elim (cases_lt k 4) [
+    let is : one ≡ with_word zeros 0 8 0x0000007308B00893 = on-true first (one ≡ with_word zeros 0 8 0x0000007308B00893) made write in
+    let is' : two ≡ with_word one 8 8 0x0000007308B00893 = on-true second (two ≡ with_word one 8 8 0x0000007308B00893) made' write' in
+    ap (λ bs. slice_index bs k) is' ∙ elim (cases_lt k 8) [
       | inl low ↦
           let same : 0 + k ≡ k = omega arith in
-          let word : k / 4 ≡ 0 = omega arith in
-          let offset : k % 4 ≡ k = omega arith in
-          with_word-before one 4 4 0x00000073 k (omega arith) low ∙ ap (λ bs. slice_index bs k) is
-          ∙ ap (λ j. slice_index (with_word zeros 0 4 0x08B00893) j) (sym same)
-          ∙ with_word-inside zeros 0 4 0x08B00893 k (omega arith) low
+          let word : k / 8 ≡ 0 = omega arith in
+          let offset : k % 8 ≡ k = omega arith in
+          with_word-before one 8 8 0x0000007308B00893 k (omega arith) low ∙ ap (λ bs. slice_index bs k) is
+          ∙ ap (λ j. slice_index (with_word zeros 0 8 0x0000007308B00893) j) (sym same)
+          ∙ with_word-inside zeros 0 8 0x0000007308B00893 k (omega arith) low
           ∙ sym (λ i. byte_of (slice_index return_words (word i)) (offset i))
-      | inr past ↦ elim (cases_lt k 8) [
+      | inr past ↦ elim (cases_lt k 16) [
         | inl low ↦
-            let same : k ≡ 4 + (k - 4) = omega arith in
-            let word : k / 4 ≡ 1 = omega arith in
-            let offset : k % 4 ≡ k - 4 = omega arith in
-            ap (λ j. slice_index (with_word one 4 4 0x00000073) j) same
-            ∙ with_word-inside one 4 4 0x00000073 (k - 4) (omega arith) (omega arith)
+            let same : k ≡ 8 + (k - 8) = omega arith in
+            let word : k / 8 ≡ 1 = omega arith in
+            let offset : k % 8 ≡ k - 8 = omega arith in
+            ap (λ j. slice_index (with_word one 8 8 0x0000007308B00893) j) same
+            ∙ with_word-inside one 8 8 0x0000007308B00893 (k - 8) (omega arith) (omega arith)
             ∙ sym (λ i. byte_of (slice_index return_words (word i)) (offset i))
         | inr high ↦
-            with_word-after one 4 4 0x00000073 k (omega arith) (omega arith) ∙ ap (λ bs. slice_index bs k) is
-            ∙ with_word-after zeros 0 4 0x08B00893 k (omega arith) (omega arith) ∙ ap (λ bs. slice_index bs k) empty ∙ fresh-at k
+            with_word-after one 8 8 0x0000007308B00893 k (omega arith) (omega arith) ∙ ap (λ bs. slice_index bs k) is
+            ∙ with_word-after zeros 0 8 0x0000007308B00893 k (omega arith) (omega arith) ∙ ap (λ bs. slice_index bs k) empty ∙ fresh-at k
             ∙ high_return k high
       ]
     ]
 
-pub made-length : (zeros one : List ℕ) (v : ℕ) (made : Bool) → made ≡ true → OnTrue made (one ≡ with_word zeros 0 4 v) → length zeros ≡ 4096 → length one ≡ 4096
+pub made-length : (zeros one : List ℕ) (v : ℕ) (made : Bool) → made ≡ true → OnTrue made (one ≡ with_word zeros 0 8 v) → length zeros ≡ 4096 → length one ≡ 4096
 made-length zeros one v made done write long =
-    ap length (on-true made (one ≡ with_word zeros 0 4 v) done write) ∙ length-with_word zeros 0 4 v (omega arith) ∙ long
+    ap length (on-true made (one ≡ with_word zeros 0 8 v) done write) ∙ length-with_word zeros 0 8 v (omega arith) ∙ long
 
 none-take : (pages : List ImagePage) (n i : ℕ) → ((k : ℕ) → k < i → k < length (numbers pages) → get_or (numbers pages) k 0 ≢ n) → page_of (take i pages) n ≡ None
 none-take [] n zero h = refl

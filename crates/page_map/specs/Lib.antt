@@ -1,3 +1,4 @@
+pub mod Copying
 pub mod Layout
 pub mod Map
 pub mod MapLaws

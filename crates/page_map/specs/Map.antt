@@ -120,6 +120,10 @@ break_start_in m = m.break_start
 abbrev pub zero_page : ℕ → Page
 zero_page permission = record { permission = permission; bytes = fresh }
 
+-- a page once all its bytes are zero
+abbrev pub zeroed_page : Page → Page
+zeroed_page p = record p { bytes = fresh }
+
 -- page n once a run of pages was mapped, or removed, over these
 abbrev pub page_over : PageRun → (ℕ → Option Page) → ℕ → Option Page
 page_over r page n = if is_in r n then option_map zero_page r.permission else page n
@@ -127,6 +131,10 @@ page_over r page n = if is_in r n then option_map zero_page r.permission else pa
 -- the byte that the page of an address holds once a run of pages was mapped, all zero, or removed, over pages that hold these
 abbrev pub held_over : PageRun → (ℕ → Option ℕ) → ℕ → Option ℕ
 held_over r held a = if is_in r (a / PAGE_SIZE) then option_map (λ _. 0) r.permission else held a
+
+-- the byte that the page of an address holds once the pages of a run are zero, where they are mapped, over pages that hold these
+abbrev pub held_zeroed : PageRun → (ℕ → Option ℕ) → ℕ → Option ℕ
+held_zeroed r held a = if is_in r (a / PAGE_SIZE) then option_map (λ _. 0) (held a) else held a
 
 -- two page maps differ in bytes alone, those that can be written
 pub record IsAlike (m : Map) (m' : Map) : Type 0 where

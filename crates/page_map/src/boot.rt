@@ -39,14 +39,17 @@ fn zeros() -> [u8; 4096]
     [0; 4096]
 }
 
-/// The bytes of the page that signal handlers return to: `addi x17, x0, 139`, `ecall`, and zeros.
+/// The word of `addi x17, x0, 139` and `ecall`, by which a signal handler returns.
+const RETURN_CALL: u64 = 0x0000_0073_08B0_0893;
+
+/// The bytes of the page that signal handlers return to: [`RETURN_CALL`] twice, and zeros.
 pub(crate) fn return_bytes() -> [u8; 4096]
     ensures long { length result ≡ 4096 }
     ensures bytes { (k : ℕ) → slice_index result k ≡ return_byte k }
 {
     let mut bytes = zeros();
-    let _ = write_word(&mut bytes, 0, 4, 0x08B0_0893);
-    let _ = write_word(&mut bytes, 4, 4, 0x0000_0073);
+    let _ = write_word(&mut bytes, 0, 8, RETURN_CALL);
+    let _ = write_word(&mut bytes, 8, 8, RETURN_CALL);
     bytes
 }
 

@@ -31,7 +31,7 @@ fn permission_for(prot: u8) -> u8
 }
 
 /// Whether so many bytes from an address on end past the addresses of a process.
-fn ends_past(at: u64, len: u64) -> bool
+pub fn ends_past(at: u64, len: u64) -> bool
     ensures { result ≡ nat_lt USER_END (at + len) }
 {
     match at.checked_add(len) {

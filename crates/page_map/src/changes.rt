@@ -1,11 +1,11 @@
 //! Pages one behind the other: whether they are mapped and whether one can be executed, and how they are
-//! mapped, protected and removed.
+//! mapped, protected, made zero and removed.
 
-ghost use Rattle.std.specs.Prelude.{◌≡◌, ◌≤◌, ◌<◌, ◌+◌, ◌-◌, ◌&&◌, ℕ, Some, None, false, true, if◌then◌else◌, IsSome, is_some};
+ghost use Rattle.std.specs.Prelude.{◌≡◌, ◌≤◌, ◌<◌, ◌+◌, ◌-◌, ◌&&◌, ℕ, Some, None, false, true, if◌then◌else◌, IsSome, IsTrue, is_some};
 ghost use Rattle.std.specs.Option.{option_map};
 ghost use Rattle.mach_types.specs.Kernel.Pages.{can_execute, is_in, is_mapped, is_without_code, lowest_hole, mapped_count, run};
 ghost use Rattle.elf_load.specs.Images.{IsPermission};
-ghost use Rattle.page_map.specs.Map.{break_in, break_start_in, free_in, page_in, page_over, permission_in, protected_page};
+ghost use Rattle.page_map.specs.Map.{break_in, break_start_in, code_in, free_in, held_in, held_zeroed, page_in, page_over, permission_in, protected_page, zeroed_page};
 ghost use Rattle.page_map.specs.Mapping.{CanLie};
 
 use crate::map::{EXECUTE, PageMap};
@@ -22,8 +22,8 @@ impl PageMap {
         }
     }
 
-    /// Whether the pages from one number on and before another are all mapped.
-    pub(crate) fn is_mapped(&self, first: u64, count: u64) -> bool
+    /// Whether so many pages from one on are all mapped.
+    pub fn is_mapped(&self, first: u64, count: u64) -> bool
         requires { first + count ≤ 2251799813685248 }
         ensures { result ≡ is_mapped (permission_in self.now) first count }
     {
@@ -36,7 +36,7 @@ impl PageMap {
     }
 
     /// Whether none of so many pages from one on can be executed.
-    pub(crate) fn is_without_code(&self, first: u64, count: u64) -> bool
+    pub fn is_without_code(&self, first: u64, count: u64) -> bool
         requires { first + count ≤ 67108864 }
         ensures { result ≡ is_without_code (permission_in self.now) first count }
     {
@@ -135,5 +135,37 @@ impl PageMap {
         for k in 0..count {
             self.set_permission(first + k, permission);
         }
+    }
+
+    /// Makes all bytes of so many pages from one on zero, which are all mapped.
+    fn zero_run(&mut self, first: u64, count: u64)
+        requires end { first + count ≤ 67108864 }
+        requires mapped { (n : ℕ) → first ≤ n → n < first + count → IsSome (page_in self.old n) }
+        ensures pages { (n : ℕ) → page_in self.new n
+            ≡ (if is_in (run first count None) n then option_map zeroed_page (page_in self.old n)
+            else page_in self.old n) }
+        ensures free { free_in self.new ≡ free_in self.old }
+        ensures break_at { break_in self.new ≡ break_in self.old }
+        ensures break_start { break_start_in self.new ≡ break_start_in self.old }
+    {
+        for k in 0..count {
+            self.zero_page(first + k);
+        }
+    }
+
+    /// Makes all bytes of so many pages from one on zero, which are all mapped, and none of which can be
+    /// executed. Their permissions stay, and so do their frames (madvise(2), MADV_DONTNEED).
+    pub fn drop_bytes(&mut self, first: u64, count: u64)
+        requires end { first + count ≤ 67108864 }
+        requires mapped { IsTrue (is_mapped (permission_in self.old) first count) }
+        requires code { IsTrue (is_without_code (permission_in self.old) first count) }
+        ensures permissions { (n : ℕ) → permission_in self.new n ≡ permission_in self.old n }
+        ensures held { (a : ℕ) → held_in self.new a ≡ held_zeroed (run first count None) (held_in self.old) a }
+        ensures code { (a : ℕ) → code_in self.new a ≡ code_in self.old a }
+        ensures free { free_in self.new ≡ free_in self.old }
+        ensures break_at { break_in self.new ≡ break_in self.old }
+        ensures break_start { break_start_in self.new ≡ break_start_in self.old }
+    {
+        self.zero_run(first, count);
     }
 }

@@ -8,6 +8,7 @@ mod access;
 mod boot;
 mod calls;
 mod changes;
+mod copying;
 mod directory;
 mod listing;
 mod map;
@@ -15,8 +16,9 @@ mod mapped_page;
 mod restart;
 mod table;
 mod theorems;
+mod writing;
 
-pub use calls::pages_of;
+pub use calls::{ends_past, pages_of};
 pub use listing::ALL_PAGES;
 pub use map::PageMap;
 pub use theorems::{

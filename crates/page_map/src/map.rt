@@ -1,6 +1,6 @@
 //! The pages of a process, each with a frame of its own.
 
-ghost use Rattle.std.specs.Prelude.{List, ◌≡◌, ◌==◌, ◌&&◌, ◌≤◌, ℕ, ◌+◌, ◌-◌, ◌*◌, ◌/◌, ◌%◌, ◌<◌, if◌then◌else◌, [], ◌++◌, ◌∷◌, Some, None, true, false, IfOk, IfSome, IsSome, is_some, length, replicate, slice_get, slice_index, slice_set, vec_capacity, vec_len};
+ghost use Rattle.std.specs.Prelude.{List, ◌≡◌, ◌⊎◌, ◌==◌, ◌&&◌, ◌≤◌, ℕ, ◌+◌, ◌-◌, ◌*◌, ◌/◌, ◌%◌, ◌<◌, if◌then◌else◌, [], ◌++◌, ◌∷◌, Some, None, true, false, IfOk, IfSome, IsSome, is_some, length, replicate, slice_get, slice_index, slice_set, vec_capacity, vec_len};
 ghost use Rattle.std.specs.Bool.{OnTrue};
 ghost use Rattle.std.specs.Option.{option_copied, option_map};
 ghost use Rattle.byte_views.specs.Words.{with_word};
@@ -11,8 +11,9 @@ ghost use Rattle.elf_load.specs.Start.{start_runs};
 ghost use Rattle.elf_load.specs.declared.image.ImagePage.{ImagePage};
 ghost use Rattle.frame_pool.specs.Held.{AreHeld};
 ghost use Rattle.frame_pool.specs.Pool.{IsTaken, free_count, fresh};
-ghost use Rattle.page_map.specs.Map.{Page, break_in, break_start_in, bytes_if, first_bytes, frame_bytes, frames_in, free_in, page_at, page_in, page_with, page_with_words, permission_in, protected_page, with_words, zero_page};
+ghost use Rattle.page_map.specs.Map.{Page, break_in, break_start_in, bytes_if, first_bytes, frame_bytes, frames_in, free_in, page_at, page_in, page_with, page_with_words, permission_in, protected_page, with_words, zero_page, zeroed_page};
 ghost use Rattle.page_map.specs.Mapping.{CanLie, IsGap, frames_of};
+ghost use Rattle.page_map.specs.Copying.{StandAlike};
 ghost use Rattle.page_map.specs.Starting.{AreLaidOut, StandsWith};
 
 use crate::mapped_page::MappedPage;
@@ -191,6 +192,53 @@ impl PageMap {
         page.has(number, permission)
     }
 
+    /// Whether the same pages are mapped as in another page map, with the same permissions, in the same order.
+    pub(crate) fn stands_as(&self, other: &PageMap) -> bool
+        ensures { OnTrue result (StandAlike self.now.mapped other.now.mapped) }
+    {
+        stand_alike(&self.mapped, &other.mapped)
+    }
+
+    /// The bytes of the page at a place of the list.
+    pub(crate) fn bytes_at(&self, place: usize) -> &[u8]
+        requires { place < length self.now.mapped }
+        ensures page { (n permission : ℕ) → StandsWith self.now.mapped place n permission
+            → page_in self.now n ≡ Some (record { permission = permission; bytes = result.now }) }
+        ensures size { length result.now ≡ 4096 }
+    {
+        let page = &self.mapped[place];
+        self.pool.bytes(&page.frame)
+    }
+
+    /// The number of the page at a place of the list.
+    pub(crate) fn number_at(&self, place: usize) -> u64
+        requires { place < length self.now.mapped }
+        ensures { (n permission : ℕ) → StandsWith self.now.mapped place n permission → n ≡ result }
+    {
+        self.mapped[place].number
+    }
+
+    /// Whether the page at a place of the list has zero bytes because nothing has written it. It looks at none
+    /// of its bytes.
+    pub(crate) fn is_fresh_at(&self, place: usize) -> bool
+        requires { place < length self.now.mapped }
+        ensures { OnTrue result ((n permission : ℕ) → StandsWith self.now.mapped place n permission
+            → page_in self.now n ≡ Some (record { permission = permission; bytes = fresh })) }
+    {
+        let page = &self.mapped[place];
+        self.pool.is_fresh(&page.frame)
+    }
+
+    /// It does nothing; its clauses say that the pages which are mapped are those that stand in the list.
+    pub(crate) fn has_places(&self)
+        ensures placed { (n : ℕ) → (page_in self.now n ≡ None)
+            ⊎ ((i : ℕ) × (permission : ℕ) × StandsWith self.now.mapped i n permission) }
+        ensures there { (i n permission : ℕ) → StandsWith self.now.mapped i n permission
+            → permission_in self.now n ≡ Some permission }
+    {
+        let _ = &self.pool;
+    }
+
     /// It does nothing; its clause says that pages which stand as a start maps them have the permissions of the
     /// start.
     pub(crate) fn has_start(&self)
@@ -229,6 +277,22 @@ impl PageMap {
         write_whole(&mut self.pool, &page.frame, bytes);
     }
 
+    /// The page at a place of the list has zero bytes again.
+    pub(crate) fn zero_at(&mut self, place: usize)
+        requires { place < length self.old.mapped }
+        ensures pages { (n number permission : ℕ) → StandsWith self.old.mapped place number permission
+            → page_in self.new n
+            ≡ (if n == number then Some (record { permission = permission; bytes = fresh })
+            else page_in self.old n) }
+        ensures mapped { self.new.mapped ≡ self.old.mapped }
+        ensures free { free_in self.new ≡ free_in self.old }
+        ensures break_at { break_in self.new ≡ break_in self.old }
+        ensures break_start { break_start_in self.new ≡ break_start_in self.old }
+    {
+        let page = &self.mapped[place];
+        self.pool.zero(&page.frame);
+    }
+
     /// Maps a page no longer. The last page of the list takes its place there.
     pub(crate) fn remove(&mut self, number: u64)
         requires { IsSome (page_in self.old number) }
@@ -263,6 +327,24 @@ impl PageMap {
     {
         match self.table.get(number) {
             Some(place) => self.mapped[place as usize].permission = permission,
+            None => unreachable!(),
+        }
+    }
+
+    /// Makes all bytes of a page that is mapped zero.
+    pub(crate) fn zero_page(&mut self, number: u64)
+        requires { IsSome (page_in self.old number) }
+        ensures pages { (n : ℕ) → page_in self.new n
+            ≡ (if n == number then option_map zeroed_page (page_in self.old n) else page_in self.old n) }
+        ensures free { free_in self.new ≡ free_in self.old }
+        ensures break_at { break_in self.new ≡ break_in self.old }
+        ensures break_start { break_start_in self.new ≡ break_start_in self.old }
+    {
+        match self.table.get(number) {
+            Some(place) => {
+                let page = &self.mapped[place as usize];
+                self.pool.zero_frame(&page.frame);
+            }
             None => unreachable!(),
         }
     }
@@ -455,7 +537,7 @@ impl PageMap {
     }
 
     /// The lowest break, where the data ended with which the process started.
-    pub(crate) fn break_start(&self) -> u64
+    pub fn break_start(&self) -> u64
         ensures { result ≡ break_start_in self.now }
     {
         self.break_start
@@ -498,6 +580,22 @@ fn write_whole(pool: &mut FramePool, frame: &Frame, bytes: &[u8])
     ensures small { (k : ℕ) → slice_index bytes.now k < 256 }
 {
     pool.fill(frame, bytes);
+}
+
+/// Whether two lists have the same pages with the same permissions, in the same order.
+fn stand_alike(pages: &[MappedPage], others: &[MappedPage]) -> bool
+    ensures { OnTrue result (StandAlike pages.now others.now) }
+{
+    if pages.len() != others.len() {
+        return false;
+    }
+    for place in 0..pages.len() {
+        let other = &others[place];
+        if !pages[place].has(other.number, other.permission) {
+            return false;
+        }
+    }
+    true
 }
 
 /// Appends a page, for which there is room.

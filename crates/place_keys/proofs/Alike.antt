@@ -23,6 +23,7 @@ pub record HoldSameTables (k k' : Kernel) : Type 0 where
   pub areas : areas_by_number k.areas.items ≡ areas_by_number k'.areas.items
   pub registered : k.registered ≡ k'.registered
   pub console : k.console ≡ k'.console
+  pub random : k.random ≡ k'.random
 
 pub record AreAlike (m m' : Parts) : Type 0 where
   pub harts : map uncounted m.harts.items ≡ map uncounted m'.harts.items

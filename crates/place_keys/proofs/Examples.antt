@@ -80,10 +80,11 @@ words_of_threads = refl
 abbrev some_signals : Signalling
 some_signals = record {
   actions = (record { at = 0; flags = 0; mask = 0 }) ∷ (record { at = 65792; flags = 4; mask = 512 }) ∷ [];
-  threads = (record { tid = 2; mask = 512; pending = 0 }) ∷ (record { tid = 3; mask = 0; pending = 1024 }) ∷ [];
+  threads = (record { tid = 2; mask = 512; pending = 0; fault = None })
+      ∷ (record { tid = 3; mask = 0; pending = 1024; fault = Some (record { signal = 11; code = 2; address = 4096 }) }) ∷ [];
 }
 
-words_of_signals : signals_words some_signals ≡ 6 ∷ 4 ∷ 65792 ∷ 1 ∷ 4 ∷ 1 ∷ 512 ∷ 0 ∷ 2 ∷ 2 ∷ 512 ∷ 0 ∷ 3 ∷ 0 ∷ 1024 ∷ []
+words_of_signals : signals_words some_signals ≡ 6 ∷ 4 ∷ 65792 ∷ 1 ∷ 4 ∷ 1 ∷ 512 ∷ 0 ∷ 2 ∷ 2 ∷ 512 ∷ 0 ∷ 0 ∷ 3 ∷ 0 ∷ 1024 ∷ 1 ∷ 11 ∷ 2 ∷ 4096 ∷ []
 unfolding differences
 words_of_signals = refl
 

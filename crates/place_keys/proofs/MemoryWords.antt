@@ -1,9 +1,10 @@
 -- The words of memory, page by page.
-use Rattle.std.proofs.Common.{◌≡◌, ℕ, ◌+◌, ◌*◌, ◌/◌, ◌%◌, ◌<◌, ◌≤◌, List, drop, replicate, take, Option, Some, None, unwrap_or, slice_index, refl, sym, ap, ◌∙◌, zero, suc, arith}
+use Rattle.std.proofs.Common.{◌≡◌, ℕ, ◌+◌, ◌*◌, ◌/◌, ◌%◌, ◌<◌, ◌≤◌, List, drop, replicate, take, Option, Some, None, unwrap_or, IfSome, slice_index, refl, sym, ap, ◌∙◌, zero, suc, arith}
 use Rattle.std.specs.Option.{option_map}
 use Rattle.std.proofs.lemmas.List.{get_or-drop, get_or-replicate, get_or-take}
 use Rattle.byte_views.specs.Words.{word_at as number_at}
 use Rattle.mach_types.specs.Bytes.{joined, word_at}
+use Rattle.frame_pool.specs.Pool.{fresh}
 use Rattle.page_map.specs.Map.{Map, Page, byte_at, held_in, page_in}
 use Rattle.page_map.proofs.Laws.{word_missing, word_of_bytes}
 use Rattle.place_keys.specs.PageWords.{memory_word, page_word, start_word}
@@ -106,18 +107,31 @@ module _ (m : Map) (n k : ℕ) (lt : k < 512) where
   pub memory_nowhere : (start : Map) → page_in m n ≡ None → memory_word start m (512 * n + k) ≡ start_word start (512 * n + k)
   memory_nowhere start none = ap (λ o. unwrap_or o (start_word start (512 * n + k))) (word_nowhere none)
 
--- the page of these bytes
-pub record HasBytes (o : Option Page) (bytes : List ℕ) : Type 0 where
-  pub page : Page
-  pub is : o ≡ Some page
-  pub bytes_are : page.bytes ≡ bytes
-
-pub has_bytes : (o : Option Page) (bytes : List ℕ) → option_map (λ (p : Page). p.bytes) o ≡ Some bytes → HasBytes o bytes
-has_bytes None bytes e = cc
-has_bytes (Some p) bytes e = record { page = p; is = refl; bytes_are = cc }
-
 -- the same by the number of the word
 pub unmapped_word : (start m : Map) (j : ℕ) → page_in m (j / 512) ≡ None → memory_word start m j ≡ start_word start j
 unmapped_word start m j none =
     let whole : j ≡ 512 * (j / 512) + j % 512 = omega arith in
     ap (memory_word start m) whole ∙ memory_nowhere m (j / 512) (j % 512) (omega arith) start none ∙ ap (start_word start) (sym whole)
+
+-- the words of pages that have zero bytes, now and at the start
+zero-there : (m : Map) (n k : ℕ) → k < 512 → (o : Option Page) → page_in m n ≡ o → IfSome o (λ p. p.bytes ≡ fresh) → start_word m (512 * n + k) ≡ page_word (replicate 4096 0) k
+unfolding fresh
+zero-there m n k lt None at zero_bytes = start_nowhere m n k lt at
+zero-there m n k lt (Some p) at zero_bytes = start_there m n k lt p at ∙ ap (λ (bytes : List ℕ). page_word bytes k) zero_bytes
+
+zero-memory : (m start : Map) (n k : ℕ) → k < 512 → (o : Option Page) → page_in m n ≡ o → IfSome o (λ p. p.bytes ≡ fresh) → IfSome (page_in start n) (λ p. p.bytes ≡ fresh)
+    → memory_word start m (512 * n + k) ≡ start_word start (512 * n + k)
+unfolding fresh
+zero-memory m start n k lt None at zero_bytes start_zero = memory_nowhere m n k lt start at
+zero-memory m start n k lt (Some p) at zero_bytes start_zero =
+    memory_there m n k lt start p at ∙ ap (λ (bytes : List ℕ). page_word bytes k) zero_bytes ∙ sym (zero-there start n k lt (page_in start n) refl start_zero)
+
+pub untouched : (m start : Map) (from to : ℕ) → ((n : ℕ) → from ≤ n → n < to → IfSome (page_in m n) (λ p. p.bytes ≡ fresh))
+    → ((n : ℕ) → from ≤ n → n < to → IfSome (page_in start n) (λ p. p.bytes ≡ fresh)) → (k : ℕ) → 512 * from ≤ k → k < 512 * to → memory_word start m k ≡ start_word start k
+untouched m start from to now before k low high =
+    let whole : k ≡ 512 * (k / 512) + k % 512 = omega arith in
+    let above : from ≤ k / 512 = omega arith in
+    let below : k / 512 < to = omega arith in
+    ap (memory_word start m) whole
+    ∙ zero-memory m start (k / 512) (k % 512) (omega arith) (page_in m (k / 512)) refl (now (k / 512) above below) (before (k / 512) above below)
+    ∙ ap (start_word start) (sym whole)

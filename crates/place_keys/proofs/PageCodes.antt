@@ -87,14 +87,6 @@ pages_key start m m' x y e =
 
 -- HOW THEY ARE WRITTEN
 
-unmapped : (o : Option Page) → is_some (option_map (λ (p : Page). p.permission) o) ≡ false → o ≡ None
-unmapped None e = refl
-unmapped (Some p) e = cc
-
-pub some_page : (o : Option Page) → is_some (option_map (λ (p : Page). p.permission) o) ≡ true → IsSome o
-some_page None e = let no : ⊥ = cc in absurd no
-some_page (Some p) e = refl
-
 no_permission : (o : Option ℕ) → is_some o ≡ false → option_map_or (λ x. x + 1) o 0 ≡ 0
 no_permission None e = refl
 no_permission (Some p) e = cc
@@ -131,29 +123,25 @@ permissions_end start m from old words new past within none done is =
     ended_on (permission_word start) (permission_word m) old words new past ALL_PAGES
     (then_on (permission_word start) (permission_word m) (at_place old 0 0) (at_place words past from) (at_place words past ALL_PAGES) (omega arith) within done skip) is
 
--- the words of pages that aren't mapped
-no_word : (start m : Map) (from n : ℕ) → ((k : ℕ) → from ≤ k → k < n → is_page m k ≡ false) → (j : ℕ) → 512 * from ≤ j → j < 512 * n → memory_word start m j ≡ start_word start j
-no_word start m from n none j above below = unmapped_word start m j (unmapped (page_in m (j / 512)) (none (j / 512) (omega arith) (omega arith)))
+-- the words of memory before the first page that may differ
+pub memory_first : (start m : Map) (n : ℕ) (words : List ℕ) → ((j : ℕ) → 512 * 0 ≤ j → j < 512 * n → memory_word start m j ≡ start_word start j)
+    → IsWrittenOn (start_word start) (memory_word start m) (at_place words 0 0) (at_place words 0 (512 * n))
+memory_first start m n words same = skipped (start_word start) (memory_word start m) words 0 0 (512 * n) (omega arith) (omega arith) (λ j low high. same j (omega arith) high)
 
-pub memory_step : (start m : Map) (from n : ℕ) (old words new : List ℕ) (past last : ℕ) → from ≤ ALL_PAGES → Some n ≡ first_page (is_page m) from (ALL_PAGES - from)
-    → IsWrittenOn (start_word start) (memory_word start m) (at_place old 0 0) (at_place words past (512 * from))
+-- those of one page, and those up to the next one that may differ
+pub memory_step : (start m : Map) (n next : ℕ) (old words new : List ℕ) (past last : ℕ) → n + 1 ≤ next → last ≤ 512 * n + 512
+    → ((j : ℕ) → 512 * (n + 1) ≤ j → j < 512 * next → memory_word start m j ≡ start_word start j)
+    → IsWrittenOn (start_word start) (memory_word start m) (at_place old 0 0) (at_place words past (512 * n))
     → IsWrittenOn (start_word start) (memory_word start m) (at_place words past (512 * n)) (at_place new last (512 * n + 512))
-    → IsWrittenOn (start_word start) (memory_word start m) (at_place old 0 0) (at_place new last (512 * (n + 1)))
-memory_step start m from n old words new past last within is done step =
-    let found = first_page-some (is_page m) from (ALL_PAGES - from) n (sym is) in
-    let low = found.low in
-    let next : 512 * n + 512 ≡ 512 * (n + 1) = omega arith in
-    let skip = skipped (start_word start) (memory_word start m) words past (512 * from) (512 * n) done.order (omega arith) (no_word start m from n found.before) in
-    moved (start_word start) (memory_word start m) (at_place old 0 0) new last (512 * n + 512) (512 * (n + 1)) next
-    (then_on (start_word start) (memory_word start m) (at_place old 0 0) (at_place words past (512 * n)) (at_place new last (512 * n + 512)) (omega arith) (omega arith)
-    (then_on (start_word start) (memory_word start m) (at_place old 0 0) (at_place words past (512 * from)) (at_place words past (512 * n)) (omega arith) (omega arith) done skip) step)
+    → IsWrittenOn (start_word start) (memory_word start m) (at_place old 0 0) (at_place new last (512 * next))
+memory_step start m n next old words new past last above order same done step =
+    let skip = skipped (start_word start) (memory_word start m) new last (512 * n + 512) (512 * next) order (omega arith) (λ j low high. same j (omega arith) high) in
+    then_on (start_word start) (memory_word start m) (at_place old 0 0) (at_place new last (512 * n + 512)) (at_place new last (512 * next)) (omega arith) (omega arith)
+    (then_on (start_word start) (memory_word start m) (at_place old 0 0) (at_place words past (512 * n)) (at_place new last (512 * n + 512)) (omega arith) (omega arith) done step) skip
 
-pub memory_end : (start m : Map) (from : ℕ) (old words new : List ℕ) (past : ℕ) → from ≤ ALL_PAGES → None ≡ first_page (is_page m) from (ALL_PAGES - from)
-    → IsWrittenOn (start_word start) (memory_word start m) (at_place old 0 0) (at_place words past (512 * from)) → new ≡ words ++ 0 ∷ [] → new ≡ old ++ memory_words start m
-memory_end start m from old words new past within none done is =
-    let all : 512 * ALL_PAGES ≡ ALL_WORDS = omega arith in
-    let skip = skipped (start_word start) (memory_word start m) words past (512 * from) (512 * ALL_PAGES) done.order (omega arith)
-    (no_word start m from ALL_PAGES (λ k above below. first_page-no (is_page m) from (ALL_PAGES - from) (sym none) k above (omega arith))) in
+pub memory_end : (start m : Map) (n : ℕ) (old words new : List ℕ) (past : ℕ) → n ≡ ALL_PAGES
+    → IsWrittenOn (start_word start) (memory_word start m) (at_place old 0 0) (at_place words past (512 * n)) → new ≡ words ++ 0 ∷ [] → new ≡ old ++ memory_words start m
+memory_end start m n old words new past all done is =
+    let whole : 512 * n ≡ ALL_WORDS = omega arith in
     ended_on (start_word start) (memory_word start m) old words new past ALL_WORDS
-    (moved (start_word start) (memory_word start m) (at_place old 0 0) words past (512 * ALL_PAGES) ALL_WORDS all
-    (then_on (start_word start) (memory_word start m) (at_place old 0 0) (at_place words past (512 * from)) (at_place words past (512 * ALL_PAGES)) (omega arith) (omega arith) done skip)) is
+    (moved (start_word start) (memory_word start m) (at_place old 0 0) words past (512 * n) ALL_WORDS whole done) is

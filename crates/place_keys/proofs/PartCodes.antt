@@ -31,8 +31,11 @@ use Rattle.place_keys.proofs.PageCodes.{pages_key}
 use Rattle.place_keys.proofs.TableCodes.{areas_key, end_key, ready_key, registered_key, signals_key, threads_key}
 
 -- what follows each table
+abbrev past_registered : Kernel → List ℕ
+past_registered k = of_list word k.console ++ word k.random
+
 abbrev past_areas : Kernel → List ℕ
-past_areas k = registered_words k.registered ++ of_list word k.console
+past_areas k = registered_words k.registered ++ past_registered k
 
 abbrev past_ready : Kernel → List ℕ
 past_ready k = of_list area_words (areas_by_number k.areas.items) ++ past_areas k
@@ -49,9 +52,12 @@ kernel_key k j x y e =
     let signals = after (λ z. z) signals_words signals_key k.signals j.signals (past_signals k) (past_signals j) x y threads.1 in
     let ready = after (λ z. z) ready_words ready_key k.ready j.ready (past_ready k) (past_ready j) x y signals.1 in
     let areas = after (λ z. z) (of_list area_words) areas_key (areas_by_number k.areas.items) (areas_by_number j.areas.items) (past_areas k) (past_areas j) x y ready.1 in
-    let registered = after (λ z. z) registered_words registered_key k.registered j.registered (of_list word k.console) (of_list word j.console) x y areas.1 in
-    let console = whole_key word word_key k.console j.console x y registered.1 in
-    (record { threads = threads.0; signals = signals.0; ready = ready.0; areas = areas.0; registered = registered.0; console = console.0 }, console.1)
+    let registered = after (λ z. z) registered_words registered_key k.registered j.registered (past_registered k) (past_registered j) x y areas.1 in
+    let console = after (λ z. z) (of_list word) (whole_key word word_key) k.console j.console (word k.random) (word j.random) x y registered.1 in
+    let random = word_key k.random j.random x y console.1 in (
+      record { threads = threads.0; signals = signals.0; ready = ready.0; areas = areas.0; registered = registered.0; console = console.0; random = random.0 },
+      random.1,
+    )
 
 pub parts_alike : (start : Map) (m m' : Parts) → parts_words start m ≡ parts_words start m' → AreAlike m m'
 parts_alike start m m' e =
@@ -91,6 +97,7 @@ alike_same m m' s p q alike first second = record {
     areas = sym second.tables.areas ∙ sym alike.kernel.areas ∙ first.tables.areas;
     barriers = sym second.tables.barriers ∙ sym alike.kernel.registered ∙ first.tables.barriers;
     console = sym second.tables.console ∙ sym alike.kernel.console ∙ first.tables.console;
+    random = sym second.tables.random ∙ sym alike.kernel.random ∙ first.tables.random;
   };
   over = sym second.ended ∙ sym alike.ended ∙ first.ended;
 }

@@ -1,11 +1,12 @@
 -- The words of the kernel's tables tell the tables.
-use Rattle.std.proofs.Common.{◌≡◌, ℕ, Bool, List, [], ◌∷◌, ◌++◌, Option, refl, sym, ap, ◌∙◌, zero, suc}
+use Rattle.std.proofs.Common.{◌≡◌, ℕ, Bool, List, [], ◌∷◌, ◌++◌, Option, None, refl, sym, ap, ◌∙◌, zero, suc}
 use Rattle.mach_types.specs.declared.barriers.Registered.{Registered}
 use Rattle.mach_types.specs.declared.events.Hart.{Hart}
 use Rattle.mach_types.specs.declared.limits.End.{End}
 use Rattle.mach_types.specs.declared.limits.End.TheVariants.{Exit, Killed, Stuck, Limit, Unended}
 use Rattle.mach_types.specs.declared.sequences.Area.{Area}
 use Rattle.mach_types.specs.declared.signal_words.Action.{Action}
+use Rattle.mach_types.specs.declared.signal_words.Fault.{Fault}
 use Rattle.mach_types.specs.declared.signal_words.ThreadSignals.{ThreadSignals}
 use Rattle.mach_types.specs.declared.threads.Saved.{Saved}
 use Rattle.mach_types.specs.declared.threads.ThreadState.{ThreadState}
@@ -14,7 +15,7 @@ use Rattle.mach_types.specs.Kernel.Scheduling.{Scheduling}
 use Rattle.mach_types.specs.Kernel.Signals.{Signalling}
 use Rattle.mach_types.specs.Kernel.Threads.{Thread, Threads}
 use Rattle.kernel_threads.specs.Table.{Table}
-use Rattle.place_keys.specs.TableWords.{action_words, area_words, end_words, file_words, mask_words, pair_words, ready_words, registered_words, saved_words, signals_words, state_words, thread_words, threads_words}
+use Rattle.place_keys.specs.TableWords.{action_words, area_words, end_words, fault_words, file_words, mask_words, pair_words, ready_words, registered_words, saved_words, signals_words, state_words, thread_words, threads_words}
 use Rattle.place_keys.specs.Differences.{sparse_words}
 use Rattle.place_keys.specs.Words.{of_bool, of_each, of_list, of_option, word}
 use Rattle.place_keys.proofs.Codes.{IsKey, after, bool_key, option_key, whole_key, word_key}
@@ -124,15 +125,33 @@ same_actions (a ∷ xs) (b ∷ ys) e =
     let others : xs ≡ ys = same_actions xs ys p.1 in
     cc
 
+fault_key : IsKey (λ (f : Fault). f) fault_words
+fault_key a b x y e =
+    let signal : a.signal ≡ b.signal = cc in
+    let code : a.code ≡ b.code = cc in
+    let address : a.address ≡ b.address = cc in
+    (three make a.signal b.signal a.code b.code a.address b.address signal code address, cc)
+  where
+    make : ℕ → ℕ → ℕ → Fault
+    make signal code address = record { signal = signal; code = code; address = address }
+
 mask_key : IsKey (λ (th : ThreadSignals). th) mask_words
 mask_key a b x y e =
     let tid : a.tid ≡ b.tid = cc in
     let mask : a.mask ≡ b.mask = cc in
     let pending : a.pending ≡ b.pending = cc in
-    (three make a.tid b.tid a.mask b.mask a.pending b.pending tid mask pending, cc)
+    let rest : of_option fault_words a.fault ++ x ≡ of_option fault_words b.fault ++ y = cc in
+    let fault = option_key fault_words fault_key a.fault b.fault x y rest in (
+      two with_said (make a.tid a.mask a.pending) (make b.tid b.mask b.pending) a.fault b.fault
+          (three make a.tid b.tid a.mask b.mask a.pending b.pending tid mask pending) fault.0,
+      fault.1,
+    )
   where
     make : ℕ → ℕ → ℕ → ThreadSignals
-    make tid mask pending = record { tid = tid; mask = mask; pending = pending }
+    make tid mask pending = record { tid = tid; mask = mask; pending = pending; fault = None }
+
+    with_said : ThreadSignals → Option Fault → ThreadSignals
+    with_said th o = record th { fault = o }
 
 pub signals_key : IsKey (λ (g : Signalling). g) signals_words
 signals_key a b x y e =

@@ -14,7 +14,7 @@ abbrev pub kernel_words : Kernel → List ℕ
 kernel_words k =
     threads_words k.threads ++ (signals_words k.signals ++ (ready_words k.ready
     ++ (of_list area_words (areas_by_number k.areas.items) ++ (registered_words k.registered
-    ++ of_list word k.console))))
+    ++ (of_list word k.console ++ word k.random)))))
 
 abbrev pub parts_words : Map → Parts → List ℕ
 parts_words start m =

@@ -5,6 +5,7 @@ use Rattle.mach_types.specs.declared.limits.End.{End}
 use Rattle.mach_types.specs.declared.limits.End.TheVariants.{Exit, Killed, Stuck, Limit, Unended}
 use Rattle.mach_types.specs.declared.sequences.Area.{Area}
 use Rattle.mach_types.specs.declared.signal_words.Action.{Action}
+use Rattle.mach_types.specs.declared.signal_words.Fault.{Fault}
 use Rattle.mach_types.specs.declared.signal_words.ThreadSignals.{ThreadSignals}
 use Rattle.mach_types.specs.declared.threads.Saved.{Saved}
 use Rattle.mach_types.specs.declared.threads.ThreadState.{ThreadState}
@@ -44,8 +45,11 @@ ready_words s = of_list word s.order ++ of_list pair_words s.affinities
 abbrev pub action_words : Action → List ℕ
 action_words a = a.at ∷ a.flags ∷ a.mask ∷ []
 
+abbrev pub fault_words : Fault → List ℕ
+fault_words f = f.signal ∷ f.code ∷ f.address ∷ []
+
 abbrev pub mask_words : ThreadSignals → List ℕ
-mask_words th = th.tid ∷ th.mask ∷ th.pending ∷ []
+mask_words th = th.tid ∷ th.mask ∷ th.pending ∷ of_option fault_words th.fault
 
 abbrev pub signals_words : Signalling → List ℕ
 signals_words g = sparse_words (of_each action_words g.actions) ++ of_list mask_words g.threads

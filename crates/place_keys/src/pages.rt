@@ -22,8 +22,11 @@ const PAGE_WORDS: u64 = 512;
 /// The number of the page behind the stack.
 const STACK_END: u64 = FIRST_STACK_PAGE + STACK_PAGES;
 
-/// How many blocks of 64 bytes a page has.
-const BLOCKS: usize = 64;
+/// How many rows of 512 bytes a page has.
+const ROWS: usize = 8;
+
+/// How many blocks of 64 bytes a row has.
+const BLOCKS: usize = 8;
 
 /// The permission of a page with one added; 0 where it isn't mapped.
 fn permission_word(pages: &PageMap, number: u64) -> u64
@@ -80,6 +83,17 @@ fn next_of_both(pages: &PageMap, start: &PageMap, from: u64) -> Option<u64>
     }
 }
 
+/// The first page from one on that may have been written, in one of two page maps, or [`ALL_PAGES`]: each page before it has zero bytes
+/// in both, as far as it is mapped.
+fn next_written(pages: &PageMap, start: &PageMap, from: u64) -> u64
+    ensures from { from ≤ ALL_PAGES → from ≤ result }
+    ensures within { result ≤ ALL_PAGES }
+    ensures same { (k : ℕ) → 512 * from ≤ k → k < 512 * result
+        → memory_word start.now pages.now k ≡ start_word start.now k }
+{
+    pages.next_written(from).min(start.next_written(from))
+}
+
 /// The pages that have another permission than at the start.
 fn write_permissions(
     words: &mut Vec<u64>,
@@ -88,6 +102,9 @@ fn write_permissions(
 ) -> Result<(), AllocError>
     ensures { OnOk result (words.new.items ≡ words.old.items ++ permissions_words start.now pages.now) }
 {
+    if pages.has_pages_of(start) {
+        return write_word(words, 0);
+    }
     let mut past = 0;
     let mut from = 0;
     while let Some(number) = next_of_both(pages, start, from) {
@@ -143,8 +160,41 @@ fn write_block(
     Ok(last)
 }
 
-/// The words of a page, which begin at one word of memory, where they differ from those at the start, block
-/// by block. Answers the place past the last one that differs.
+/// The words of a row of 512 bytes, which begin at one word of memory, where they differ from those at the start, block by block. Answers the
+/// place past the last one that differs.
+fn write_row(
+    words: &mut Vec<u64>,
+    start: &[u8],
+    bytes: &[u8],
+    first: u64,
+    past: u64,
+) -> Result<u64, AllocError>
+    requires start { length start.now ≡ 512 }
+    requires bytes { length bytes.now ≡ 512 }
+    requires order { past ≤ first }
+    requires room { first < 2 ^ 62 - 64 }
+    ensures order { IfOk result (λ last. last ≤ first + 64) }
+    ensures written { IfOk result (λ last. (f g : ℕ → ℕ)
+        → ((k : ℕ) → k < 64 → f (first + k) ≡ page_word start.now k)
+        → ((k : ℕ) → k < 64 → g (first + k) ≡ page_word bytes.now k) → IsWrittenOn f g
+        (record { words = words.old.items; past = past; next = first })
+        (record { words = words.new.items; past = last; next = first + 64 })) }
+{
+    if bytes == start {
+        return Ok(past);
+    }
+    let mut last = past;
+    for block in 0..BLOCKS {
+        let from = 64 * block;
+        let old = &start[from..from + 64];
+        let now = &bytes[from..from + 64];
+        last = write_block(words, old, now, first + 8 * block as u64, last)?;
+    }
+    Ok(last)
+}
+
+/// The words of a page, which begin at one word of memory, where they differ from those at the start, row by row. Answers the place past the
+/// last one that differs.
 fn write_page_words(
     words: &mut Vec<u64>,
     start: &[u8],
@@ -164,11 +214,11 @@ fn write_page_words(
         (record { words = words.new.items; past = last; next = first + 512 })) }
 {
     let mut last = past;
-    for block in 0..BLOCKS {
-        let from = 64 * block;
-        let old = &start[from..from + 64];
-        let now = &bytes[from..from + 64];
-        last = write_block(words, old, now, first + 8 * block as u64, last)?;
+    for row in 0..ROWS {
+        let from = 512 * row;
+        let old = &start[from..from + 512];
+        let now = &bytes[from..from + 512];
+        last = write_row(words, old, now, first + 64 * row as u64, last)?;
     }
     Ok(last)
 }
@@ -192,34 +242,7 @@ fn start_bytes(start: &PageMap, number: u64) -> &[u8]
     }
 }
 
-/// Whether a page had zero bytes at the start because nothing wrote it, or wasn't mapped.
-fn starts_fresh(start: &PageMap, number: u64) -> bool
-    ensures { OnTrue result ((k : ℕ) → k < 512
-        → start_word start.now (512 * number + k) ≡ page_word (replicate 4096 0) k) }
-{
-    if start.is_fresh(number) {
-        return true;
-    }
-    match start.permission(number) {
-        Some(_) => false,
-        None => true,
-    }
-}
-
-/// Whether a page that is mapped has zero bytes as at the start, because nothing has written it. It looks at
-/// none of its bytes, and is false of a page that was written, with whatever bytes.
-fn stays_fresh(pages: &PageMap, start: &PageMap, number: u64) -> bool
-    ensures { OnTrue result ((k : ℕ) → k < 512
-        → memory_word start.now pages.now (512 * number + k) ≡ start_word start.now (512 * number + k)) }
-{
-    if pages.is_fresh(number) {
-        starts_fresh(start, number)
-    } else {
-        false
-    }
-}
-
-/// The words of a page that is mapped, where they differ from those at the start.
+/// The words of a page, where they differ from those at the start. A page that isn't mapped has none.
 fn write_page(
     words: &mut Vec<u64>,
     pages: &PageMap,
@@ -227,7 +250,6 @@ fn write_page(
     number: u64,
     past: u64,
 ) -> Result<u64, AllocError>
-    requires mapped { IsSome (page_in pages.now number) }
     requires within { number < ALL_PAGES }
     requires order { past ≤ 512 * number }
     ensures order { IfOk result (λ last. last ≤ 512 * number + 512) }
@@ -235,11 +257,8 @@ fn write_page(
         (record { words = words.old.items; past = past; next = 512 * number })
         (record { words = words.new.items; past = last; next = 512 * number + 512 })) }
 {
-    if stays_fresh(pages, start, number) {
-        return Ok(past);
-    }
     let Some(bytes) = pages.bytes(number) else {
-        unreachable!()
+        return Ok(past);
     };
     let old = start_bytes(start, number);
     if bytes == old {
@@ -253,10 +272,10 @@ fn write_memory(words: &mut Vec<u64>, pages: &PageMap, start: &PageMap) -> Resul
     ensures { OnOk result (words.new.items ≡ words.old.items ++ memory_words start.now pages.now) }
 {
     let mut past = 0;
-    let mut from = 0;
-    while let Some(number) = next_page(pages, from) {
+    let mut number = next_written(pages, start, 0);
+    while number < ALL_PAGES {
         past = write_page(words, pages, start, number, past)?;
-        from = number + 1;
+        number = next_written(pages, start, number + 1);
     }
     write_word(words, 0)
 }

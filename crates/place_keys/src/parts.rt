@@ -9,6 +9,7 @@ use crate::tables::{
     write_areas, write_bytes, write_ended, write_ready, write_registered, write_signals,
     write_threads,
 };
+use crate::words::write_word;
 use page_map::PageMap;
 use process::Parts;
 use std::alloc::AllocError;
@@ -23,7 +24,8 @@ fn write_kernel(words: &mut Vec<u64>, kernel: &Kernel) -> Result<(), AllocError>
     write_ready(words, &kernel.ready)?;
     write_areas(words, &kernel.areas)?;
     write_registered(words, &kernel.registered)?;
-    write_bytes(words, kernel.console.bytes())
+    write_bytes(words, kernel.console.bytes())?;
+    write_word(words, kernel.random)
 }
 
 /// Appends the key of the place at which parts stand: all that a rule of an event may read there. `start` has

@@ -11,7 +11,7 @@ ghost use Rattle.place_keys.specs.Words.{of_each, of_list, of_option, word};
 use crate::differences::{write_change, write_sparse};
 use crate::words::{write_bool, write_word};
 use kernel_threads::{Row, Stage, Threads};
-use mach_types::{Action, End, Registered, Saved, ThreadSignals};
+use mach_types::{Action, End, Fault, Registered, Saved, ThreadSignals};
 use scheduler::Ready;
 use signals::Signals;
 use std::alloc::AllocError;
@@ -199,13 +199,29 @@ fn write_actions(words: &mut Vec<u64>, actions: &[Action]) -> Result<(), AllocEr
     write_word(words, 0)
 }
 
-/// The mask and the pending signals of a thread.
+/// What a fault says, if there is one.
+fn write_fault(words: &mut Vec<u64>, fault: Option<Fault>) -> Result<(), AllocError>
+    ensures { OnOk result (words.new.items ≡ words.old.items ++ of_option spec.fault_words fault) }
+{
+    match fault {
+        None => write_word(words, 0),
+        Some(said) => {
+            write_word(words, 1)?;
+            write_word(words, u64::from(said.signal))?;
+            write_word(words, u64::from(said.code))?;
+            write_word(words, said.address)
+        }
+    }
+}
+
+/// The mask and the pending signals of a thread, and what its fault says.
 fn write_mask(words: &mut Vec<u64>, thread: &ThreadSignals) -> Result<(), AllocError>
     ensures { OnOk result (words.new.items ≡ words.old.items ++ spec.mask_words thread.now) }
 {
     write_word(words, u64::from(thread.tid))?;
     write_word(words, thread.mask)?;
-    write_word(words, thread.pending)
+    write_word(words, thread.pending)?;
+    write_fault(words, thread.fault)
 }
 
 /// The masks and the pending signals.

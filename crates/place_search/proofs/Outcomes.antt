@@ -4,13 +4,12 @@ use Rattle.std.specs.List.{list_any}
 use Rattle.std.proofs.lemmas.List.Elements.{All-push, Contains-append_left, Contains-get_or, Contains-push}
 use Rattle.std.proofs.lemmas.List.Quantifiers.{all_pairs_push}
 use Rattle.std.proofs.lemmas.Slice.Eq.{bytes_eq-Decides}
-use Rattle.std.proofs.lemmas.Bool.{eqb-true, eq-eqb}
 use Rattle.mach_types.specs.declared.events.Entry.{Entry}
 use Rattle.mach_types.specs.declared.limits.End.{End}
-use Rattle.mach_types.specs.declared.limits.End.TheVariants.{Exit, Killed, Stuck, Limit, Unended}
-use Rattle.found_outcomes.specs.Found.{AreDifferent, HasBeenFound, IsOther}
+use Rattle.found_outcomes.specs.Found.{AreDifferent, HasBeenFound, IsOther, same_end}
 use Rattle.found_outcomes.specs.declared.findings.OutcomeFound.{OutcomeFound}
-use Rattle.place_search.specs.Ends.{AreNoted, is_so, same_end}
+use Rattle.found_outcomes.proofs.Laws.{end_is, end_same}
+use Rattle.place_search.specs.Ends.{AreNoted, is_so}
 
 -- TESTS
 
@@ -26,40 +25,6 @@ either_true false b Q is first second = second is
 or_true : (b : Bool) → (b || true) ≡ true
 or_true true = refl
 or_true false = refl
-
-end_is : (a b : End) → same_end a b ≡ true → a ≡ b
-end_is (Exit a) (Exit b) is = ap Exit (eqb-true a b is)
-end_is (Killed a) (Killed b) is = ap Killed (eqb-true a b is)
-end_is Stuck Stuck is = refl
-end_is Limit Limit is = refl
-end_is Unended Unended is = refl
-end_is (Exit a) (Killed b) is = absurd cc
-end_is (Exit a) Stuck is = absurd cc
-end_is (Exit a) Limit is = absurd cc
-end_is (Exit a) Unended is = absurd cc
-end_is (Killed a) (Exit b) is = absurd cc
-end_is (Killed a) Stuck is = absurd cc
-end_is (Killed a) Limit is = absurd cc
-end_is (Killed a) Unended is = absurd cc
-end_is Stuck (Exit b) is = absurd cc
-end_is Stuck (Killed b) is = absurd cc
-end_is Stuck Limit is = absurd cc
-end_is Stuck Unended is = absurd cc
-end_is Limit (Exit b) is = absurd cc
-end_is Limit (Killed b) is = absurd cc
-end_is Limit Stuck is = absurd cc
-end_is Limit Unended is = absurd cc
-end_is Unended (Exit b) is = absurd cc
-end_is Unended (Killed b) is = absurd cc
-end_is Unended Stuck is = absurd cc
-end_is Unended Limit is = absurd cc
-
-end_same : (e : End) → same_end e e ≡ true
-end_same (Exit a) = eq-eqb a a refl
-end_same (Killed a) = eq-eqb a a refl
-end_same Stuck = refl
-end_same Limit = refl
-end_same Unended = refl
 
 so_is : (e : End) (console : List ℕ) (o : OutcomeFound) → is_so e console o ≡ true → (o.end ≡ e) × (o.console ≡ console)
 so_is e console o is =

@@ -42,6 +42,7 @@ use Rattle.place_search.specs.SettlingSteps.{HasMore, IsOwedAfter, IsStandingAt,
 use Rattle.place_search.specs.declared.remade.Remade.{Remade}
 use Rattle.place_search.proofs.Starts.{started_same}
 use Rattle.same_places.specs.Replayed.{StandAfter}
+use Rattle.checkpoints.specs.Standing.{AreStanding}
 use Rattle.same_places.specs.Searched.{IsTried}
 use Rattle.same_places.specs.Trying.{IsGoing, IsLonger}
 use Rattle.place_keys.specs.Packed.{packed}
@@ -138,13 +139,14 @@ still_open task x x' from opened searching more stands =
 
 -- a search with other parts, which are those of the same program
 pub searching_on : (task : Task) (x x' : Searcher) → IsSearching task x → x'.visited ≡ x.visited → x'.graph ≡ x.graph → x'.made.start ≡ x.made.start
-    → x'.made.code ≡ x.made.code → IsSearching task x'
-searching_on task x x' is visited graph start code =
+    → x'.made.code ≡ x.made.code → AreStanding (setting_for task) x'.checkpoints → IsSearching task x'
+searching_on task x x' is visited graph start code standing =
     let s = setting_for task in
     record {
       visited = subst (λ (m : Map). HasVisited s task.signals m x'.visited) (sym start) (subst (HasVisited s task.signals x.made.start) (sym visited) is.visited);
       started = started_same s x.made.start x'.made.start start is.started;
       code = code ∙ is.code;
+      standing = standing;
       graph = subst (λ (v : Visited). IsTrue s (ways_of task) (logs_of v.rows.items) x'.graph) (sym visited) (subst (IsTrue s (ways_of task) (logs_of x.visited.rows.items)) (sym graph) is.graph);
       few = subst (λ (v : Visited). length v.rows.items < task.most) (sym visited) is.few;
       single = λ off. subst (λ (v : Visited). AreSingle v.rows.items) (sym visited) (is.single off);
@@ -155,10 +157,10 @@ searching_on task x x' is visited graph start code =
 pub opened_after : (task : Task) (x : Searcher) (from : Reached) (made : Remade) (v : Visited) (g : Graph) → IsOpenAt task x from → HasVisited (setting_for task) task.signals made.start v → IsStart (setting_for task) made.start
     → made.code ≡ x.made.code → length v.rows.items < task.most → IsMore x.visited v → IsTrue (setting_for task) (ways_of task) (logs_of v.rows.items) g
     → (task.settle ≡ false → AreSingle v.rows.items) → ArePaid (cost_of task.preemptions) (budget_of task.preemptions) v.rows.items
-    → IsOpenAt task (record { visited = v; graph = g; made = made; moved = true }) from
+    → IsOpenAt task (record { visited = v; graph = g; made = made; moved = true; checkpoints = x.checkpoints }) from
 opened_after task x from made v g opened has started code few more is_true single paid =
-    let now : Searcher = record { visited = v; graph = g; made = made; moved = true } in
-    still_open task x now from opened (record { visited = has; started = started; code = code ∙ opened.searching.code; graph = is_true; few = few; single = single; paid = paid }) more (λ bad. absurd cc)
+    let now : Searcher = record { visited = v; graph = g; made = made; moved = true; checkpoints = x.checkpoints } in
+    still_open task x now from opened (record { visited = has; started = started; code = code ∙ opened.searching.code; standing = opened.searching.standing; graph = is_true; few = few; single = single; paid = paid }) more (λ bad. absurd cc)
 
 some_not : (o : Option End) → true ≡ is_some o → o ≡ None → ⊥
 some_not None is none = absurd cc

@@ -2,18 +2,8 @@
 use Rattle.std.specs.Prelude.{ℕ, ◌≡◌, ◌==◌, ◌&&◌, ◌⊎◌, ◌++◌, ◌∷◌, [], Bool, true, false, List, bytes_eq}
 use Rattle.mach_types.specs.declared.events.Entry.{Entry}
 use Rattle.mach_types.specs.declared.limits.End.{End}
-use Rattle.mach_types.specs.declared.limits.End.TheVariants.{Exit, Killed, Stuck, Limit, Unended}
-use Rattle.found_outcomes.specs.Found.{HasBeenFound}
+use Rattle.found_outcomes.specs.Found.{HasBeenFound, same_end}
 use Rattle.found_outcomes.specs.declared.findings.OutcomeFound.{OutcomeFound}
-
--- whether two ends are one
-abbrev pub same_end : End → End → Bool
-same_end (Exit a) (Exit b) = a == b
-same_end (Killed a) (Killed b) = a == b
-same_end Stuck Stuck = true
-same_end Limit Limit = true
-same_end Unended Unended = true
-same_end _ _ = false
 
 -- whether an outcome has this end and this console
 abbrev pub is_so : End → List ℕ → OutcomeFound → Bool

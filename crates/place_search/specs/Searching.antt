@@ -9,6 +9,7 @@ use Rattle.block_model.specs.Plain.{here_in_plain, plain_after, plain_over}
 use Rattle.block_model.specs.Setting.{Setting, setting_of}
 use Rattle.same_places.specs.Places.{IsCarried}
 use Rattle.same_places.specs.Replayed.{StandAfter}
+use Rattle.checkpoints.specs.Standing.{AreStanding}
 use Rattle.prompt_runs.specs.Owed.{owed_after}
 use Rattle.prompt_runs.specs.Prompt.{IsInTime}
 use Rattle.same_places.specs.Searched.{IsOpen}
@@ -49,12 +50,13 @@ ways_of task = record { signals = task.signals; settle = task.settle }
 abbrev pub reductions_of : Task → Reductions
 reductions_of task = record { local_steps = task.settle }
 
--- a search of the task, which may visit no more places than are allowed. Its edges lead where they say; and where no thread
+-- a search of the task, which may visit no more places than are allowed. Its checkpoints stand where they say, and its edges lead where they say; and where no thread
 -- settles, one entry leads to each place
 pub record IsSearching (task : Task) (x : Searcher) : Type 0 where
   pub visited : HasVisited (setting_for task) task.signals x.made.start x.visited
   pub started : IsStart (setting_for task) x.made.start
   pub code : x.made.code ≡ task.image.now.pages.items
+  pub standing : AreStanding (setting_for task) x.checkpoints
   pub graph : IsTrue (setting_for task) (ways_of task) (logs_of x.visited.rows.items) x.graph
   pub few : length x.visited.rows.items < task.most
   pub single : task.settle ≡ false → AreSingle x.visited.rows.items

@@ -29,7 +29,9 @@ impl Searcher {
     {
         let log = log_of(task.alloc, &self.visited.rows, place)?;
         self.moved = true;
-        self.made.stand_after(task.image, task.limits, &log)?;
+        let checkpoints = &mut self.checkpoints;
+        self.made
+            .stand_after(task.image, task.limits, &log, checkpoints)?;
         self.moved = false;
         let sights = Sights::of(task.alloc, &self.made.parts)?;
         let owed = self.visited.owed_at(place);

@@ -6,13 +6,14 @@ ghost use Rattle.elf_load.specs.Images.{IsBootable};
 ghost use Rattle.block_model.specs.Run.{IsBlockRun};
 ghost use Rattle.block_model.specs.Setting.{setting_of};
 ghost use Rattle.same_places.specs.Replayed.{StandAfter};
+ghost use Rattle.checkpoints.specs.Standing.{AreStanding};
 ghost use Rattle.place_search.specs.Starting.{IsStart};
 
+use checkpoints::{Checkpoints, Program};
 use elf_load::Image;
 use mach_types::{Entry, Limits};
 use page_map::PageMap;
 use process::{Code, Parts};
-use same_places::replay;
 use std::alloc::{AllocError, Global};
 
 /// Parts that are made to stand at one place after another.
@@ -55,7 +56,22 @@ impl Remade {
         Ok(Remade { code, parts, start })
     }
 
-    /// Begins again and plays a log: the parts then stand where it has come to.
+    /// No checkpoints of the program yet.
+    pub(crate) fn checkpoints(&self, alloc: Global, image: &Image, limits: Limits) -> Checkpoints
+        requires image { IsBootable limits.frames image.now }
+        requires limits { InRange limits }
+        requires code { self.now.code ≡ image.now.pages.items }
+        ensures { AreStanding (setting_of image.now limits) result }
+    {
+        let program = Program {
+            code: &self.code,
+            image,
+            limits,
+        };
+        Checkpoints::new(alloc, &program)
+    }
+
+    /// Makes the parts stand where a log has come to, from the last checkpoint on that its entries lead past, or from the beginning on.
     ///
     /// Fails where the parts haven't as many frames and harts as the limits name, which never happens: no event changes how many
     /// there are, but no contract of an event says so of frames.
@@ -64,14 +80,17 @@ impl Remade {
         image: &Image,
         limits: Limits,
         log: &[Entry],
+        checkpoints: &mut Checkpoints,
     ) -> Result<(), AllocError>
         requires image { IsBootable limits.frames image.now }
         requires limits { InRange limits }
         requires code { self.old.code ≡ image.now.pages.items }
         requires run { IsBlockRun (setting_of image.now limits) log.now }
+        requires standing { AreStanding (setting_of image.now limits) checkpoints.old }
         ensures stands { OnOk result (StandAfter (setting_of image.now limits) log.now self.new.parts) }
         ensures code { self.new.code ≡ self.old.code }
         ensures start { self.new.start ≡ self.old.start }
+        ensures standing { AreStanding (setting_of image.now limits) checkpoints.new }
     {
         if self.parts.pages.frames() != limits.frames {
             return Err(AllocError);
@@ -79,7 +98,11 @@ impl Remade {
         if self.parts.harts.len() != usize::from(limits.harts) {
             return Err(AllocError);
         }
-        replay(&mut self.parts, &self.code, image, limits, log);
-        Ok(())
+        let program = Program {
+            code: &self.code,
+            image,
+            limits,
+        };
+        checkpoints.stand_after(&mut self.parts, &program, log)
     }
 }

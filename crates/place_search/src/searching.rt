@@ -46,7 +46,8 @@ impl Searcher {
         ensures ends { IfOk result (λ x. AreEndsFound (setting_for task.now) x.visited) }
     {
         let mut made = Remade::boot(task.alloc, task.image, task.limits)?;
-        made.stand_after(task.image, task.limits, &[])?;
+        let mut checkpoints = made.checkpoints(task.alloc, task.image, task.limits);
+        made.stand_after(task.image, task.limits, &[], &mut checkpoints)?;
         let mut visited = Visited::first(task.alloc);
         visited.note(task.alloc, &made.parts, &[])?;
         let key = key_of(task.alloc, &made.parts, 0, &made.start)?;
@@ -56,6 +57,7 @@ impl Searcher {
             graph: Graph::new(task.alloc),
             made,
             moved: true,
+            checkpoints,
         })
     }
 
@@ -183,6 +185,7 @@ impl Searcher {
             graph: _,
             made: _,
             moved: _,
+            checkpoints: _,
         } = self;
         let Visited {
             rows: _,

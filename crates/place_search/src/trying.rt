@@ -13,6 +13,7 @@ use crate::stop::Stop;
 use crate::task::Task;
 use crate::visited::Visited;
 use crate::visiting::Reached;
+use checkpoints::Checkpoints;
 use graph_walks::Edge;
 use mach_types::{Choice, Hart};
 use owed_signals::{dues_say_what_comes_in_time, owed_after, sets_say_what_is_owed, traps};
@@ -32,6 +33,8 @@ pub(crate) struct Searcher {
     pub(crate) made: Remade,
     /// Whether these may stand elsewhere than at the place whose choices are tried.
     pub(crate) moved: bool,
+    /// Copies of parts at places on the way to the one at which these were last made to stand.
+    pub(crate) checkpoints: Checkpoints,
 }
 
 impl Searcher {
@@ -46,7 +49,9 @@ impl Searcher {
         ensures start { self.new.made.start ≡ self.old.made.start }
     {
         if self.moved {
-            self.made.stand_after(task.image, task.limits, &from.log)?;
+            let checkpoints = &mut self.checkpoints;
+            self.made
+                .stand_after(task.image, task.limits, &from.log, checkpoints)?;
             self.moved = false;
         }
         Ok(())

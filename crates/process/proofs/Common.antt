@@ -65,7 +65,7 @@ pub use Rattle.page_map.proofs.Laws.{alike_holds, each_byte-fails, writable_is_v
 pub use Rattle.page_map.specs.Map.{IsAlike, Map, Page, are_visible, break_in, break_start_in, byte_at, byte_in, bytes_if, can_write_in, free_in, held_in, may_write, page_in, permission_in}
 pub use Rattle.process.specs.Barriers.{IsRestarted, asked_by, ended_by, gone_on, is_busy, noticed, noticed_unless, restart_here, taken_or_noticed, taken_with}
 pub use Rattle.process.specs.ContextSwitch.{HasHart, IsChanged, IsReadied, IsWaiting, begun_without}
-pub use Rattle.process.specs.Delivering.{HasSignals, IsDelivered, IsEntered, IsInterrupted, done_here, ended_unless, frame_unless, gone_on_with, has_handler_in, killer_of, next_on}
+pub use Rattle.process.specs.Delivering.{HasSignals, IsDelivered, IsEntered, IsInterrupted, done_here, ended_unless, gone_on_with, has_handler_in, killer_of, next_on}
 pub use Rattle.process.specs.EventOutcomes.{entry_from, hart_after_call, waits_after}
 pub use Rattle.process.specs.ExecGates.{AreOfSegment, IsNextAt, lies_in, lies_outside}
 pub use Rattle.process.specs.Foresight.{foreseen_writes, interrupts}

@@ -1,5 +1,7 @@
 -- What the next instruction of a thread does, by its effect and its fault.
-use Rattle.process.proofs.Common.{◌≡◌, ◌≢◌, ℕ, refl, sym, ap, ◌∙◌, Bool, true, false, cond, is_some, Option, Some, None, length, option_map, option_or, Done, Effect, HartState, Here, Why, done_of, file_on, hart_in, refusal_of, runs, thread, Idle, InBarrier, is_call, fault_in, instruction_gate, exec_refusal, outcome_on, called, killed_in_call, is_inside_here, by_call, by_outcome, has_handler, is_held, next_effect, next_fault, others_gate, outcome_of, refusal_exec_by, unless_in_barrier, is_storable, reached, waiting_here, signalled, with_pending, Killed, outcome, by_fault, one_instruction, view_of_all}
+use Rattle.process.proofs.Common.{◌≡◌, ◌≢◌, ℕ, refl, sym, ap, ◌∙◌, Bool, true, false, cond, is_some, Option, Some, None, length, option_map, option_or, Done, Effect, HartState, Here, Why, done_of, file_on, hart_in, refusal_of, runs, thread, Idle, InBarrier, is_call, fault_in, instruction_gate, exec_refusal, outcome_on, called, killed_in_call, is_inside_here, by_call, by_outcome, has_handler, is_held, next_effect, next_fault, others_gate, outcome_of, refusal_exec_by, unless_in_barrier, is_storable, reached, waiting_here, signalled, Killed, outcome, by_fault, one_instruction, view_of_all}
+use Rattle.mach_types.specs.Kernel.Signals.{with_fault}
+use Rattle.block_model.specs.Events.Exec.{fault_told}
 use Rattle.rv_inst.specs.declared.effects.Effect.TheVariants as effect
 use Rattle.mach_types.specs.declared.events.Choice.TheVariants as asked
 use Rattle.block_model.specs.Instruction as instruction
@@ -10,7 +12,7 @@ done_fault here t signal at fault = rw (at, fault) refl
 
 -- one with a handler, whose signal becomes pending, and one without, which kills
 abbrev pub fault_pending : Here → ℕ → ℕ → Done
-fault_pending here t signal = record (one_instruction here) { kernel = signalled (with_pending t signal here.kernel.signals) here.kernel }
+fault_pending here t signal = record (one_instruction here) { kernel = signalled (with_fault t (fault_told here t signal) here.kernel.signals) here.kernel }
 
 abbrev pub fault_killing : Here → ℕ → Done
 fault_killing here signal = record (one_instruction here) { ended = Some (Killed signal) }

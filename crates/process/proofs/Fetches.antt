@@ -1,5 +1,9 @@
 -- The instruction word at an address that is a multiple of 4: its four bytes lie in one page.
-use Rattle.process.proofs.Common.{nat_tests, ◌≡◌, ◌≢◌, ℕ, ◌+◌, ◌*◌, ◌/◌, ◌%◌, ◌&&◌, List, [], ◌∷◌, map, Option, Some, None, Bool, true, false, cond, nat_le, nat_lt, nat_eq, nat_cmp, refl, ap, sym, ◌∙◌, arith, option_map, ne_eqb, is_in, permission_of, ImagePage, code_word, image_run, page_of, return_run, stack_run, start_runs, word_of_page, is_le, is_lt, slice_index, joined, can_execute, code_byte, image_byte, page_byte, word_in}
+use Rattle.process.proofs.Common.{nat_tests, ◌≡◌, ◌≢◌, ℕ, ◌+◌, ◌*◌, ◌/◌, ◌%◌, ◌&&◌, List, [], ◌∷◌, map, Option, Some, None, Bool, true, false, cond, nat_le, nat_lt, nat_eq, nat_cmp, refl, ap, sym, ◌∙◌, arith, option_map, ne_eqb, is_in, permission_of, ImagePage, code_word, image_run, page_of, return_run, stack_run, start_runs, word_of_page, is_le, is_lt, slice_index, joined, can_execute, code_byte, image_byte, page_byte, word_in, suc, zero, ◌^◌, ◌≤◌}
+use Rattle.std.proofs.Math.Nat.{zero-div}
+use Rattle.mach_types.specs.Bytes.{byte_of}
+use Rattle.elf_load.specs.Start.{return_byte, return_words}
+use Rattle.process.specs.Pages.{word_of}
 
 -- a byte of page n at an offset, where it may be executed
 abbrev pub code_in : List ImagePage → ℕ → ℕ → Option ℕ
@@ -63,3 +67,24 @@ pub word_of_image : (pages : List ImagePage) (a : ℕ) → a % 4 ≡ 0 → is_in
 word_of_image pages a aligned stack other =
     let not_return : is_in return_run (a / 4096) ≡ false = one_page 0x3FFFFF0 (a / 4096) ∙ ne_eqb 0x3FFFFF0 (a / 4096) (λ e. other (sym e)) in
     four_bytes pages a aligned ∙ (rw (stack, not_return) (by_page (page_of pages (a / 4096)) (permission_of (map image_run pages) (a / 4096)) (a % 4096) (permission-image pages (a / 4096))))
+
+-- THE RETURN PAGE
+
+past_two : (a b k : ℕ) → 2 ≤ k → slice_index (a ∷ b ∷ []) k ≡ 0
+past_two a b zero h = absurd (omega arith)
+past_two a b (suc zero) h = absurd (omega arith)
+past_two a b (suc (suc k)) h = refl
+
+zero_past : (k : ℕ) → 16 ≤ k → return_byte k ≡ 0
+zero_past k h =
+    let none : slice_index return_words (k / 8) ≡ 0 = past_two 0x0000007308B00893 0x0000007308B00893 (k / 8) (omega arith) in
+    ap (λ w. byte_of w (k % 8)) none ∙ ap (λ x. x % 256) (zero-div (256 ^ (k % 8)))
+
+-- behind its two words it has zeros
+pub return_past : (k : ℕ) → 16 ≤ k → 0 ≡ word_of return_byte k
+return_past k h =
+    let b0 = zero_past k h in
+    let b1 = zero_past (k + 1) (omega arith) in
+    let b2 = zero_past (k + 2) (omega arith) in
+    let b3 = zero_past (k + 3) (omega arith) in
+    sym (λ i. b0 i + 256 * (b1 i + 256 * (b2 i + 256 * b3 i)))

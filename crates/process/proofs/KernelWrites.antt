@@ -1,5 +1,7 @@
 -- What the kernel writes by an event: the pointer of an area that an interruption clears, and behind it the words of the area or the frame of a handler.
-use Rattle.process.proofs.Common.{◌≡◌, ◌≢◌, ℕ, List, [], ◌++◌, append-nil, refl, sym, ap, ◌∙◌, Bool, true, false, cond, is_some, Option, Some, None, option_and_then, option_map, same_Some, interruption, pc_after, words_on, writes_of, mask_of, Choice, Entry, Tid, Area, Done, Hart, Here, IsPlace, Outcome, Parts, Saved, Stand, Write, area_here, area_of, byte_in, can_write_in, done_of, here_at, interruption_here, next_id, refusal_of, runs, areas_by_number, entry_in, number_of, thread_in, done_killed, done_run, done_running, lives_on, done_delivery, file_interrupted, handled_unless_killed, kills, kills_unhandled, done_take_by, killed_by, can_write_words, words_to, IsInterrupted, frame_unless, killer_of, foreseen_writes, interrupts, area_on, done_run_by, none-some}
+use Rattle.process.proofs.Common.{◌≡◌, ◌≢◌, ℕ, List, [], ◌++◌, append-nil, refl, sym, ap, ◌∙◌, Bool, true, false, cond, is_some, Option, Some, None, option_and_then, option_map, same_Some, interruption, pc_after, words_on, writes_of, Choice, Entry, Tid, Area, Done, Hart, Here, IsPlace, Outcome, Parts, Saved, Stand, Write, area_here, area_of, byte_in, can_write_in, done_of, here_at, interruption_here, next_id, refusal_of, runs, areas_by_number, entry_in, number_of, thread_in, done_killed, done_run, done_running, lives_on, done_delivery, file_interrupted, handled_unless_killed, kills, kills_unhandled, done_take_by, killed_by, can_write_words, words_to, IsInterrupted, killer_of, foreseen_writes, interrupts, area_on, done_run_by, none-some, Signalling}
+use Rattle.mach_types.specs.Kernel.Signals.{fault_of}
+use Rattle.process.specs.Delivering.{entered_frame}
 use Rattle.mach_types.specs.Events.{kind_of, nature_of}
 use Rattle.mach_types.specs.declared.events.Choice.TheVariants as asked
 use Rattle.mach_types.specs.declared.events.Interruption.{Interruption}
@@ -117,9 +119,13 @@ killed_run : (here : Here) (t : ℕ) (o : Outcome) → is_fatal o ≡ true → (
 killed_run here t (comes_to.Killed why) fatal = refl
 killed_run here t o fatal = cc
 
+-- the frame of the handler of a signal that is delivered to a thread with this file
+abbrev frame_of_delivery : Option ℕ → ℕ → ℕ → Saved → Signalling → List Write
+frame_of_delivery killer t signal x g = entered_frame killer t signal (fault_of t signal g) x g
+
 -- a thread that enters a handler, and one that is killed before
 delivery_writes : (here : Here) (t signal : ℕ) (o : Outcome) (killer : Option ℕ)
-    → (handled_unless_killed here t signal o killer).entered ≡ writes_of (area_here here t) o ++ frame_unless killer (file_interrupted here t o) (mask_of t here.kernel.signals)
+    → (handled_unless_killed here t signal o killer).entered ≡ writes_of (area_here here t) o ++ frame_of_delivery killer t signal (file_interrupted here t o) here.kernel.signals
 delivery_writes here t signal o None = refl
 delivery_writes here t signal o (Some killer) = sym (append-nil (writes_of (area_here here t) o))
 
@@ -167,35 +173,26 @@ run_foreseen c here t area o is there lives =
 -- and the frame where a signal is delivered
 pub signal_foreseen : (here : Here) (o : Outcome) → refusal_of asked.Signal here ≡ None → (done_of asked.Signal here).interrupted ≡ Some o → is_some (killed_by o) ≡ false
     → (its : IsReceiving here) → writes_of (area_here here its.thread) o
-    ++ frame_unless (kills_unhandled here its.thread its.signal o) (file_interrupted here its.thread o) (mask_of its.thread here.kernel.signals) ≡ (done_of asked.Signal here).entered
+    ++ frame_of_delivery (kills_unhandled here its.thread its.signal o) its.thread its.signal (file_interrupted here its.thread o) here.kernel.signals ≡ (done_of asked.Signal here).entered
 signal_foreseen here o free is lives its =
     let t = its.thread in
     let s = its.signal in
     let comes : interruption_here here t ≡ o =
     same_Some (interruption_here here t) o (ap (option_map (interruption_here here)) (sym its.at) ∙ sym (interrupted_is asked.Signal here free) ∙ is) in
-    ap (λ killer. writes_of (area_here here t) o ++ frame_unless killer (file_interrupted here t o) (mask_of t here.kernel.signals)) (sym (unhandled here t s o (fatal_is o ∙ lives)))
+    ap (λ killer. writes_of (area_here here t) o ++ frame_of_delivery killer t s (file_interrupted here t o) here.kernel.signals) (sym (unhandled here t s o (fatal_is o ∙ lives)))
     ∙ sym (delivery_writes here t s o (kills here t s o)) ∙ ap (λ p. (done_delivery here t s p).entered) (sym comes) ∙ sym (ap (λ (d : Done). d.entered) its.done)
 
 -- as the parts tell it
 pub frame_behind : (here : Here) (its : IsReceiving here) (o : Outcome) → refusal_of asked.Signal here ≡ None → (done_of asked.Signal here).interrupted ≡ Some o → is_some (killed_by o) ≡ false
     → (m : Parts) (t h s : ℕ) → t ≡ its.thread → s ≡ its.signal → (x y : Saved) → IsInterrupted here t h m x → y ≡ record x { pc = pc_after x.pc o }
     → (old new : List Write) → old ≡ writes_of (area_on here) o
-    → new ≡ old ++ frame_unless (killer_of (can_write_in m.pages) s y m.kernel.signals) y (mask_of t m.kernel.signals) → new ≡ (done_of asked.Signal here).entered
+    → new ≡ old ++ frame_of_delivery (killer_of (can_write_in m.pages) s y m.kernel.signals) t s y m.kernel.signals → new ≡ (done_of asked.Signal here).entered
 frame_behind here its o free is lives m t h s named same x y found file old new cleared added =
     let interrupted : y ≡ file_interrupted here its.thread o =
     file ∙ ap (λ (z : Saved). let w : Saved = record z { pc = pc_after z.pc o } in w) (found.file ∙ ap here.file named) in
     let has : area_on here ≡ area_here here its.thread = ap (option_and_then (area_here here)) its.at in
-    let there : old ++ frame_unless (killer_of (can_write_in m.pages) s y m.kernel.signals) y (mask_of t m.kernel.signals)
+    let there : old ++ frame_of_delivery (killer_of (can_write_in m.pages) s y m.kernel.signals) t s y m.kernel.signals
     ≡ writes_of (area_here here its.thread) o
-    ++ frame_unless (kills_unhandled here its.thread its.signal o) (file_interrupted here its.thread o) (mask_of its.thread here.kernel.signals) =
+    ++ frame_of_delivery (kills_unhandled here its.thread its.signal o) its.thread its.signal (file_interrupted here its.thread o) here.kernel.signals =
     rw (found.writable, found.signals, interrupted, named, same, cleared, has) refl in
     added ∙ there ∙ signal_foreseen here o free is lives its
-
--- a frame that is told, or none
-pub frame_there : (b : Bool) (ws vs : List Write) → Some vs ≡ cond b (Some ws) None → (b ≡ true) × (vs ≡ ws)
-frame_there true ws vs is = (refl, same_Some vs ws is)
-frame_there false ws vs is = absurd cc
-
-pub no_frame : (b : Bool) (ws : List Write) → None ≡ cond b (Some ws) None → b ≡ false
-no_frame true ws is = absurd cc
-no_frame false ws is = refl

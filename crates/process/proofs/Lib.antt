@@ -2,6 +2,7 @@ mod Callers
 mod Codes
 mod Common
 mod ConcurrencyIds
+mod Copied
 mod Decoding
 mod DoneEvent
 mod DrainEvent

@@ -5,7 +5,8 @@ use Rattle.mach_types.specs.declared.signal_words.ThreadSignals.{ThreadSignals}
 use Rattle.mach_types.specs.Kernel.Signals.{is_of}
 use Rattle.mach_types.specs.declared.sequences.Outcome.TheVariants as comes_to
 use Rattle.mach_types.specs.Kernel.SignalFrames.{entered}
-use Rattle.mach_types.specs.Kernel.Signals.{is_held, take_if, without_pending, without_signal}
+use Rattle.mach_types.specs.Kernel.Signals.{fault_of, is_held, take_if, without_pending, without_signal}
+use Rattle.mach_types.specs.declared.signal_words.Fault.{Fault}
 use Rattle.process.proofs.Interruptions.{file_is, is_fatal, lost_twice, none_written, written_both}
 
 -- SIGNALS
@@ -43,7 +44,7 @@ mask_taken t s u g = mask_over t s u g.threads
 -- THE HANDLER
 
 -- the signal that kills where the action is a handler
-pub killer_handler : (can_write : ℕ → Bool) (s : ℕ) (x : Saved) (g : Signalling) (made : Bool) → is_handler (action_of s g) ≡ true → can_write_frame can_write x ≡ made
+pub killer_handler : (can_write : ℕ → Bool) (s : ℕ) (x : Saved) (g : Signalling) (made : Bool) → is_handler (action_of s g) ≡ true → can_write_frame can_write (action_of s g) x ≡ made
     → killer_of can_write s x g ≡ cond (not made) (Some SIGSEGV) None
 killer_handler can_write s x g made handler may = rw (handler, may) refl
 
@@ -51,8 +52,8 @@ pub killer_default : (can_write : ℕ → Bool) (s : ℕ) (x : Saved) (g : Signa
 killer_default can_write s x g none = rw none refl
 
 -- where the process is to be killed nothing changes
-pub not_entered : (t h s killer : ℕ) (x : Saved) (m : Parts) → IsEntered t h s (Some killer) x x m m
-not_entered t h s killer x m = record {
+pub not_entered : (t h s killer : ℕ) (fault : Option Fault) (x : Saved) (m : Parts) → IsEntered t h s fault (Some killer) x x m m
+not_entered t h s killer fault x m = record {
   file = refl;
   pages = none_written m.pages;
   harts = λ k. lost_nothing (eqb k h) (slice_get m.harts.items k);
@@ -74,7 +75,7 @@ unhandled here t s (comes_to.Killed why) goes = cc
 unhandled here t s o goes = refl
 
 -- what is known once the thread was interrupted
-pub record IsHalfway (here : Here) (t h s : ℕ) (o : Outcome) (x x1 : Saved) (a : Option Area) (m m1 : Parts) : Type 0 where
+pub record IsHalfway (here : Here) (t h s : ℕ) (o : Outcome) (x x1 : Saved) (a : Option Area) (fault : Option Fault) (m m1 : Parts) : Type 0 where
   pub found : IsInterrupted here t h m x
   pub area : a ≡ area_of t (areas_by_number m.kernel.areas.items)
   pub comes : interruption (byte_in m.pages) (can_write_in m.pages) a x.pc ≡ o
@@ -82,8 +83,9 @@ pub record IsHalfway (here : Here) (t h s : ℕ) (o : Outcome) (x x1 : Saved) (a
   pub pages : IsWritten (writes_of a o) m.pages m1.pages
   pub harts : (k : ℕ) → slice_get m1.harts.items k ≡ option_map (lost_unless (eqb k h) (writes_of a o)) (slice_get m.harts.items k)
   pub signals : m1.kernel.signals ≡ without_pending t s m.kernel.signals
+  pub told : fault ≡ fault_of t s m.kernel.signals
 
-module _ (here : Here) (t h s : ℕ) (o : Outcome) (x x1 x2 : Saved) (a : Option Area) (m m1 m2 : Parts) (half : IsHalfway here t h s o x x1 a m m1) where
+module _ (here : Here) (t h s : ℕ) (o : Outcome) (x x1 x2 : Saved) (a : Option Area) (fault : Option Fault) (m m1 m2 : Parts) (half : IsHalfway here t h s o x x1 a fault m m1) where
   its_area : a ≡ area_here here t
   its_area = half.area ∙ half.found.area
 
@@ -100,14 +102,17 @@ module _ (here : Here) (t h s : ℕ) (o : Outcome) (x x1 x2 : Saved) (a : Option
   its_action : action_of s m1.kernel.signals ≡ action_of s here.kernel.signals
   its_action = ap (action_of s) its_signals
 
+  its_fault : fault ≡ fault_of t s here.kernel.signals
+  its_fault = half.told ∙ ap (fault_of t s) half.found.signals
+
   its_mask : mask_of t m1.kernel.signals ≡ mask_of t here.kernel.signals
   its_mask = ap (mask_of t) its_signals ∙ mask_taken t s t here.kernel.signals
 
-  so : (killer : Option ℕ) → IsEntered t h s killer x1 x2 m1 m2 → IsDoneSo here t x2 m m2 (handled_unless_killed here t s o killer)
+  so : (killer : Option ℕ) → IsEntered t h s fault killer x1 x2 m1 m2 → IsDoneSo here t x2 m m2 (handled_unless_killed here t s o killer)
   so None is =
       let ws = writes_of a o in
-      let vs = frame_writes x1 (mask_of t m1.kernel.signals) in
-      let all : ws ++ vs ≡ (handled_unless_killed here t s o None).entered = rw (its_area, its_mask, its_file) refl in
+      let vs = frame_writes s (action_of s m1.kernel.signals) fault x1 (mask_of t m1.kernel.signals) in
+      let all : ws ++ vs ≡ (handled_unless_killed here t s o None).entered = rw (its_area, its_mask, its_file, its_action, its_fault) refl in
       record {
         file = is.file ∙ rw (its_action, its_file, eq-eqb t t refl) refl;
         pages = subst (λ (us : List Write). IsWritten us m.pages m2.pages) all (written_both ws vs m.pages m1.pages m2.pages half.pages is.pages);
@@ -129,7 +134,7 @@ module _ (here : Here) (t h s : ℕ) (o : Outcome) (x x1 x2 : Saved) (a : Option
       }
 
   -- the whole, once it is known by which signal the process is to be killed
-  whole : (killer : Option ℕ) → killer ≡ kills here t s o → IsEntered t h s killer x1 x2 m1 m2 → IsDelivered here t s killer x2 m m2
+  whole : (killer : Option ℕ) → killer ≡ kills here t s o → IsEntered t h s fault killer x1 x2 m1 m2 → IsDelivered here t s killer x2 m m2
   whole killer dies is =
       let same : done_here here t s ≡ handled_unless_killed here t s o killer = ap (done_delivery here t s) its_outcome ∙ ap (handled_unless_killed here t s o) (sym dies) in
       let done : IsDoneSo here t x2 m m2 (done_here here t s) = subst (IsDoneSo here t x2 m m2) (sym same) (so killer is) in
@@ -143,7 +148,7 @@ module _ (here : Here) (t h s : ℕ) (o : Outcome) (x x1 x2 : Saved) (a : Option
 
   -- where the interruption found nothing bad, and where it did
   pub delivered_by : (killer : Option ℕ) → is_fatal o ≡ false → killer ≡ killer_of (can_write_in m1.pages) s x1 m1.kernel.signals → can_write_in m1.pages ≡ can_write_in m.pages
-      → IsEntered t h s killer x1 x2 m1 m2 → IsDelivered here t s killer x2 m m2
+      → IsEntered t h s fault killer x1 x2 m1 m2 → IsDelivered here t s killer x2 m m2
   delivered_by killer goes dies writable is =
       let there : can_write_in m1.pages ≡ is_writable here = writable ∙ half.found.writable in
       whole killer (dies ∙ rw (there, its_file, its_action) refl ∙ sym (unhandled here t s o goes)) is

@@ -80,16 +80,3 @@ pub planned_fault : (v : Stand) (h : ℕ) (next : Next) → IsPlanned v h next �
 planned_fault v h next plan =
     let f = (here_at v h).file plan.thread in
     subst IsSignal (sym plan.fault) (of_next (reached (here_at v h)) (is_storable (here_at v h)) f.pc (fetched v.setting.program.pages f.pc) (next_effect v.setting.program.pages f))
-
--- HANDLERS
-
--- an action that is a handler ignores nothing
-pub handler_heeds : (s : ℕ) (a : Action) → is_handler a ≡ true → is_ignored s a ≡ false
-handler_heeds s a is = go (eqb a.at 0) (eqb a.at 1) (is_ignored_by_default s) is
-  where
-    go : (default ignored by_default : Bool) → not (default || ignored) ≡ true → (ignored || (default && by_default)) ≡ false
-    go default ignored by_default is = grind arith
-
--- so its signal becomes pending
-pub posted_handler : (t s : ℕ) (g : Signalling) → is_handler (action_of s g) ≡ true → posted t s g ≡ with_pending t s g
-posted_handler t s g is = ap (λ b. cond b g (with_pending t s g)) (handler_heeds s (action_of s g) is)

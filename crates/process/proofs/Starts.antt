@@ -52,9 +52,9 @@ pub tied-start : (image : Image) (limits : Limits) (m : Parts) → All (λ p. Is
     ((a : ℕ) → held_in m.pages a ≡ cond (is_some (permission_of (start_runs image.pages.items) (a / 4096))) (Some (start_byte (program_of image) a)) None) →
     free_in m.pages + 65 + length image.pages.items ≡ limits.frames → break_in m.pages ≡ image.break_at → break_start_in m.pages ≡ image.break_at →
     length m.harts.items ≡ limits.harts → All (λ hart. hart ≡ idle_hart) m.harts.items →
-    m.kernel.threads ≡ start_table (start_file (program_of image)) → m.kernel.signals ≡ start_signalling → m.kernel.ready ≡ (first_kernel (setting_by image limits)).scheduling → m.kernel.registered ≡ none_registered → m.kernel.console ≡ [] → areas_by_number m.kernel.areas.items ≡ [] → IsTable m.kernel.threads → m.ended ≡ None →
+    m.kernel.threads ≡ start_table (start_file (program_of image)) → m.kernel.signals ≡ start_signalling → m.kernel.ready ≡ (first_kernel (setting_by image limits)).scheduling → m.kernel.registered ≡ none_registered → m.kernel.console ≡ [] → m.kernel.random ≡ 0 → areas_by_number m.kernel.areas.items ≡ [] → IsTable m.kernel.threads → m.ended ≡ None →
     IsTied (setting_by image limits) (plain_start (setting_by image limits)) m
-tied-start image limits m allowed permissions held free break_at break_start count idles threads signals ready registered console areas table ended = record {
+tied-start image limits m allowed permissions held free break_at break_start count idles threads signals ready registered console random areas table ended = record {
   all_harts = count;
   harts = λ h lt.
       let at = each idle_hart m.harts.items h idles (omega (arith, count)) in
@@ -78,6 +78,7 @@ tied-start image limits m allowed permissions held free break_at break_start cou
     areas = areas;
     barriers = registered;
     console = console;
+    random = random;
   };
   table = table;
   saved = λ u x is. saved_if (nat_eq 1 u) (start_file (program_of image)) x (ap (λ t. saved_of u t.saved) (sym threads) ∙ is);

@@ -93,6 +93,7 @@ calling v m h running harts x e place plan outside set all value is =
         pages = place.tied.pages;
         file = ap (λ (y : HartState). record { file = y.file; pc = y.pc }) own ∙ ap (file_on (here_at v h.0)) at;
         own = subst (IsOwnCall (here_at v h.0)) its (own_call v h.0 plan.thread (outside v plan.thread place plan.at) plan.own);
+        kept = place.tied.saved;
       };
       done = done_call (here_at v h.0) plan.thread plan.at (sym plan.fault) (sym plan.effect) (outside v plan.thread place plan.at) ∙ ap (λ t. by_call (here_at v h.0) (called (here_at v h.0) t)) its;
     }

@@ -5,6 +5,7 @@ use Rattle.mach_types.specs.declared.events.Tid.{Tid}
 use Rattle.mach_types.specs.declared.limits.End.{End}
 use Rattle.mach_types.specs.declared.limits.End.TheVariants.{Killed}
 use Rattle.mach_types.specs.declared.signal_words.Action.{Action}
+use Rattle.mach_types.specs.declared.signal_words.Fault.{Fault}
 use Rattle.mach_types.specs.declared.signals.TheConstants.{SIGSEGV}
 use Rattle.mach_types.specs.declared.threads.Saved.{Saved}
 use Rattle.mach_types.specs.declared.user_memory.Write.{Write}
@@ -41,7 +42,7 @@ HasSignals m h = (x : HartState) (t : Tid) → slice_get m.harts.items h ≡ Som
 abbrev pub killer_of : (ℕ → Bool) → ℕ → Saved → Signalling → Option ℕ
 killer_of can_write signal x g =
     if not (is_handler (action_of signal g)) then Some signal
-    else if not (can_write_frame can_write x) then Some SIGSEGV
+    else if not (can_write_frame can_write (action_of signal g) x) then Some SIGSEGV
     else None
 
 -- unless the process is to be killed: the file with which the handler starts, the writes of its frame, the signals once it was
@@ -50,9 +51,9 @@ abbrev pub file_unless : Option ℕ → ℕ → Action → Saved → Saved
 file_unless None signal a x = handler_file signal a x
 file_unless (Some killer) signal a x = x
 
-abbrev pub frame_unless : Option ℕ → Saved → ℕ → List Write
-frame_unless None x mask = frame_writes x mask
-frame_unless (Some killer) x mask = []
+abbrev pub frame_unless : Option ℕ → ℕ → Action → Option Fault → Saved → ℕ → List Write
+frame_unless None signal a fault x mask = frame_writes signal a fault x mask
+frame_unless (Some killer) signal a fault x mask = []
 
 abbrev pub signals_unless : Option ℕ → ℕ → ℕ → Signalling → Signalling
 signals_unless None t signal g = signals_handled t signal g
@@ -62,13 +63,17 @@ abbrev pub ended_unless : Option ℕ → Option End → Option End
 ended_unless None ended = ended
 ended_unless (Some killer) ended = Some (Killed killer)
 
--- thread t of hart h with file x entered the handler of a signal, unless the process is to be killed: this is its file then, and
--- the pages, the other harts and the signals have what was written
-pub record IsEntered (t h signal : ℕ) (killer : Option ℕ) (x x' : Saved) (m m' : Parts) : Type 0 where
+-- the frame of the handler of a signal, of a fault or of none, that thread t with this file enters, unless the process is to be killed
+abbrev pub entered_frame : Option ℕ → ℕ → ℕ → Option Fault → Saved → Signalling → List Write
+entered_frame killer t signal fault x g = frame_unless killer signal (action_of signal g) fault x (mask_of t g)
+
+-- thread t of hart h with file x entered the handler of a signal, of a fault or of none, unless the process is to be killed: this is
+-- its file then, and the pages, the other harts and the signals have what was written
+pub record IsEntered (t h signal : ℕ) (fault : Option Fault) (killer : Option ℕ) (x x' : Saved) (m m' : Parts) : Type 0 where
   pub file : x' ≡ file_unless killer signal (action_of signal m.kernel.signals) x
-  pub pages : IsWritten (frame_unless killer x (mask_of t m.kernel.signals)) m.pages m'.pages
+  pub pages : IsWritten (entered_frame killer t signal fault x m.kernel.signals) m.pages m'.pages
   pub harts : (k : ℕ) → slice_get m'.harts.items k
-      ≡ option_map (lost_unless (k == h) (frame_unless killer x (mask_of t m.kernel.signals))) (slice_get m.harts.items k)
+      ≡ option_map (lost_unless (k == h) (entered_frame killer t signal fault x m.kernel.signals)) (slice_get m.harts.items k)
   pub signals : m'.kernel.signals ≡ signals_unless killer t signal m.kernel.signals
 
 -- THE WHOLE DELIVERY

@@ -1,6 +1,7 @@
 pub mod Barriers
 pub mod Called
 pub mod ContextSwitch
+pub mod Copies
 pub mod Delivering
 pub mod EventOutcomes
 pub mod ExecGates

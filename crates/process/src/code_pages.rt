@@ -146,16 +146,19 @@ fn executable_word(page: Option<&ImagePage>, offset: u64) -> Option<u32>
     Some(word(&page.bytes, offset as usize))
 }
 
-/// The word of the return page at an offset that is a multiple of 4.
+/// The word of the return page at an offset that is a multiple of 4: `li a7, 139` and `ecall`, twice, and then
+/// zeros.
 fn return_word(offset: u64) -> u32
     requires aligned { offset % 4 ≡ 0 }
     requires within { offset < 4096 }
     ensures { result ≡ word_of return_byte offset }
 {
-    match offset {
-        0 => 0x08B0_0893,
-        4 => 0x0000_0073,
-        _ => 0,
+    if offset >= 16 {
+        0
+    } else if offset % 8 == 0 {
+        0x08B0_0893
+    } else {
+        0x0000_0073
     }
 }
 

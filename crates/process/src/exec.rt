@@ -13,6 +13,7 @@ ghost use Rattle.process.specs.Planned.{IsPlanned, IsInside, HasEntered, HasPlan
 ghost use Rattle.process.specs.Refinement.{IsAfter, IsAlone, IsPlace, HasCode, IsUncounted, answer_to};
 
 use crate::code::Code;
+use crate::faults::told_by;
 use crate::handlers::has_handler;
 use crate::next::{Next, effect_at, fault_of_next, is_free, next_of};
 use crate::parts::{Parts, entry_of};
@@ -24,7 +25,7 @@ use rv_inst::Effect;
 use sys_calls::{CallEnd, make_call};
 
 /// The kernel's writes to memory in a call, in order.
-pub type Written = ArrayVec<Write, 4>;
+pub type Written = ArrayVec<Write, 40>;
 
 impl Parts {
     /// The next instruction of the thread on a hart, where it may be executed, or the condition that fails.
@@ -63,19 +64,19 @@ impl Parts {
         self.exec_gate(hart, &next)
     }
 
-    /// A fault: its signal becomes pending for the thread where it has a handler, and else the process is killed by it. The event is
-    /// yet to be counted.
-    pub fn fault(&mut self, hart: Hart, signal: u8)
-        requires { (effect : Option Effect)
-            × HasPlan self.old hart.0 (record { effect = effect; fault = Some signal }) }
-        ensures { (effect : Option Effect)
-            → IsExecuted self.old hart.0 (record { effect = effect; fault = Some signal }) self.new }
+    /// A fault of an instruction with this effect, or where there is none: its signal becomes pending for the thread, which keeps
+    /// what the fault says, where it has a handler, and else the process is killed by it. The event is yet to be counted.
+    pub fn fault(&mut self, hart: Hart, effect: Option<Effect>, signal: u8)
+        requires { HasPlan self.old hart.0 (record { effect = effect; fault = Some signal }) }
+        ensures { IsExecuted self.old hart.0 (record { effect = effect; fault = Some signal }) self.new }
     {
         let state = &mut self.harts[hart.0 as usize];
         let entry = entry_of(hart, Kind::Exec, state);
+        let pc = state.pc;
         state.ran += 1;
         if has_handler(&self.kernel.signals, entry.tid, signal) {
-            self.kernel.signals.post(entry.tid, signal);
+            let fault = told_by(&self.pages, pc, effect.as_ref(), signal);
+            self.kernel.signals.post_fault(entry.tid, fault);
         } else {
             self.ended = Some(End::Killed(signal));
         }
@@ -211,7 +212,7 @@ impl Parts {
         ensures { IsExecuted self.old hart.0 next self.new }
     {
         match (next.fault, next.effect) {
-            (Some(signal), _) => self.fault(hart, signal),
+            (Some(signal), _) => self.fault(hart, next.effect, signal),
             (None, Some(Effect::Call)) => self.call(hart),
             (None, Some(effect)) => self.plain(hart, &effect),
             (None, None) => unreachable!(),

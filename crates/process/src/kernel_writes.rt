@@ -5,7 +5,7 @@ ghost use Rattle.std.specs.List.{list_any};
 ghost use Rattle.mach_types.specs.Kernel.Areas.{words_on};
 ghost use Rattle.mach_types.specs.Kernel.Areas as areas;
 ghost use Rattle.mach_types.specs.Kernel.Barriers.{harts_that};
-ghost use Rattle.mach_types.specs.Kernel.Signals.{is_held, mask_of};
+ghost use Rattle.mach_types.specs.Kernel.Signals.{fault_of, is_held};
 ghost use Rattle.mach_types.specs.declared.sequences.TheConstants.{RSEQ_CS};
 ghost use Rattle.mach_types.specs.declared.signals.TheConstants.{LAST_SIGNAL};
 ghost use Rattle.page_map.specs.Map.{can_write_in};
@@ -14,7 +14,7 @@ ghost use Rattle.block_model.specs.Events.Take.{killed_by};
 ghost use Rattle.block_model.specs.Here.{Here, is_writable};
 ghost use Rattle.block_model.specs.Sequences.{words_to};
 ghost use Rattle.block_model.specs.Stands.{Stand, here_at};
-ghost use Rattle.process.specs.Delivering.{frame_unless, killer_of};
+ghost use Rattle.process.specs.Delivering.{entered_frame, killer_of};
 ghost use Rattle.process.specs.Foresight.{foreseen_writes};
 ghost use Rattle.process.specs.Refinement.{IsPlace, MayMake};
 ghost use Rattle.process.specs.Sequences.{area_on, holds};
@@ -29,11 +29,11 @@ use signals::next_signal_is_the_lowest;
 use sys_calls::area_of;
 
 /// The kernel's writes to memory by an event other than a call, in order: at most the pointer of an area and a frame.
-pub type KernelWrites = ArrayVec<Write, 35>;
+pub type KernelWrites = ArrayVec<Write, 137>;
 
 /// Adds writes, for which there must be room.
 fn add(writes: &mut KernelWrites, more: &[Write])
-    requires { length writes.old.items + length more.now ≤ 35 }
+    requires { length writes.old.items + length more.now ≤ 137 }
     ensures { writes.new.items ≡ writes.old.items ++ more.now }
 {
     let _ = writes.try_extend_from_slice(more);
@@ -92,16 +92,18 @@ impl Parts {
         requires lowest { 1 ≤ signal }
         requires highest { signal ≤ LAST_SIGNAL }
         ensures { writes.new.items ≡ writes.old.items
-            ++ frame_unless (killer_of (can_write_in self.now.pages) signal saved.now self.now.kernel.signals)
-            saved.now (mask_of tid.0 self.now.kernel.signals) }
+            ++ entered_frame (killer_of (can_write_in self.now.pages) signal saved.now self.now.kernel.signals)
+            tid.0 signal (fault_of tid.0 signal self.now.kernel.signals) saved.now self.now.kernel.signals }
     {
         if !is_handler(self.kernel.signals.action(signal)) {
             return;
         }
-        let Some(frame) = self.kernel.signals.frame_writes(&self.pages, tid, saved) else {
+        let signals = &self.kernel.signals;
+        let fault = signals.fault_of(tid, signal);
+        let Some(frame) = signals.frame_writes(&self.pages, tid, signal, fault, saved) else {
             return;
         };
-        add(writes, &frame);
+        add(writes, frame.as_slice());
     }
 
     /// The writes by a `signal` on a hart: these of an interruption that comes to this and kills nothing, and behind them those of

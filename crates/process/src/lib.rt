@@ -4,9 +4,11 @@
 
 mod code;
 mod code_pages;
+mod copying;
 mod drain;
 mod exec;
 mod exec_gate;
+mod faults;
 mod foresight;
 mod free;
 mod handlers;
@@ -28,6 +30,7 @@ mod signal_delivery;
 mod starting;
 
 pub use code::Code;
+pub use copying::copies_are_tied;
 pub use exec::Written;
 pub use handlers::is_handler;
 pub use hart_view::HartView;

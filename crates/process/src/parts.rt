@@ -23,7 +23,8 @@ pub struct Parts {
     pub pages: PageMap,
     /// The harts, by number.
     pub harts: Vec<HartState>,
-    /// The threads, the signals, the ready list, the areas, the registrations for barriers and the console.
+    /// The threads, the signals, the ready list, the areas, the registrations for barriers, the console and the generator of random
+    /// bytes.
     pub kernel: Kernel,
     /// How the run has ended, if it has.
     pub ended: Option<End>,

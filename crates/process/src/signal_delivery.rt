@@ -4,7 +4,7 @@
 ghost use Rattle.std.specs.Prelude.{◌≡◌, ◌<◌, ◌≤◌, ℕ, true, false, Some, IsTrue, length};
 ghost use Rattle.mach_types.specs.Registers.{register};
 ghost use Rattle.mach_types.specs.Kernel.Signals.{action_of, is_handler, is_held, is_ignored, refuses_action};
-ghost use Rattle.mach_types.specs.declared.signals.TheConstants.{LAST_SIGNAL, SIGNAL_FRAME_SIZE};
+ghost use Rattle.mach_types.specs.declared.signals.TheConstants.{LAST_SIGNAL};
 ghost use Rattle.page_map.specs.Map.{can_write_in};
 ghost use Rattle.block_model.specs.Events.Signal.{dropped_if_ignored};
 ghost use Rattle.block_model.specs.Here.{Here};
@@ -17,8 +17,8 @@ ghost use Rattle.process.specs.Refinement.{HasPlace, IsEvent, IsRefusal, IsTied,
 use crate::handlers::is_handler;
 use crate::interrupt::pc_after;
 use crate::parts::{Parts, entry_of};
-use mach_types::signals::{SIGNAL_FRAME_SIZE, SIGSEGV};
-use mach_types::{Choice, End, Hart, Kind, Outcome, Saved, Tid, Why, Write};
+use mach_types::signals::SIGSEGV;
+use mach_types::{Choice, End, Fault, Hart, Kind, Outcome, Saved, Tid, Why, Write};
 use signals::{Signals, next_signal_is_the_lowest};
 use sys_calls::area_of;
 
@@ -33,14 +33,14 @@ fn has_all_registers(saved: &Saved)
     let _ = registers.len();
 }
 
-/// A write to the bytes of the frame of a handler that starts with this file. What is written there is of no matter to those who
-/// lose their reservations of it.
-fn frame_of(saved: &Saved) -> Write
-    ensures { result ≡ Write.Zeroed (register saved.now.file 2) SIGNAL_FRAME_SIZE }
+/// A write to the bytes of the frame, so many, of a handler that starts with this file. What is written there is of no matter to
+/// those who lose their reservations of it.
+fn frame_of(saved: &Saved, length: u64) -> Write
+    ensures { result ≡ Write.Zeroed (register saved.now.file 2) length }
 {
     Write::Zeroed {
         at: saved.file.get(SP),
-        length: SIGNAL_FRAME_SIZE,
+        length,
     }
 }
 
@@ -91,28 +91,36 @@ impl Parts {
         }
     }
 
-    /// A thread with this file enters the handler of a signal. Where its frame can't be written nothing changes, and the signal is
-    /// answered by which the process is to be killed.
-    fn enter_handler(&mut self, hart: Hart, tid: Tid, signal: u8, saved: &mut Saved) -> Option<u8>
+    /// A thread with this file enters the handler of a signal, of a fault or of none. Where its frame can't be written nothing
+    /// changes, and the signal is answered by which the process is to be killed.
+    fn enter_handler(
+        &mut self,
+        hart: Hart,
+        tid: Tid,
+        signal: u8,
+        fault: Option<Fault>,
+        saved: &mut Saved,
+    ) -> Option<u8>
         requires held { IsTrue (is_held tid.0 self.old.kernel.signals) }
         requires lowest { 1 ≤ signal }
         requires highest { signal ≤ LAST_SIGNAL }
         requires handler { IsTrue (is_handler (action_of signal self.old.kernel.signals)) }
         ensures killer { result
             ≡ killer_of (can_write_in self.old.pages) signal saved.old self.old.kernel.signals }
-        ensures entered { IsEntered tid.0 hart.0 signal result saved.old saved.new self.old self.new }
+        ensures entered { IsEntered tid.0 hart.0 signal fault result saved.old saved.new self.old self.new }
         ensures others { self.new.kernel ≡ record self.old.kernel { signals = self.new.kernel.signals } }
         ensures ended { self.new.ended ≡ self.old.ended }
     {
         has_all_registers(saved);
+        let size = self.kernel.signals.frame_size(signal);
         if !self
             .kernel
             .signals
-            .push_frame(&mut self.pages, tid, signal, saved)
+            .push_frame(&mut self.pages, tid, signal, fault, saved)
         {
             return Some(SIGSEGV);
         }
-        self.lose(hart, &[frame_of(saved)]);
+        self.lose(hart, &[frame_of(saved, size)]);
         drop_if_ignored(&mut self.kernel.signals, signal);
         None
     }
@@ -123,6 +131,7 @@ impl Parts {
         hart: Hart,
         tid: Tid,
         signal: u8,
+        fault: Option<Fault>,
         saved: &mut Saved,
     ) -> Option<u8>
         requires held { IsTrue (is_held tid.0 self.old.kernel.signals) }
@@ -130,14 +139,14 @@ impl Parts {
         requires highest { signal ≤ LAST_SIGNAL }
         ensures killer { result
             ≡ killer_of (can_write_in self.old.pages) signal saved.old self.old.kernel.signals }
-        ensures entered { IsEntered tid.0 hart.0 signal result saved.old saved.new self.old self.new }
+        ensures entered { IsEntered tid.0 hart.0 signal fault result saved.old saved.new self.old self.new }
         ensures others { self.new.kernel ≡ record self.old.kernel { signals = self.new.kernel.signals } }
         ensures ended { self.new.ended ≡ self.old.ended }
     {
         if !is_handler(self.kernel.signals.action(signal)) {
             return Some(signal);
         }
-        self.enter_handler(hart, tid, signal, saved)
+        self.enter_handler(hart, tid, signal, fault, saved)
     }
 
     /// A signal is delivered to a thread of a hart with this file: it isn't pending any more, the thread is interrupted, and then
@@ -151,6 +160,7 @@ impl Parts {
         ensures others { self.new.kernel ≡ record self.old.kernel { signals = self.new.kernel.signals } }
         ensures ended { self.new.ended ≡ self.old.ended }
     {
+        let fault = self.kernel.signals.fault_of(tid, signal);
         self.kernel.signals.take_pending(tid, signal);
         let area = area_of(&self.kernel, tid);
         let outcome = self.interrupted(hart, area, saved.pc);
@@ -158,7 +168,7 @@ impl Parts {
         match outcome {
             Outcome::Killed(_) => Some(SIGSEGV),
             Outcome::Nothing | Outcome::Cleared | Outcome::Aborted(_) => {
-                self.enter_unless_killed(hart, tid, signal, saved)
+                self.enter_unless_killed(hart, tid, signal, fault, saved)
             }
         }
     }

@@ -64,8 +64,8 @@ fn rest_all(harts: &mut Vec<HartState>)
     rest(harts);
 }
 
-/// Thread 1 alone, ready with `start`, on so many harts: no signal, no area, no registration, and nothing
-/// on the console.
+/// Thread 1 alone, ready with `start`, on so many harts: no signal, no area, no registration, nothing on
+/// the console, and the generator of random bytes at its first state.
 fn restart_kernel(kernel: &mut Kernel, start: Saved, harts: u8)
     requires some_hart { 1 ≤ harts }
     requires eight_harts { harts ≤ 8 }
@@ -76,6 +76,7 @@ fn restart_kernel(kernel: &mut Kernel, start: Saved, harts: u8)
     ensures areas { kernel.new.areas.items ≡ [] }
     ensures registered { kernel.new.registered ≡ none_registered }
     ensures console { kernel.new.console ≡ [] }
+    ensures random { kernel.new.random ≡ 0 }
 {
     kernel.threads.reset(start);
     kernel.signals.reset();
@@ -87,6 +88,7 @@ fn restart_kernel(kernel: &mut Kernel, start: Saved, harts: u8)
         rseq: false,
     };
     kernel.console.clear();
+    kernel.random = 0;
 }
 
 impl Parts {
@@ -118,6 +120,7 @@ impl Parts {
             areas,
             registered,
             console,
+            random: 0,
         };
         Ok(Parts {
             pages,

@@ -8,4 +8,4 @@ mod usage;
 
 pub use keeping::{Keep, Keeping, KeepingShelf};
 pub use messages::{AtHand, OUT_OF_MEMORY, brief, explain};
-pub use usage::usage_text;
+pub use usage::{answer_text, usage_text};

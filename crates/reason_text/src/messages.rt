@@ -1,4 +1,4 @@
-//! The text of a reason, for a person: one line or two. The usage follows where there is no word, or help is asked for.
+//! The text of a reason, for a person: one line or two. The usage follows where there is no word.
 
 mod lines;
 mod nearest;

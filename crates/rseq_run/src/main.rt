@@ -1,12 +1,16 @@
 //! `rseq_run`: runs a RISC-V program on a machine of several harts, and prints its console, its log or its
 //! gathered log, and how it ended; or what came of each line of its log; or its acts, or how many of each form
 //! each hart made; or the place that a script comes to; or the different outcomes of many runs. Or it runs two
-//! programs together by a script, and prints both consoles, the log, and how each process and the pair ended.
+//! programs together by a script, and prints both consoles, the log, and how each process and the pair ended. Words that
+//! ask for help or for the version are no command, and are answered before.
 #![tactic(auto)]
 
 use call_reasons::{Explained, Fault, Reason};
+use command_words::{Question, question_of};
 use outside::{FileShelf, Meter, MeteredSink, OpenGate, OutSink};
-use reason_text::{AtHand, Keep, Keeping, KeepingShelf, OUT_OF_MEMORY, brief, explain, usage_text};
+use reason_text::{
+    AtHand, Keep, Keeping, KeepingShelf, OUT_OF_MEMORY, answer_text, brief, explain, usage_text,
+};
 use std::alloc::Global;
 use std::env;
 use std::io::{self, ErrorKind, IsTerminal};
@@ -20,6 +24,9 @@ use top_call::rseq_explained;
 
 /// The most bytes of a file that are kept for a message, where it can be read again.
 const MOST_KEPT: usize = 1_048_576;
+
+/// The exit status of a call that wrote its output.
+const DONE: u8 = 0;
 
 /// What is kept of the files of the system.
 #[derive(Drop)]
@@ -39,13 +46,41 @@ impl<R: Files> Keeping for SystemKeeping<R> {
 /// Where the words can't be taken, nothing is printed on standard output.
 fn main(rt: HostRuntime) -> ExitCode {
     match system_words(&rt) {
-        Ok(words) => {
-            let meter = Meter::new(rt, rt.stderr().is_terminal());
-            ExitCode::from(answer(rt.alloc(), &rt, &words, meter))
-        }
+        Ok(words) => ExitCode::from(match question_of(&words) {
+            Some(question) => reply(rt.alloc(), &rt, question, &words),
+            None => {
+                let meter = Meter::new(rt, rt.stderr().is_terminal());
+                answer(rt.alloc(), &rt, &words, meter)
+            }
+        }),
         Err(fault) => {
             say_fault(rt.alloc(), &rt, fault);
             ExitCode::from(fault.status())
+        }
+    }
+}
+
+/// Prints the answer to a question on standard output, and gives the exit status: that of a command that wrote its output,
+/// or that of want of memory, or of an output that couldn't be written.
+fn reply<R: Print + Eprint>(alloc: Global, rt: &R, question: Question, words: &[String]) -> u8 {
+    let command = match words.first() {
+        Some(word) => word.as_str(),
+        None => "",
+    };
+    let Ok(text) = answer_text(alloc, question, command) else {
+        say(rt, OUT_OF_MEMORY);
+        return Fault::Memory.status();
+    };
+    match rt.print(text.as_str()) {
+        Ok(()) => DONE,
+        Err(error) => {
+            let reason = Reason::Unwritten {
+                trouble: Some(error.kind()),
+            };
+            let status = reason.status();
+            let at_hand = AtHand { words, script: &[] };
+            say_reason(alloc, rt, &Some(reason), at_hand);
+            status
         }
     }
 }

@@ -27,7 +27,7 @@ same_itself s p = record {
   harts = λ h lt. refl;
   files = λ t kept. refl;
   pages = record { permissions = λ n. refl; bytes = λ a. refl; free = refl; break_at = refl };
-  tables = record { threads = refl; signals = refl; scheduling = refl; areas = refl; barriers = refl; console = refl };
+  tables = record { threads = refl; signals = refl; scheduling = refl; areas = refl; barriers = refl; console = refl; random = refl };
   over = refl;
 }
 

@@ -40,6 +40,7 @@ tied_same s n p q m same tied = record {
     areas = tied.tables.areas ∙ sym same.tables.areas;
     barriers = tied.tables.barriers ∙ sym same.tables.barriers;
     console = tied.tables.console ∙ sym same.tables.console;
+    random = tied.tables.random ∙ sym same.tables.random;
   };
   table = tied.table;
   saved = λ u x at. tied.saved u x at ∙ sym (same.files u (ap (rests u) (sym tied.tables.threads) ∙ rests_kept u x m.kernel.threads tied.table at));
@@ -68,6 +69,7 @@ same_tied s n p q m first second = record {
     areas = sym second.tables.areas ∙ first.tables.areas;
     barriers = sym second.tables.barriers ∙ first.tables.barriers;
     console = sym second.tables.console ∙ first.tables.console;
+    random = sym second.tables.random ∙ first.tables.random;
   };
   over = sym second.ended ∙ first.ended;
 }
@@ -109,6 +111,7 @@ same_same s p q r a b = record {
     areas = b.tables.areas ∙ a.tables.areas;
     barriers = b.tables.barriers ∙ a.tables.barriers;
     console = b.tables.console ∙ a.tables.console;
+    random = b.tables.random ∙ a.tables.random;
   };
   over = b.over ∙ a.over;
 }

@@ -43,8 +43,8 @@ pub record HasSamePages (p q : Plain) : Type 0 where
   pub free : q.kernel.pages.free ≡ p.kernel.pages.free
   pub break_at : q.kernel.pages.break_at ≡ p.kernel.pages.break_at
 
--- the kernel's tables are the same: threads, signals, ready list and affinities, areas, registrations, and
--- the bytes on the console
+-- the kernel's tables are the same: threads, signals, ready list and affinities, areas, registrations, the
+-- bytes on the console, and the state of the generator of random bytes
 pub record HasSameTables (k j : Kernel) : Type 0 where
   pub threads : j.threads ≡ k.threads
   pub signals : j.signals ≡ k.signals
@@ -52,6 +52,7 @@ pub record HasSameTables (k j : Kernel) : Type 0 where
   pub areas : j.areas ≡ k.areas
   pub barriers : j.barriers ≡ k.barriers
   pub console : j.console ≡ k.console
+  pub random : j.random ≡ k.random
 
 -- q is the same place as p: each hart, each thread that rests, the pages and the tables are the same, and the
 -- run has ended in the same way, or in neither

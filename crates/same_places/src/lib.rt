@@ -13,6 +13,6 @@ mod theorems;
 mod trying;
 
 pub use choices::{all_choices_are_listed, choices_at};
-pub use replaying::replay;
+pub use replaying::{play_on, replay};
 pub use theorems::{closed_places_are_complete, searched_places_are_closed};
 pub use trying::try_choice;

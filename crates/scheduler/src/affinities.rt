@@ -69,6 +69,14 @@ impl Affinities {
         self.rising = true;
     }
 
+    /// The entries of other threads, in place of its own. It takes no memory.
+    pub fn copy_from(&mut self, other: &Affinities)
+        ensures { self.new ≡ other.now }
+    {
+        entry_list::copy(&mut self.entries, &other.entries);
+        self.rising = other.rising;
+    }
+
     /// The entries.
     pub fn entries(&self) -> &[Entry]
         ensures { result.now ≡ self.now }

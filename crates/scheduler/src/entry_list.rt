@@ -19,6 +19,14 @@ pub type Entry = (u32, u8);
 /// Entries, of which no two have the same number.
 pub type Entries = ArrayVec<Entry, ROOM>;
 
+/// Gives a list the entries of another.
+pub fn copy(entries: &mut Entries, other: &Entries)
+    ensures { entries.new.items ≡ other.now.items }
+{
+    entries.clear();
+    let _ = entries.try_extend_from_slice(other);
+}
+
 /// Where the first entry of a thread stands.
 pub fn place_in(entries: &[Entry], tid: u32) -> Option<usize>
     ensures { result ≡ position (is_of tid) entries.now }

@@ -64,6 +64,14 @@ impl Ready {
         self.affinities.reset(set);
     }
 
+    /// The threads of another list, in place of its own. It takes no memory.
+    pub fn copy_from(&mut self, other: &Ready)
+        ensures { self.new ≡ other.now }
+    {
+        entry_list::copy(&mut self.order, &other.order);
+        self.affinities.copy_from(&other.affinities);
+    }
+
     /// Holds a new thread, with its parent's harts. It isn't ready.
     pub fn add(&mut self, parent: Tid, tid: Tid)
         requires parent { IsTrue (is_held parent.0 self.old) }

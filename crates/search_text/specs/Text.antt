@@ -1,6 +1,11 @@
 -- The text of what a search found (own). Characters are ASCII codes, and numbers are decimal.
-use Rattle.std.specs.Prelude.{ℕ, ◌+◌, ◌<◌, ◌&&◌, ◌==◌, Bool, true, false, not, All, List, [], ◌∷◌, ◌++◌, length, codes}
+use Rattle.std.specs.Prelude.{ℕ, ◌+◌, ◌<◌, ◌&&◌, ◌==◌, Bool, if◌then◌else◌, true, false, not, All, List, [], ◌∷◌, ◌++◌, length, codes}
+use Rattle.std.specs.List.{list_any}
 use Rattle.mach_types.specs.declared.events.Entry.{Entry}
+use Rattle.mach_types.specs.declared.limits.End.{End}
+use Rattle.draw_policies.specs.declared.outcome_keys.OutcomeKey.{OutcomeKey}
+use Rattle.draw_policies.specs.declared.outcome_keys.OutcomeKey.TheVariants.{ByText, ByEnd}
+use Rattle.found_outcomes.specs.Found.{same_end}
 use Rattle.found_outcomes.specs.declared.findings.Closing.{Closing}
 use Rattle.found_outcomes.specs.declared.findings.Closing.TheVariants.{Complete, Within, Places, Deep, Memory}
 use Rattle.found_outcomes.specs.declared.findings.Findings.{Findings}
@@ -16,15 +21,40 @@ abbrev pub script_text : Bool → List Entry → List ℕ
 script_text true log = number_line (codes "script") (length log) ++ log_text log
 script_text false log = []
 
+-- the console of an outcome, where outcomes are told apart by it
+abbrev pub console_part : OutcomeKey → List ℕ → List ℕ
+console_part ByText console = console_text console
+console_part ByEnd console = []
+
 -- an outcome of this number: how the run ends, what it leaves on the console, and its script
-abbrev pub outcome_text : Bool → ℕ → OutcomeFound → List ℕ
-outcome_text scripts number o =
-    number_line (codes "outcome") number ++ end_line o.end ++ console_text o.console ++ script_text scripts o.log.items
+abbrev pub outcome_text : OutcomeKey → Bool → ℕ → OutcomeFound → List ℕ
+outcome_text apart scripts number o =
+    number_line (codes "outcome") number ++ end_line o.end ++ console_part apart o.console ++ script_text scripts o.log.items
+
+-- whether one of the outcomes has this end
+abbrev pub has_end : End → List OutcomeFound → Bool
+has_end end os = list_any (λ (o : OutcomeFound). same_end o.end end) os
+
+-- whether an outcome is printed after these: where ends alone are told apart, only the first with its end is
+abbrev pub is_printed : OutcomeKey → List OutcomeFound → OutcomeFound → Bool
+is_printed ByText before o = true
+is_printed ByEnd before o = not (has_end o.end before)
+
+-- those of some outcomes that are printed, where these stand before them
+abbrev pub printed_of : OutcomeKey → List OutcomeFound → List OutcomeFound → List OutcomeFound
+printed_of apart before [] = []
+printed_of apart before (o ∷ more) =
+    if is_printed apart before o then o ∷ printed_of apart (before ++ o ∷ []) more
+    else printed_of apart (before ++ o ∷ []) more
+
+abbrev pub printed : OutcomeKey → List OutcomeFound → List OutcomeFound
+printed apart os = printed_of apart [] os
 
 -- these outcomes, where so many stand before them
-abbrev pub outcomes_text : Bool → ℕ → List OutcomeFound → List ℕ
-outcomes_text scripts before [] = []
-outcomes_text scripts before (o ∷ more) = outcome_text scripts (before + 1) o ++ outcomes_text scripts (before + 1) more
+abbrev pub outcomes_text : OutcomeKey → Bool → ℕ → List OutcomeFound → List ℕ
+outcomes_text apart scripts before [] = []
+outcomes_text apart scripts before (o ∷ more) =
+    outcome_text apart scripts (before + 1) o ++ outcomes_text apart scripts (before + 1) more
 
 -- why the search ended; a number of preemptions is said where runs with more were left out
 abbrev pub closing_line : Closing → List ℕ
@@ -64,9 +94,10 @@ places_text signals scripts found =
     ++ endings_text scripts found.closing found.endless found.hopeless ++ signals_line signals
 
 -- the whole text
-unfoldable pub findings_text : Signals → Bool → Findings → List ℕ
-findings_text signals scripts found =
-    number_line (codes "outcomes") (length found.outcomes.items) ++ outcomes_text scripts 0 found.outcomes.items
+unfoldable pub findings_text : OutcomeKey → Signals → Bool → Findings → List ℕ
+findings_text apart signals scripts found =
+    number_line (codes "outcomes") (length (printed apart found.outcomes.items))
+    ++ outcomes_text apart scripts 0 (printed apart found.outcomes.items)
     ++ places_text signals scripts found ++ closing_line found.closing
 
 -- the number of each hart in a log is one digit

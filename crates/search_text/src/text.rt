@@ -1,11 +1,12 @@
 //! The text of what a search found.
 
-ghost use Rattle.std.specs.Prelude.{◌≡◌, ◌++◌, All, IfOk, OnOk};
-ghost use Rattle.search_text.specs.Text.{AreDigits, HasDigits, closing_line, endings_text, endless_line, findings_text, hopeless_text, outcome_text, outcomes_text, places_text, script_text, signals_line};
+ghost use Rattle.std.specs.Prelude.{◌≡◌, ◌++◌, All, IfOk, OnOk, length};
+ghost use Rattle.search_text.specs.Text.{AreDigits, HasDigits, closing_line, endings_text, endless_line, findings_text, hopeless_text, console_part, has_end, is_printed, outcome_text, outcomes_text, places_text, printed, script_text, signals_line};
 
+use draw_policies::OutcomeKey;
 use found_outcomes::{Closing, Findings, HopelessPlaces, OutcomeFound};
 use log_lines::push_lines;
-use mach_types::Entry;
+use mach_types::{End, Entry};
 use place_text::{push_console, push_end, push_number_line};
 use search_reductions::Signals;
 use std::alloc::{AllocError, Global};
@@ -19,32 +20,69 @@ use std::alloc::{AllocError, Global};
 pub fn findings_text(
     alloc: Global,
     findings: &Findings,
+    apart: OutcomeKey,
     signals: Signals,
     scripts: bool,
 ) -> Result<Vec<u8>, AllocError>
     requires outcomes { All HasDigits findings.now.outcomes.items }
     requires nearest { AreDigits findings.now.hopeless.nearest.items }
-    ensures { IfOk result (λ text. text.items ≡ findings_text signals scripts findings.now) }
+    ensures { IfOk result (λ text. text.items ≡ findings_text apart signals scripts findings.now) }
 {
     let mut text = Vec::new(alloc);
-    push_number_line(&mut text, b"outcomes", findings.outcomes.len())?;
-    push_outcomes(&mut text, &findings.outcomes, scripts)?;
+    let count = count_printed(&findings.outcomes, apart);
+    push_number_line(&mut text, b"outcomes", count)?;
+    push_outcomes(&mut text, &findings.outcomes, apart, scripts)?;
     push_places(&mut text, findings, signals, scripts)?;
     push_closing(&mut text, findings.closing)?;
     Ok(text)
 }
 
-/// Appends the outcomes, numbered from 1.
+/// Whether one of the outcomes has this end.
+fn has_end(end: End, outcomes: &[OutcomeFound]) -> bool
+    ensures { result ≡ has_end end outcomes.now }
+{
+    outcomes.iter().any(|outcome| outcome.end == end)
+}
+
+/// Whether an outcome is printed after these: where ends alone are told apart, only the first with its end is.
+fn is_printed(outcome: &OutcomeFound, before: &[OutcomeFound], apart: OutcomeKey) -> bool
+    ensures { result ≡ is_printed apart before.now outcome.now }
+{
+    match apart {
+        OutcomeKey::ByText => true,
+        OutcomeKey::ByEnd => !has_end(outcome.end, before),
+    }
+}
+
+/// How many of the outcomes are printed.
+fn count_printed(outcomes: &[OutcomeFound], apart: OutcomeKey) -> usize
+    ensures { result ≡ length (printed apart outcomes.now) }
+{
+    let mut count = 0;
+    for (place, outcome) in outcomes.iter().enumerate() {
+        if is_printed(outcome, &outcomes[..place], apart) {
+            count += 1;
+        }
+    }
+    count
+}
+
+/// Appends the outcomes that are printed, numbered from 1.
 fn push_outcomes(
     text: &mut Vec<u8>,
     outcomes: &[OutcomeFound],
+    apart: OutcomeKey,
     scripts: bool,
 ) -> Result<(), AllocError>
     requires { All HasDigits outcomes.now }
-    ensures { OnOk result (text.new.items ≡ text.old.items ++ outcomes_text scripts 0 outcomes.now) }
+    ensures { OnOk result (text.new.items ≡ text.old.items ++ outcomes_text apart scripts 0 (printed apart outcomes.now)) }
 {
-    for (before, outcome) in outcomes.iter().enumerate() {
-        push_outcome(text, before + 1, outcome, scripts)?;
+    let mut number = 0;
+    for (place, outcome) in outcomes.iter().enumerate() {
+        if is_printed(outcome, &outcomes[..place], apart) {
+            number += 1;
+            push_outcome(text, number, outcome, apart, scripts)?;
+        }
     }
     Ok(())
 }
@@ -54,15 +92,30 @@ fn push_outcome(
     text: &mut Vec<u8>,
     number: usize,
     outcome: &OutcomeFound,
+    apart: OutcomeKey,
     scripts: bool,
 ) -> Result<(), AllocError>
     requires { HasDigits outcome.now }
-    ensures { OnOk result (text.new.items ≡ text.old.items ++ outcome_text scripts number outcome.now) }
+    ensures { OnOk result (text.new.items ≡ text.old.items ++ outcome_text apart scripts number outcome.now) }
 {
     push_number_line(text, b"outcome", number)?;
     push_end(text, outcome.end)?;
-    push_console(text, outcome.console.bytes())?;
+    push_console_part(text, outcome.console.bytes(), apart)?;
     push_script(text, &outcome.log, scripts)
+}
+
+/// Appends the console, where outcomes are told apart by it.
+fn push_console_part(
+    text: &mut Vec<u8>,
+    console: &[u8],
+    apart: OutcomeKey,
+) -> Result<(), AllocError>
+    ensures { OnOk result (text.new.items ≡ text.old.items ++ console_part apart console.now) }
+{
+    match apart {
+        OutcomeKey::ByText => push_console(text, console),
+        OutcomeKey::ByEnd => Ok(()),
+    }
 }
 
 /// Appends how many lines the log has, and its lines, where scripts are printed.

@@ -1,7 +1,8 @@
 -- What an own event of a process does at two places that differ in what stands beside it. Each such pair of
 -- deeds is one of these; a law of own events goes over them, and tells no kinds apart.
 use Rattle.mach_types.specs.Events.{is_run as runs_one}
-use Rattle.mach_types.specs.Kernel.Signals.{with_pending}
+use Rattle.mach_types.specs.Kernel.Signals.{with_fault}
+use Rattle.block_model.specs.Events.Exec.{fault_told}
 use Rattle.mach_types.specs.declared.events.Choice.TheVariants as asked
 use Rattle.mach_types.specs.declared.limits.End.TheVariants.{Killed}
 use Rattle.block_model.specs.Events.Exec.{one_instruction}
@@ -64,7 +65,7 @@ module _ (x : Here) (p q : Around) where
   module _ (kept : private p.reserved ≡ private q.reserved) where
     fault_deeds : (t signal : ℕ) → OwnDeeds (by_fault a t signal) (by_fault b t signal)
     fault_deeds t signal =
-        let pending = signalled (with_pending t signal x.kernel.signals) x.kernel in
+        let pending = signalled (with_fault t (fault_told x t signal) x.kernel.signals) x.kernel in
         either (has_handler x t signal) _ _ _ _ (Keeps (record (one_instruction x) { kernel = pending }) kept)
         (Keeps (record (one_instruction x) { ended = Some (Killed signal) }) kept)
 

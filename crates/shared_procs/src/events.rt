@@ -89,13 +89,11 @@ fn plain(mine: &mut Half, other: &mut Half, segment: &mut Segment, hart: Hart, e
 }
 
 /// A fault, which the other process doesn't see.
-fn fault(mine: &mut Parts, other: &mut Parts, hart: Hart, signal: u8)
-    requires { (effect : Option Effect)
-        × HasStep hart.0 (record { effect = effect; fault = Some signal }) mine.old other.old }
-    ensures { (effect : Option Effect)
-        → IsSteppedAt hart.0 (record { effect = effect; fault = Some signal }) mine.old other.old mine.new other.new }
+fn fault(mine: &mut Parts, other: &mut Parts, hart: Hart, effect: Option<Effect>, signal: u8)
+    requires { HasStep hart.0 (record { effect = effect; fault = Some signal }) mine.old other.old }
+    ensures { IsSteppedAt hart.0 (record { effect = effect; fault = Some signal }) mine.old other.old mine.new other.new }
 {
-    mine.fault(hart, signal);
+    mine.fault(hart, effect, signal);
     unseen(other, hart);
 }
 
@@ -105,7 +103,7 @@ fn perform(mine: &mut Half, other: &mut Half, segment: &mut Segment, hart: Hart,
     ensures { IsPerformedAt hart.0 next mine.old other.old segment.old mine.new other.new segment.new }
 {
     match (next.fault, next.effect) {
-        (Some(signal), _) => fault(&mut mine.parts, &mut other.parts, hart, signal),
+        (Some(signal), _) => fault(&mut mine.parts, &mut other.parts, hart, next.effect, signal),
         (None, Some(Effect::Call)) => call(&mut mine.parts, &mut other.parts, hart),
         (None, Some(effect)) => plain(mine, other, segment, hart, &effect),
         (None, None) => unreachable!(),

@@ -4,7 +4,8 @@ use Rattle.std.specs.List.{list_any}
 use Rattle.std.specs.Option.{option_map, option_map_or}
 use Rattle.std.proofs.lemmas.Bool.Decides.{Decides-eqb, nat_tests}
 use Rattle.mach_types.proofs.Laws.{changed_other, changed_same, filtered_other, found_at_end, not_at_end}
-use Rattle.mach_types.specs.Kernel.Signals.{Signalling, action_of, forget, is_held, is_ignored, is_of, joined, less, mask_of, new_thread, only, pending_of, posted, with_mask, with_pending, with_thread, without_pending, without_signal}
+use Rattle.mach_types.specs.Kernel.Signals.{Signalling, action_of, forget, is_held, is_ignored, is_of, joined, less, mask_of, new_thread, newest_fault, fault_by, fault_of, only, pending_of, posted, with_fault, with_mask, with_pending, with_thread, without_fault, without_pending, without_signal}
+use Rattle.mach_types.specs.declared.signal_words.Fault.{Fault}
 use Rattle.mach_types.specs.declared.signal_words.ThreadSignals.{ThreadSignals}
 
 -- the entry of a thread
@@ -36,6 +37,13 @@ with_mask-other t u mask g other = ap mask_in (other_entry t u (λ th. record th
 
 pub with_pending-other : (t u s : ℕ) (g : Signalling) → u ≢ t → pending_of u (with_pending t s g) ≡ pending_of u g
 with_pending-other t u s g other = ap pending_in (other_entry t u (λ th. record th { pending = joined th.pending (only s) }) (λ th. refl) g other)
+
+-- the entry of a thread that faults
+abbrev pub faulting : Fault → ThreadSignals → ThreadSignals
+faulting f th = record th { pending = joined th.pending (only f.signal); fault = Some f }
+
+pub with_fault-other : (t u : ℕ) (f : Fault) (g : Signalling) → u ≢ t → pending_of u (with_fault t f g) ≡ pending_of u g
+with_fault-other t u f g other = ap pending_in (other_entry t u (faulting f) (λ th. refl) g other)
 
 pub posted-other : (t u s : ℕ) (g : Signalling) → u ≢ t → pending_of u (posted t s g) ≡ pending_of u g
 posted-other t u s g other =
@@ -75,6 +83,37 @@ with_pending-own t s g held =
     let entry = held_entry t g.threads held in
     let f : ThreadSignals → ThreadSignals = λ th. record th { pending = joined th.pending (only s) } in
     ap pending_in (own_entry t f (λ th. refl) g ∙ ap (option_map f) entry.1) ∙ sym (ap (λ o. joined (pending_in o) (only s)) entry.1)
+
+pub with_fault-own : (t : ℕ) (f : Fault) (g : Signalling) → is_held t g ≡ true → pending_of t (with_fault t f g) ≡ joined (pending_of t g) (only f.signal)
+with_fault-own t f g held =
+    let entry = held_entry t g.threads held in
+    ap pending_in (own_entry t (faulting f) (λ th. refl) g ∙ ap (option_map (faulting f)) entry.1) ∙ sym (ap (λ o. joined (pending_in o) (only f.signal)) entry.1)
+
+-- what an entry's fault says of a signal
+abbrev fault_in : ℕ → Option ThreadSignals → Option Fault
+fault_in s o = fault_by s (option_map_or (λ th. th.fault) o None)
+
+same_signal : (f : Fault) → fault_by f.signal (Some f) ≡ Some f
+same_signal f = ap (λ b. cond b (Some f) None) ((Decides-eqb f.signal f.signal).1 refl)
+
+pub fault-own : (t : ℕ) (f : Fault) (g : Signalling) → is_held t g ≡ true → fault_of t f.signal (with_fault t f g) ≡ Some f
+fault-own t f g held =
+    let entry = held_entry t g.threads held in
+    ap (fault_in f.signal) (own_entry t (faulting f) (λ th. refl) g ∙ ap (option_map (faulting f)) entry.1) ∙ same_signal f
+
+-- a fault that isn't of a signal says nothing of it
+none_left : (s : ℕ) (o : Option Fault) → fault_by s (without_fault s o) ≡ None
+none_left s None = refl
+none_left s (Some f) = go (eqb f.signal s) refl
+  where
+    go : (b : Bool) → eqb f.signal s ≡ b → fault_by s (cond b None (Some f)) ≡ None
+    go true e = refl
+    go false e = ap (λ b. cond b (Some f) None) e
+
+pub fault-taken : (t s : ℕ) (g : Signalling) → is_held t g ≡ true → fault_of t s (without_pending t s g) ≡ None
+fault-taken t s g held =
+    let entry = held_entry t g.threads held in
+    ap (fault_in s) (own_entry t (without_signal s) (λ th. refl) g ∙ ap (option_map (without_signal s)) entry.1) ∙ none_left s entry.0.fault
 
 pub posted-own : (t s : ℕ) (g : Signalling) → is_held t g ≡ true → is_ignored s (action_of s g) ≡ false → pending_of t (posted t s g) ≡ joined (pending_of t g) (only s)
 posted-own t s g held heeded = ap (λ b. pending_of t (cond b g (with_pending t s g))) heeded ∙ with_pending-own t s g held

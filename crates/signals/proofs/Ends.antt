@@ -1,21 +1,37 @@
 -- A run of bytes that would pass the last address can be neither written nor read.
-use Rattle.std.proofs.Common.{◌≡◌, ℕ, ◌+◌, ◌*◌, ◌<◌, ◌≤◌, ◌⊎◌, inl, inr, Bool, true, false, ◌&&◌, Option, Some, None, zero, suc, refl, ap, ◌∙◌, subst, arith}
-use Rattle.std.specs.Option.{IsSome}
+use Rattle.std.proofs.Common.{◌≡◌, ◌≢◌, ℕ, eqb, ◌+◌, ◌*◌, ◌<◌, ◌≤◌, ◌⊎◌, inl, inr, Bool, true, false, cond, ◌&&◌, Option, Some, None, zero, suc, refl, ap, ◌∙◌, subst, arith}
+use Rattle.std.specs.Option.{IsSome, option_map}
 use Rattle.std.proofs.lemmas.Bool.{false≢true}
+use Rattle.std.proofs.lemmas.Bool.Decides.{nat_tests}
 use Rattle.std.proofs.Math.Nat.{eq-or-lt_of_le}
 use Rattle.mach_types.specs.Bytes.{each_byte, joined, word_at}
-use Rattle.mach_types.specs.Kernel.SignalFrames.{can_write_frame, frame_at, frame_read, stack_pointer, words_at, word_before}
+use Rattle.mach_types.specs.Kernel.SignalFrames.{can_write_frame, frame_at, frame_read, frame_size, returns_with_info, stack_pointer, wants_info, without_info, words_at, word_before}
+use Rattle.mach_types.specs.declared.signal_words.Action.{Action}
 use Rattle.mach_types.specs.declared.threads.Saved.{Saved}
-use Rattle.signals.specs.Writing.{can_write_words}
+use Rattle.signals.specs.Writing.{can_write_words, word_count}
 
--- a frame is 34 words
-pub frame_is_words : (test : ℕ → Bool) (saved : Saved) → can_write_frame test saved ≡ can_write_words test (frame_at (stack_pointer saved)) 34
+-- a frame has 34 words, or with SA_SIGINFO 136
+pub bytes_of_words : (a : Action) → frame_size a ≡ 8 * word_count a
+bytes_of_words a = elim (wants_info a) as (λ b. cond b 1088 272 ≡ 8 * cond b 136 34) [ true ↦ refl | false ↦ refl ]
+
+pub frame_is_words : (test : ℕ → Bool) (a : Action) (saved : Saved) → can_write_frame test a saved ≡ can_write_words test (frame_at a (stack_pointer saved)) (word_count a)
 unfolding can_write_frame can_write_words
-frame_is_words test saved = refl
+frame_is_words test a saved = ap (each_byte test (frame_at a (stack_pointer saved))) (bytes_of_words a)
 
-pub frame_read_is_words : (byte : ℕ → Option ℕ) (saved : Saved) → frame_read byte saved ≡ words_at byte (stack_pointer saved) 34
+pub frame_read_is_words : (byte : ℕ → Option ℕ) (saved : Saved) → returns_with_info saved ≡ false → frame_read byte saved ≡ words_at byte (stack_pointer saved) 34
 unfolding frame_read
-frame_read_is_words byte saved = refl
+frame_read_is_words byte saved plain =
+    ap (λ b. cond b (option_map without_info (words_at byte (stack_pointer saved) 136)) (words_at byte (stack_pointer saved) 34)) plain
+
+pub frame_read_is_info : (byte : ℕ → Option ℕ) (saved : Saved) → returns_with_info saved ≡ true
+    → frame_read byte saved ≡ option_map without_info (words_at byte (stack_pointer saved) 136)
+unfolding frame_read
+frame_read_is_info byte saved informed =
+    ap (λ b. cond b (option_map without_info (words_at byte (stack_pointer saved) 136)) (words_at byte (stack_pointer saved) 34)) informed
+
+-- a test of two numbers that differ
+pub unequal : (n m : ℕ) → n ≢ m → eqb n m ≡ false
+unequal n m other = grind (arith, nat_tests)
 
 -- what can't be read can't be written
 pub not_writable : (b : Bool) (o : Option ℕ) → (b ≡ true → IsSome o) → o ≡ None → b ≡ false

@@ -9,8 +9,9 @@ use Rattle.std.proofs.lemmas.Map.Keys.{IsDistinct-push}
 use Rattle.std.proofs.lemmas.List.{length-set}
 use Rattle.mach_types.proofs.Laws.{map_filters, map_stays}
 use Rattle.mach_types.specs.Kernel.SignalFrames.{entered, entered_action, handler_mask, restored_mask, returned}
-use Rattle.mach_types.specs.Kernel.Signals.{Signalling, acted, action_of, changed_mask, dropped, forget, is_held, is_ignored, is_of, joined, mask_of, new_thread, only, posted, set_action, start_signalling, with_action, with_mask, with_pending, with_thread, without_pending, without_signal}
+use Rattle.mach_types.specs.Kernel.Signals.{Signalling, acted, action_of, changed_mask, dropped, forget, is_held, is_ignored, is_of, joined, mask_of, new_thread, only, posted, set_action, start_signalling, with_action, with_fault, with_mask, with_pending, with_thread, without_pending, without_signal}
 use Rattle.mach_types.specs.declared.signal_words.Action.{Action}
+use Rattle.mach_types.specs.declared.signal_words.Fault.{Fault}
 use Rattle.mach_types.specs.declared.signal_words.ThreadSignals.{ThreadSignals}
 use Rattle.mach_types.proofs.Laws.{AllByRecursion-filter, AllByRecursion-map, AllByRecursion-push, IsDistinct-filter, IsDistinct-one}
 use Rattle.signals.proofs.Lists.{numbers_turned}
@@ -91,6 +92,10 @@ mask-holds t how signals g whole = with_mask-holds t (changed_mask how signals (
 
 pub with_pending-holds : (t s : ℕ) (g : Signalling) → IsSignalling g → IsSignalling (with_pending t s g)
 with_pending-holds t s g whole = one_changed t (λ th. record th { pending = joined th.pending (only s) }) (λ th. refl) (λ th had. had) g whole
+
+pub with_fault-holds : (t : ℕ) (f : Fault) (g : Signalling) → IsSignalling g → IsSignalling (with_fault t f g)
+with_fault-holds t f g whole =
+    one_changed t (λ th. record th { pending = joined th.pending (only f.signal); fault = Some f }) (λ th. refl) (λ th had. had) g whole
 
 pub posted-holds : (t s : ℕ) (g : Signalling) → IsSignalling g → IsSignalling (posted t s g)
 posted-holds t s g whole =

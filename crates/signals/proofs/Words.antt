@@ -121,34 +121,31 @@ nothing_left first byte at i words e left a =
 -- THE WRITES OF WORDS
 
 -- the writes of the first i words are there
-abbrev pub StoredSoFar : ℕ → List ℕ → List Write → ℕ → Type 0
-StoredSoFar at words writes i = words_stored at words ≡ take i writes ++ words_stored (at + 8 * i) (drop i words)
+abbrev pub PushedSoFar : ℕ → List ℕ → List Write → ℕ → Type 0
+PushedSoFar at words writes i = words_stored at words ≡ writes ++ words_stored (at + 8 * i) (drop i words)
 
-pub none_stored : (at : ℕ) (words : List ℕ) (writes : List Write) → StoredSoFar at words writes 0
-none_stored at words writes =
+pub none_pushed : (at : ℕ) (words : List ℕ) → PushedSoFar at words [] 0
+none_pushed at words =
     let here : at ≡ at + 8 * 0 = omega arith in
     ap (λ a. words_stored a words) here
 
-pub one_stored : (at : ℕ) (words : List ℕ) (writes : List Write) (i : ℕ) → i < length words → i < length writes → StoredSoFar at words writes i
-    → StoredSoFar at words (set writes i (Stored (record { at = at + 8 * i; size = 8; value = get_or words i 0 }))) (i + 1)
-one_stored at words writes i inside room so_far =
+pub one_pushed : (at : ℕ) (words : List ℕ) (writes : List Write) (i : ℕ) → i < length words → PushedSoFar at words writes i
+    → PushedSoFar at words (writes ++ Stored (record { at = at + 8 * i; size = 8; value = get_or words i 0 }) ∷ []) (i + 1)
+one_pushed at words writes i inside so_far =
     let w : Write = Stored (record { at = at + 8 * i; size = 8; value = get_or words i 0 }) in
     let rest = drop (i + 1) words in
     let next : at + 8 * i + 8 ≡ at + 8 * (i + 1) = omega arith in
     let more : suc i ≡ i + 1 = omega arith in
     let split : drop i words ≡ get_or words i 0 ∷ rest = drop-cons words i 0 inside ∙ ap (λ n. get_or words i 0 ∷ drop n words) more in
-    let longer : take (i + 1) (set writes i w) ≡ take i writes ++ w ∷ [] = ap (λ n. take n (set writes i w)) (sym more) ∙ take-suc-set writes i w room in
-    so_far ∙ ap (λ ws. take i writes ++ words_stored (at + 8 * i) ws) split
-    ∙ ap (λ a. take i writes ++ w ∷ words_stored a rest) next
-    ∙ sym (append_assoc (take i writes) (w ∷ []) (words_stored (at + 8 * (i + 1)) rest))
-    ∙ ap (λ ws. ws ++ words_stored (at + 8 * (i + 1)) rest) (sym longer)
+    so_far ∙ ap (λ ws. writes ++ words_stored (at + 8 * i) ws) split
+    ∙ ap (λ a. writes ++ w ∷ words_stored a rest) next
+    ∙ sym (append_assoc writes (w ∷ []) (words_stored (at + 8 * (i + 1)) rest))
 
-pub all_stored : (at : ℕ) (words : List ℕ) (writes : List Write) (i : ℕ) → length words ≡ i → length writes ≡ i → StoredSoFar at words writes i
+pub all_pushed : (at : ℕ) (words : List ℕ) (writes : List Write) (i : ℕ) → length words ≡ i → PushedSoFar at words writes i
     → writes ≡ words_stored at words
-all_stored at words writes i e f so_far =
+all_pushed at words writes i e so_far =
     let none : drop i words ≡ [] = ap (λ n. drop n words) (sym e) ∙ drop-length words in
-    sym (so_far ∙ ap (λ ws. take i writes ++ words_stored (at + 8 * i) ws) none
-    ∙ append-nil (take i writes) ∙ ap (λ n. take n writes) (sym f) ∙ take-length writes)
+    sym (so_far ∙ ap (λ ws. writes ++ words_stored (at + 8 * i) ws) none ∙ append-nil writes)
 
 -- WORDS THAT ARE READ
 

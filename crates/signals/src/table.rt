@@ -1,6 +1,6 @@
 //! The table of actions, masks and pending signals.
 
-ghost use Rattle.std.specs.Prelude.{◌≡◌, ℕ, is_some, ◌≤◌, ◌<◌, ◌↔◌, if◌then◌else◌, false, length, IsTrue, IsErr, IfErr, IfOk, OnOk, OnErr};
+ghost use Rattle.std.specs.Prelude.{◌≡◌, ℕ, is_some, ◌≤◌, ◌<◌, ◌↔◌, if◌then◌else◌, false, length, IsTrue, IsErr, IfErr, IfOk, IfSome, OnOk, OnErr};
 ghost use Rattle.std.specs.Bool.{OnTrue, OnFalse};
 ghost use Rattle.mach_types.specs.Kernel.SignalFrames as frame;
 ghost use Rattle.mach_types.specs.Kernel.Signals as spec;
@@ -15,7 +15,7 @@ use crate::threads::{self, ROOM};
 use arrayvec::ArrayVec;
 use mach_types::errors::EINVAL;
 use mach_types::signals::{LAST_SIGNAL, SIG_BLOCK, SIG_SETMASK, SIG_UNBLOCK};
-use mach_types::{Action, Errno, Saved, ThreadSignals, Tid, UserMem};
+use mach_types::{Action, Errno, Fault, Saved, ThreadSignals, Tid, UserMem};
 use std::marker::Model;
 
 /// The actions of the signals 1 to 31, and the mask and the pending signals of each thread that is held, at
@@ -90,6 +90,15 @@ impl Signals {
         self.threads.clear();
         self.threads.push(threads::new_entry(1, 0));
         self.may_be_pending = false;
+    }
+
+    /// The actions and the threads of another table, in place of its own. It takes no memory.
+    pub fn copy_from(&mut self, other: &Signals)
+        ensures { self.new ≡ other.now }
+    {
+        self.actions = other.actions;
+        threads::copy(&mut self.threads, &other.threads);
+        self.may_be_pending = other.may_be_pending;
     }
 
     /// Holds a new thread, with its parent's mask and nothing pending (clone(2), signal(7)).
@@ -215,6 +224,26 @@ impl Signals {
         }
     }
 
+    /// A thread faults: the signal of the fault, 1 to 31, is pending for it, with what the fault says. Its action must be a
+    /// handler: none that ignores it is asked.
+    pub fn post_fault(&mut self, tid: Tid, fault: Fault)
+        requires held { IsTrue (spec.is_held tid.0 self.old) }
+        requires lowest { 1 ≤ fault.signal }
+        requires highest { fault.signal ≤ LAST_SIGNAL }
+        ensures { self.new ≡ spec.with_fault tid.0 fault self.old }
+    {
+        threads::post_fault(&mut self.threads, tid.0, fault);
+        self.may_be_pending = true;
+    }
+
+    /// What the pending signal of a thread says of its fault; None where it was posted, and where it isn't pending.
+    pub fn fault_of(&self, tid: Tid, sig: u8) -> Option<Fault>
+        requires { IsTrue (spec.is_held tid.0 self.now) }
+        ensures { result ≡ spec.fault_of tid.0 sig self.now }
+    {
+        threads::fault_of(&self.threads, tid.0, sig)
+    }
+
     /// The lowest signal that is pending for a thread and that it doesn't mask; None exactly where there is
     /// none.
     pub fn next_for(&self, tid: Tid) -> Option<u8>
@@ -240,8 +269,8 @@ impl Signals {
         self.may_be_pending = threads::is_any_pending(&self.threads);
     }
 
-    /// Enters the handler of a signal, 1 to 31, in a thread with this file: the frame is written below its
-    /// stack, the file becomes that with which the handler starts, the signal and those of the action are
+    /// Enters the handler of a signal, 1 to 31, of a fault or of none, in a thread with this file: the frame is written
+    /// below its stack, the file becomes that with which the handler starts, the signal and those of the action are
     /// masked, and with SA_RESETHAND the action becomes the default. What is pending stays (sigaction(2)).
     ///
     /// False exactly where the frame can't be written, and then nothing changes.
@@ -250,29 +279,32 @@ impl Signals {
         mem: &mut M,
         tid: Tid,
         sig: u8,
+        fault: Option<Fault>,
         saved: &mut Saved,
     ) -> bool
         requires held { IsTrue (spec.is_held tid.0 self.old) }
         requires lowest { 1 ≤ sig }
         requires highest { sig ≤ LAST_SIGNAL }
         requires handler { IsTrue (spec.is_handler (spec.action_of sig self.old)) }
-        ensures answer { result ≡ frame.can_write_frame (M.can_write mem.old) saved.old }
+        ensures answer { result
+            ≡ frame.can_write_frame (M.can_write mem.old) (spec.action_of sig self.old) saved.old }
         ensures signals { OnTrue result (self.new ≡ frame.entered tid.0 sig self.old) }
         ensures same_signals { OnFalse result (self.new ≡ self.old) }
         ensures file { OnTrue result
             (saved.new ≡ frame.handler_file sig (spec.action_of sig self.old) saved.old) }
         ensures same_file { OnFalse result (saved.new ≡ saved.old) }
         ensures bytes { (a : ℕ) → M.byte mem.new a
-            ≡ frame.after_frame result (frame.frame_writes saved.old (spec.mask_of tid.0 self.old))
+            ≡ frame.after_frame result
+            (frame.frame_writes sig (spec.action_of sig self.old) fault saved.old (spec.mask_of tid.0 self.old))
             (M.byte mem.old) a }
         ensures permissions { (a : ℕ) → M.can_write mem.new a ≡ M.can_write mem.old a }
         ensures alike { M.IsAlike mem.old mem.new }
     {
         let mask = self.mask_of(tid);
-        if !frames::write(mem, saved, mask) {
+        let action = self.action(sig);
+        if !frames::write(mem, sig, action, fault, saved, mask) {
             return false;
         }
-        let action = self.action(sig);
         *saved = frames::handler_file(sig, action, saved);
         threads::set_mask(&mut self.threads, tid.0, handler_mask(sig, action, mask));
         actions::set_action(&mut self.actions, sig, entered_action(action));
@@ -281,12 +313,32 @@ impl Signals {
 
     /// The writes that [`Signals::push_frame`] makes to the stack of a thread with this file, in its order; None
     /// exactly where it would answer false. Nothing is written.
-    pub fn frame_writes<M: UserMem>(&self, mem: &M, tid: Tid, saved: &Saved) -> Option<FrameWrites>
-        requires { IsTrue (spec.is_held tid.0 self.now) }
-        ensures { result ≡ (if frame.can_write_frame (M.can_write mem.now) saved.now
-            then Some (frame.frame_writes saved.now (spec.mask_of tid.0 self.now)) else None) }
+    pub fn frame_writes<M: UserMem>(
+        &self,
+        mem: &M,
+        tid: Tid,
+        sig: u8,
+        fault: Option<Fault>,
+        saved: &Saved,
+    ) -> Option<FrameWrites>
+        requires held { IsTrue (spec.is_held tid.0 self.now) }
+        requires lowest { 1 ≤ sig }
+        requires highest { sig ≤ LAST_SIGNAL }
+        ensures answer { is_some result
+            ≡ frame.can_write_frame (M.can_write mem.now) (spec.action_of sig self.now) saved.now }
+        ensures writes { IfSome result (λ writes. writes.items ≡ frame.frame_writes sig (spec.action_of sig self.now)
+            fault saved.now (spec.mask_of tid.0 self.now)) }
     {
-        frames::frame_writes(mem, saved, self.mask_of(tid))
+        frames::frame_writes(mem, sig, self.action(sig), fault, saved, self.mask_of(tid))
+    }
+
+    /// How many bytes the frame of the handler of a signal, 1 to 31, has.
+    pub fn frame_size(&self, sig: u8) -> u64
+        requires lowest { 1 ≤ sig }
+        requires highest { sig ≤ LAST_SIGNAL }
+        ensures { result ≡ frame.frame_size (spec.action_of sig self.now) }
+    {
+        frames::frame_size(self.action(sig))
     }
 
     /// Returns from a handler: a thread goes on with the file and the mask in the frame at its stack pointer

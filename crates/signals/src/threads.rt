@@ -1,13 +1,13 @@
 //! The threads that are held, each with its mask and what is pending for it.
 
-ghost use Rattle.std.specs.Prelude.{◌≡◌, ◌≤◌, ◌==◌, not, map, filter, find};
+ghost use Rattle.std.specs.Prelude.{◌≡◌, ◌≤◌, ◌==◌, None, not, map, filter, find};
 ghost use Rattle.std.specs.List.{list_any};
 ghost use Rattle.std.specs.Option.{option_map_or};
 ghost use Rattle.mach_types.specs.Kernel.Signals as spec;
 
 use crate::sets::{joined, less, only};
 use arrayvec::ArrayVec;
-use mach_types::{MOST_THREADS, ThreadSignals};
+use mach_types::{Fault, MOST_THREADS, ThreadSignals};
 
 /// How many threads can be held.
 pub const ROOM: usize = MOST_THREADS as usize;
@@ -20,7 +20,16 @@ pub fn new_entry(tid: u32, mask: u64) -> ThreadSignals
         tid,
         mask,
         pending: 0,
+        fault: None,
     }
+}
+
+/// Gives a list the threads of another.
+pub fn copy(threads: &mut ArrayVec<ThreadSignals, ROOM>, other: &ArrayVec<ThreadSignals, ROOM>)
+    ensures { threads.new.items ≡ other.now.items }
+{
+    threads.clear();
+    let _ = threads.try_extend_from_slice(other);
 }
 
 /// A thread's entry.
@@ -59,6 +68,26 @@ pub fn pending_of(threads: &[ThreadSignals], tid: u32) -> u64
     match entry_of(threads, tid) {
         Some(entry) => entry.pending,
         None => 0,
+    }
+}
+
+/// What a fault says, where it is of this signal.
+fn fault_by(fault: Option<Fault>, sig: u8) -> Option<Fault>
+    ensures { result ≡ spec.fault_by sig fault }
+{
+    match fault {
+        Some(said) if said.signal == sig => Some(said),
+        Some(_) | None => None,
+    }
+}
+
+/// What the newest fault of a thread says, where it is of this signal; None also where the thread isn't held.
+pub fn fault_of(threads: &[ThreadSignals], tid: u32, sig: u8) -> Option<Fault>
+    ensures { result ≡ spec.fault_by sig (option_map_or (λ th. th.fault) (find (spec.is_of tid) threads.now) None) }
+{
+    match entry_of(threads, tid) {
+        Some(entry) => fault_by(entry.fault, sig),
+        None => None,
     }
 }
 
@@ -114,14 +143,58 @@ pub fn post(threads: &mut [ThreadSignals], tid: u32, sig: u8)
     }
 }
 
-/// An entry without a pending signal.
+/// An entry, with a fault where it is the thread's.
+fn with_fault(entry: ThreadSignals, tid: u32, fault: Fault) -> ThreadSignals
+    requires lowest { 1 ≤ fault.signal }
+    requires highest { fault.signal ≤ 31 }
+    ensures { result ≡ spec.fault_if tid fault entry }
+{
+    if entry.tid == tid {
+        let pending = joined(entry.pending, only(fault.signal));
+        ThreadSignals {
+            pending,
+            fault: Some(fault),
+            ..entry
+        }
+    } else {
+        entry
+    }
+}
+
+/// Makes the signal of a fault, 1 to 31, pending for a thread, with what the fault says.
+pub fn post_fault(threads: &mut [ThreadSignals], tid: u32, fault: Fault)
+    requires lowest { 1 ≤ fault.signal }
+    requires highest { fault.signal ≤ 31 }
+    ensures { threads.new ≡ map (spec.fault_if tid fault) threads.old }
+{
+    for entry in threads.iter_mut() {
+        *entry = with_fault(*entry, tid, fault);
+    }
+}
+
+/// What a fault says, unless it is of this signal.
+fn without_fault(fault: Option<Fault>, sig: u8) -> Option<Fault>
+    ensures { result ≡ spec.without_fault sig fault }
+{
+    match fault {
+        Some(said) if said.signal != sig => Some(said),
+        Some(_) | None => None,
+    }
+}
+
+/// An entry without a pending signal, and without what its fault said.
 fn without_signal(entry: ThreadSignals, sig: u8) -> ThreadSignals
     requires lowest { 1 ≤ sig }
     requires highest { sig ≤ 31 }
     ensures { result ≡ spec.without_signal sig entry }
 {
     let pending = less(entry.pending, only(sig));
-    ThreadSignals { pending, ..entry }
+    let fault = without_fault(entry.fault, sig);
+    ThreadSignals {
+        pending,
+        fault,
+        ..entry
+    }
 }
 
 /// An entry, without a pending signal where it is the thread's.

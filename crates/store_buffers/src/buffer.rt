@@ -88,6 +88,16 @@ impl StoreBuffer {
         self.ring.pop_front()
     }
 
+    /// Holds the stores that wait in another buffer, in place of its own. It takes no memory.
+    pub fn copy_from(&mut self, other: &StoreBuffer)
+        ensures { self.new ≡ other.now }
+    {
+        self.ring.clear();
+        let (front, back) = other.ring.as_slices();
+        let _ = self.ring.fill_from_slice(front);
+        let _ = self.ring.fill_from_slice(back);
+    }
+
     /// The little-endian number of `size` bytes as the hart sees them: each byte is that of the youngest
     /// waiting store that has it, else memory's. None exactly where memory can't be read there.
     pub fn look<M: UserMem>(&self, mem: &M, at: u64, size: u8) -> Option<u64>

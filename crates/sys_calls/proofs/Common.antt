@@ -7,7 +7,8 @@ pub use Rattle.block_model.specs.Calls.Barriers.{answers, membarrier, running_ha
 pub use Rattle.block_model.specs.Calls.Cloning.{are_flags, child_file, clone, clone_child_cleartid, clone_child_settid, clone_parent_settid, has_flag, may_write, with_new_child}
 pub use Rattle.block_model.specs.Calls.Console.{Span, all_readable, bytes_from, bytes_of, is_elsewhere, room, spans_at, total, write, write_spans, writev, wrote}
 pub use Rattle.block_model.specs.Calls.Ending.{clearing, clears, ended_with, exit_group, is_last, last_exits, one_exits, woken_at_exit}
-pub use Rattle.block_model.specs.Calls.Futexes.{Woken, answered_wait, counted, futex, futex_errors, futex_requeue, futex_wait, futex_wake, is_wait, is_wake, move, nobody, operation, requeue, requeue_errors, wait_errors, wake, woken_first}
+pub use Rattle.block_model.specs.Calls.Futexes.{Woken, answered_wait, counted, futex, futex_errors, futex_requeue, futex_wait, futex_wake, is_wait, is_wake, move, nobody, requeue, requeue_errors, wait_errors, wake, woken_first}
+pub use Rattle.mach_types.specs.Kernel.Futexes.{operation}
 pub use Rattle.block_model.specs.Calls.Memory.{are_mapping_flags, changed_unless, mapped_or_refused, may_break, mmap, mprotect, permission_here, taken_by, unless_refused, zeros_if_mapped}
 pub use Rattle.block_model.specs.Calls.Sequences.{registers, registers_or_refused, rseq, unregisters, unregisters_or_refused}
 pub use Rattle.block_model.specs.Calls.Signals.{action_given, action_written, broken_wait, is_below_one, masked, post, refuses_signal, resumed, rt_sigaction, rt_sigprocmask, rt_sigreturn, send, tgkill, tkill, waits_in_vain, with_posted}

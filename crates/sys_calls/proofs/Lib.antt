@@ -1,4 +1,5 @@
 pub mod ActionWords
+pub mod AdviceCalls
 mod AreaRegistration
 pub mod AreaWords
 pub mod Barriers
@@ -16,6 +17,7 @@ pub mod KernelWrites
 pub mod Laws
 pub mod LimitWords
 pub mod PageCalls
+pub mod RandomWrites
 pub mod SignalPosting
 pub mod Spans
 pub mod TablesAfterCalls

@@ -360,6 +360,15 @@ zeros_grown old new first end first_is end_is more ws is =
     is ∙ (λ i. zeros_of (run (first_is i) (end_is i - first_is i) (Some 6)) ∷ [])
     ∙ sym (grown_run old new (omega (arith, first_is, end_is)) (omega (arith, first_is, end_is)))
 
+-- the pages that munmap takes
+pub taken_unmapping : (h : Here) (t : ℕ) (m : Map) → HasPages h m → (at len : ℕ) → at ≡ argument h t 0 → len ≡ argument h t 1
+    → (o : Option Errno) → o ≡ munmap_refusal (permission_in m) at len → call_number h t ≡ 215
+    → unless_refused o (run (at / 4096) (pages_of len) None) ≡ taken_by (call_number h t) h t
+taken_unmapping h t m has at len at_is len_is o is number =
+    let refusal : o ≡ munmap_refusal (permission_here h) (argument h t 0) (argument h t 1) =
+    is ∙ (λ i. munmap_refusal (permissions_are h m has i) (at_is i) (len_is i)) in
+    (λ i. unless_refused (refusal i) (run (at_is i / 4096) (pages_of (len_is i)) None)) ∙ sym (ap (λ (n : ℕ). taken_by n h t) number)
+
 -- the pages that mprotect takes
 pub taken_protecting : (h : Here) (t : ℕ) (m : Map) → HasPages h m → (at len perm : ℕ) → at ≡ argument h t 0 → len ≡ argument h t 1
     → IsProtOf perm (argument h t 2) → (o : Option Errno) → o ≡ mprotect_refusal (permission_in m) at len perm → call_number h t ≡ 226

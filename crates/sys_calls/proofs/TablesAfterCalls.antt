@@ -1,6 +1,6 @@
 -- A call keeps what agrees in the tables. There is a place for any tables, page map and registers: so what each place says of a call
 -- holds of it.
-use Rattle.sys_calls.proofs.Common.{◌≡◌, ℕ, zero, suc, ◌+◌, ◌/◌, ◌%◌, ◌<◌, ◌≤◌, ◌&&◌, true, false, leb, ltb, List, [], ◌∷◌, Option, Some, None, refl, sym, ap, subst, ◌∙◌, inl, inr, arith, cases_lt, eq-eqb, le-leb, le-ltb, lt-leb, lt-ltb, option_map, option_map_or, PageRun, permission_of, CallEnd, HoldsTables, IsTables, Kernel, Saved, running_on, Map, break_in, break_start_in, free_in, held_in, permission_in, called, running_harts, Here, id_of, HasPages, IsMade, HoldSignals, cond-false, cond-true, and_right, Page, byte_at, page_in, page_in-past, first_kernel, IsAgreed, agreed_called, IsAt, HoldAreas}
+use Rattle.sys_calls.proofs.Common.{◌≡◌, ℕ, zero, suc, ◌+◌, ◌/◌, ◌%◌, ◌<◌, ◌≤◌, ◌&&◌, true, false, leb, ltb, List, [], ◌∷◌, Option, Some, None, refl, sym, ap, subst, ◌∙◌, inl, inr, arith, cases_lt, eq-eqb, le-leb, le-ltb, lt-leb, lt-ltb, option_map, option_map_or, PageRun, permission_of, CallEnd, HoldsTables, IsTables, Kernel, Saved, running_on, Map, break_in, break_start_in, free_in, held_in, permission_in, called, running_harts, Here, id_of, HasPages, IsMade, HoldSignals, cond-false, cond-true, and_right, Page, byte_at, page_in, page_in-past, first_kernel, IsAgreed, agreed_called, IsAt, HoldAreas, saved_of}
 use Rattle.mach_types.specs.declared.events.Hart.{Hart}
 use Rattle.mach_types.specs.declared.events.Tid.{Tid}
 use Rattle.block_model.specs.Here.{runs}
@@ -60,6 +60,10 @@ runs_are m k = elim (cases_lt k 67108864) [
 abbrev byte_of : Map → ℕ → ℕ
 byte_of m a = option_map_or (λ b. b) (held_in m a) 0
 
+-- the file of a thread is what is saved of it; where nothing is, it is this one
+abbrev file_or : Saved → Option Saved → Saved
+file_or other o = option_map_or (λ x. x) o other
+
 held_one : (offset : ℕ) (o : Option Page) → option_map (λ (p : Page). byte_at offset p.bytes) o
     ≡ option_map (λ _. option_map_or (λ b. b) (option_map (λ (p : Page). byte_at offset p.bytes) o) 0) (option_map (λ (p : Page). p.permission) o)
 held_one offset None = refl
@@ -77,7 +81,7 @@ module _ (k : Kernel) (m : Map) (here : Hart) (busy harts : ℕ) (tid : Tid) (sa
   place = record {
     setting = setting;
     hart = here.0;
-    file = λ _. saved;
+    file = λ u. file_or saved (saved_of u k.threads.saved);
     byte = byte_of m;
     waiting = λ _. [];
     reserved = None;
@@ -103,8 +107,8 @@ module _ (k : Kernel) (m : Map) (here : Hart) (busy harts : ℕ) (tid : Tid) (sa
   its_id : id_of tid.0 ((tid.0, cid) ∷ []) ≡ cid
   its_id = rw (eq-eqb tid.0 tid.0 refl) refl
 
-  is_place : running_harts k.threads.threads harts ≡ busy → IsAt place k m here busy harts tid saved cid
-  is_place running = record {
+  is_place : running_harts k.threads.threads harts ≡ busy → saved_of tid.0 k.threads.saved ≡ None → IsAt place k m here busy harts tid saved cid
+  is_place running quiet = record {
     hart = refl;
     count = refl;
     tables = holds_itself k (record (first_kernel setting) {
@@ -113,16 +117,17 @@ module _ (k : Kernel) (m : Map) (here : Hart) (busy harts : ℕ) (tid : Tid) (sa
     });
     running = running;
     pages = its_pages;
-    file = refl;
+    file = sym (ap (file_or saved) quiet);
     id = its_id;
     own = inl refl;
+    kept = λ u x is. sym (ap (file_or saved) is);
   }
 
   -- so where each place says what a call made of the tables, they agree after it
   pub agreed_made : (k' : Kernel) (m' : Map) (saved' : Saved) (end : CallEnd) → running_harts k.threads.threads harts ≡ busy
-      → running_on here.0 k.threads.threads ≡ Some tid.0 → IsTables harts k.threads.threads k.ready → HoldAreas k → HoldSignals k
+      → saved_of tid.0 k.threads.saved ≡ None → running_on here.0 k.threads.threads ≡ Some tid.0 → IsTables harts k.threads.threads k.ready → HoldAreas k → HoldSignals k
       → ((h : Here) → IsAt h k m here busy harts tid saved cid → IsMade h tid.0 k m k' m' saved' end (called h tid.0))
       → IsAgreed harts (record_with k' (called place tid.0).kernel)
-  agreed_made k' m' saved' end running at tables areas signals made =
-      let is = is_place running in
+  agreed_made k' m' saved' end running quiet at tables areas signals made =
+      let is = is_place running quiet in
       agreed_after harts place tid.0 k k' is.tables (made place is).tables at tables areas signals

@@ -44,8 +44,8 @@ HasPages h m = HoldsPages h.kernel.pages h.setting.program.break_at h.byte m
 abbrev pub IsOwnCall : Here → ℕ → Type 0
 IsOwnCall h t = (h.beside ≡ None) ⊎ ((call_number h t ≢ 283) × (call_number h t ≢ 293))
 
--- a rule may read here what the tables, the page map and the caller's registers hold; threads run on this set of harts, and the
--- caller holds this concurrency id
+-- a rule may read here what the tables, the page map and the caller's registers hold, and what is saved of the threads that don't
+-- run; threads run on this set of harts, and the caller holds this concurrency id
 pub record IsAt (h : Here) (k : Kernel) (m : Map) (here : Hart) (busy : ℕ) (harts : ℕ) (tid : Tid) (saved : Saved) (cid : ℕ) : Type 0 where
   pub hart : h.hart ≡ here.0
   pub count : h.setting.limits.harts ≡ harts
@@ -55,6 +55,7 @@ pub record IsAt (h : Here) (k : Kernel) (m : Map) (here : Hart) (busy : ℕ) (ha
   pub file : saved ≡ h.file tid.0
   pub id : id_of tid.0 h.kernel.ids ≡ cid
   pub own : IsOwnCall h tid.0
+  pub kept : AreSaved h.file k.threads
 
 -- whether the thread gave up its hart
 abbrev pub gives_up : CallEnd → Bool

@@ -1,4 +1,4 @@
--- The calls after which the thread may not go on, and those that change pages, by their numbers.
+-- The calls after which the thread may not go on, and those over pages, by their numbers.
 use Rattle.std.specs.Prelude.{ℕ, ◌≢◌}
 
 -- a number of another call
@@ -12,9 +12,10 @@ pub record IsOther (number : ℕ) : Type 0 where
   pub membarrier : number ≢ 283
   pub rseq : number ≢ 293
 
--- a number of a call that changes no pages
+-- a number of a call that isn't over pages
 pub record IsOffPages (number : ℕ) : Type 0 where
   pub brk : number ≢ 214
   pub munmap : number ≢ 215
   pub mmap : number ≢ 222
   pub mprotect : number ≢ 226
+  pub madvise : number ≢ 233

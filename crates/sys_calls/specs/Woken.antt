@@ -1,5 +1,5 @@
 -- futex(2): the tables once threads were woken, or wait at another address.
-use Rattle.std.specs.Prelude.{ℕ, ◌≡◌, ◌==◌, not, [], ◌∷◌, length, map, None}
+use Rattle.std.specs.Prelude.{ℕ, ◌≡◌, ◌==◌, not, [], ◌∷◌, length, map, Option, Some, None}
 use Rattle.mach_types.specs.declared.errors.TheConstants.{EAGAIN, EFAULT}
 use Rattle.mach_types.specs.Kernel.Threads.{is_live, numbers, running_on}
 use Rattle.kernel_threads.specs.Table.{saved_of}
@@ -26,6 +26,10 @@ compare_errors here t =
     (not (are_readable here (argument here t 0) 4), EFAULT)
     ∷ (not (number_at here (argument here t 0) 4 == int_argument here t 5), EAGAIN)
     ∷ []
+
+-- what is kept of the threads is their files, where that is read: where a wake has a mask
+abbrev pub AreHeard : Here → Option ℕ → Kernel → Type 0
+AreHeard h mask k = (m : ℕ) → mask ≡ Some m → AreSaved h.file k.threads
 
 -- these threads were woken or wait at another address, and so many they are
 pub record IsWoken (h : Here) (k : Kernel) (k' : Kernel) (done : Woken) (count : ℕ) : Type 0 where

@@ -34,12 +34,19 @@ pub fn argument(saved: &Saved, index: u8) -> u64
     saved.file.get(A0 + index)
 }
 
+/// The low 32 bits of a register.
+pub(crate) fn low_half(value: u64) -> u32
+    ensures { result ≡ value % 2 ^ 32 }
+{
+    (value % 0x1_0000_0000) as u32
+}
+
 /// An argument that Linux declares as an `int`: the low 32 bits of its register.
 pub fn int_argument(saved: &Saved, index: u8) -> u32
     requires { index ≤ 5 }
     ensures { result ≡ register saved.now.file (10 + index) % 2 ^ 32 }
 {
-    (argument(saved, index) % 0x1_0000_0000) as u32
+    low_half(argument(saved, index))
 }
 
 /// The same, as a number that may be negative.

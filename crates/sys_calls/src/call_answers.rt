@@ -8,6 +8,7 @@ ghost use Rattle.sys_calls.specs.Tables.{HoldsTables};
 ghost use Rattle.sys_calls.specs.Made.{HasPages};
 ghost use Rattle.sys_calls.specs.Numbers.{IsOffPages, IsOther};
 
+use crate::advice::madvise;
 use crate::affinity::{getcpu, sched_getaffinity};
 use crate::arguments::widened;
 use crate::asking::asked;
@@ -16,6 +17,7 @@ use crate::kernel::Kernel;
 use crate::memory::Written;
 use crate::memory_calls::{brk, mmap, mprotect, munmap};
 use crate::numbers::set_tid_address;
+use crate::random::getrandom;
 use crate::signal_calls::{rt_sigaction, rt_sigprocmask};
 use crate::signal_posting::{tgkill, tkill};
 use crate::writing::{write, writev};
@@ -55,6 +57,10 @@ const MMAP: u64 = 222;
 
 const MPROTECT: u64 = 226;
 
+const MADVISE: u64 = 233;
+
+const GETRANDOM: u64 = 278;
+
 /// The answer of a call whose thread goes on; ENOSYS where the number is none of those.
 pub fn answered(
     number: u64,
@@ -79,6 +85,7 @@ pub fn answered(
         MUNMAP => munmap(pages, saved),
         MMAP => mmap(pages, written, saved),
         MPROTECT => mprotect(pages, saved),
+        MADVISE => madvise(pages, written, saved),
         _ => widened(answered_on_same_pages(number, kernel, pages, written, here, tid, saved)),
     }
 }
@@ -116,6 +123,7 @@ fn answered_on_same_pages(
         GETPID => Ok(1),
         GETTID => Ok(tid.0),
         CLONE => clone(kernel, pages, written, tid, saved),
+        GETRANDOM => getrandom(kernel, pages, written, saved),
         _ => asked(number, kernel, pages, written, tid, saved),
     }
 }

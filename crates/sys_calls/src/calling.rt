@@ -83,7 +83,7 @@ pub struct Called {
     /// How the call ended.
     pub end: CallEnd,
     /// The writes.
-    pub written: ArrayVec<Write, 4>,
+    pub written: ArrayVec<Write, 40>,
 }
 
 /// The call of thread `tid`, as [`call`], with the kernel's writes: the caller ends the reservations on their bytes.

@@ -45,6 +45,14 @@ impl Console {
         self.bytes.clear();
     }
 
+    /// The bytes of another console, in place of its own. It takes no memory.
+    pub fn copy_from(&mut self, other: &Console)
+        ensures { self.new ≡ other.now }
+    {
+        self.bytes.clear();
+        let _ = self.bytes.extend_from_slice(other.bytes());
+    }
+
     /// The bytes written so far.
     pub fn bytes(&self) -> &[u8]
         ensures bytes { result.now ≡ self.now }

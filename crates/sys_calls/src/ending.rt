@@ -49,7 +49,7 @@ fn go(kernel: &mut Kernel, here: Hart, tid: Tid, at: u64, most: u32)
     ensures gone { (h : Here) → HoldsTables kernel.old h.kernel
         → IsGone h kernel.old kernel.new tid.0 most at here.0 }
 {
-    let _ = wake(kernel, at, most);
+    let _ = wake(kernel, at, most, None);
     kernel.threads.exit(tid);
     kernel.ready.remove(tid);
     kernel.signals.remove(tid);

@@ -1,15 +1,16 @@
 //! futex(2): a thread waits at the address of a word, and others wake it, or let it wait at another word.
 
 ghost use Rattle.std.specs.Prelude.{◌≡◌, ℕ, ◌≤◌, ◌&&◌, ◌||◌, ◌==◌, not, if◌then◌else◌, IfErr, IfOk, OnOk, IsTrue};
+ghost use Rattle.mach_types.specs.Kernel.Futexes.{operation};
 ghost use Rattle.mach_types.specs.Kernel.Signals.{is_held};
 ghost use Rattle.block_model.specs.Here.{Here};
 ghost use Rattle.block_model.specs.Calls.Answers.{CallDone, argument as argument_of, int_argument as int_argument_of, refused, said, unless};
-ghost use Rattle.block_model.specs.Calls.Futexes.{counted, futex, futex_requeue, futex_wait, operation, requeue as requeued};
+ghost use Rattle.block_model.specs.Calls.Futexes.{counted, futex, futex_requeue, futex_wait, requeue as requeued};
 ghost use Rattle.block_model.specs.Calls.Futexes as word;
 ghost use Rattle.block_model.specs.Kernel.{waited};
 ghost use Rattle.sys_calls.specs.Answered.{IsCaller, IsRead};
 ghost use Rattle.sys_calls.specs.Tables.{HoldsTables};
-ghost use Rattle.sys_calls.specs.Made.{HasPages, IsMade};
+ghost use Rattle.sys_calls.specs.Made.{AreSaved, HasPages, IsMade};
 ghost use Rattle.sys_calls.specs.Registered.{int_in};
 ghost use Rattle.sys_calls.specs.Woken.{compare_errors, futex_of};
 
@@ -18,6 +19,7 @@ use crate::calling::CallEnd;
 use crate::kernel::Kernel;
 use crate::memory::number_at;
 use crate::waking::{requeue, wake};
+use kernel_threads::futex_operation;
 use mach_types::address_space::USER_END;
 use mach_types::errors::{EAGAIN, EFAULT, EINTR, EINVAL, ENOSYS};
 use mach_types::{Errno, Hart, Saved, Tid};
@@ -36,9 +38,7 @@ const WAIT_BITSET: u32 = 9;
 
 const WAKE_BITSET: u32 = 10;
 
-/// The bit of a private futex; the next one is that of CLOCK_REALTIME.
-const PRIVATE: u32 = 128;
-
+/// The bit of a time of CLOCK_REALTIME.
 const CLOCK_REALTIME: u32 = 256;
 
 /// What an operation does.
@@ -47,13 +47,6 @@ enum Operation {
     Wait,
     Wake,
     Requeue,
-}
-
-/// Which operation is asked, without its bits by which a futex is private to the process and a time is one of CLOCK_REALTIME.
-fn plain_operation(op: u32) -> u32
-    ensures { result ≡ operation op }
-{
-    op - PRIVATE * (op / PRIVATE % 4)
 }
 
 /// Whether a time is one of CLOCK_REALTIME.
@@ -109,7 +102,7 @@ fn is_built(op: u32) -> bool
 fn is_misclocked(op: u32) -> bool
     ensures { result ≡ (word.is_by_clock op && not (operation op == 9)) }
 {
-    is_by_clock(op) && plain_operation(op) != WAIT_BITSET
+    is_by_clock(op) && futex_operation(op) != WAIT_BITSET
 }
 
 /// Whether an operation has a mask without a bit.
@@ -119,13 +112,6 @@ fn is_maskless(op: u32, mask: u32) -> bool
     has_mask(op) && mask == 0
 }
 
-/// Whether it has one of some bits alone, which isn't built.
-fn is_masked(op: u32, mask: u32) -> bool
-    ensures { result ≡ (word.has_mask op && not (mask == word.all_bits)) }
-{
-    has_mask(op) && mask != u32::MAX
-}
-
 /// Whether it is to let fewer than none go.
 fn asks_negative(op: u32, most: u32, more: u32) -> bool
     ensures { result ≡ (word.is_requeue op && (word.is_negative most || word.is_negative more)) }
@@ -133,7 +119,7 @@ fn asks_negative(op: u32, most: u32, more: u32) -> bool
     is_requeue(op) && (is_negative(most) || is_negative(more))
 }
 
-/// The operation that is asked: ENOSYS where it isn't built, or its mask, or has the bit of CLOCK_REALTIME and isn't WAIT_BITSET;
+/// The operation that is asked: ENOSYS where it isn't built, or has the bit of CLOCK_REALTIME and isn't WAIT_BITSET;
 /// EINVAL for a mask without a bit, negative numbers, and an address that isn't one of a word; EFAULT for one past those of the
 /// process. They come in the order of futex(2).
 fn asked(saved: &Saved) -> Result<Operation, Errno>
@@ -144,7 +130,7 @@ fn asked(saved: &Saved) -> Result<Operation, Errno>
         (λ op. (h : Here) (t : ℕ) → saved.now ≡ h.file t → futex h t ≡ futex_of op h t) }
 {
     let number = int_argument(saved, 1);
-    let op = plain_operation(number);
+    let op = futex_operation(number);
     let mask = int_argument(saved, 5);
     let at = argument(saved, 0);
     if !is_built(op) || is_misclocked(number) {
@@ -152,9 +138,6 @@ fn asked(saved: &Saved) -> Result<Operation, Errno>
     }
     if is_maskless(op, mask) {
         return Err(EINVAL);
-    }
-    if is_masked(op, mask) {
-        return Err(ENOSYS);
     }
     if asks_negative(op, int_argument(saved, 2), int_argument(saved, 3)) || at % 4 != 0 {
         return Err(EINVAL);
@@ -230,7 +213,7 @@ fn wait(kernel: &mut Kernel, pages: &PageMap, here: Hart, tid: Tid, saved: &mut 
 fn is_compared(saved: &Saved) -> bool
     ensures { result ≡ (operation (int_in saved.now 1) == 4) }
 {
-    plain_operation(int_argument(saved, 1)) == CMP_REQUEUE
+    futex_operation(int_argument(saved, 1)) == CMP_REQUEUE
 }
 
 /// Whether the word is the last argument: EFAULT where it can't be read, EAGAIN where it differs.
@@ -260,7 +243,7 @@ fn may_requeue(pages: &PageMap, saved: &Saved) -> Result<(), Errno>
         (λ e. (h : Here) (t : ℕ) → IsRead h pages.now t saved.now → futex_requeue h t ≡ refused h t e) }
     ensures goes { OnOk result
         ((h : Here) (t : ℕ) → IsRead h pages.now t saved.now → futex_requeue h t
-        ≡ counted h t (requeued (int_argument_of h t 2) (int_argument_of h t 3) (argument_of h t 0) (argument_of h t 4) h.kernel)) }
+        ≡ counted h t (requeued (int_argument_of h t 2) (int_argument_of h t 3) (argument_of h t 0) (argument_of h t 4) word.anyone h.kernel)) }
 {
     let at = argument(saved, 0);
     let to = argument(saved, 4);
@@ -298,10 +281,21 @@ fn move_waiters(
             let most = int_argument(saved, 2);
             let to = argument(saved, 4);
             let more = int_argument(saved, 3);
-            let count = requeue(kernel, at, most, to, more);
+            let count = requeue(kernel, at, most, to, more, None);
             go_on(saved, Ok(count))
         }
         Err(errno) => go_on(saved, Err(errno)),
+    }
+}
+
+/// The mask of a wake: None where it has none.
+fn wake_mask(saved: &Saved) -> Option<u32>
+    ensures { (h : Here) (t : ℕ) → saved.now ≡ h.file t → result ≡ word.wake_mask h t }
+{
+    if has_mask(futex_operation(int_argument(saved, 1))) {
+        Some(int_argument(saved, 5))
+    } else {
+        None
     }
 }
 
@@ -316,14 +310,14 @@ pub fn futex(
 ) -> CallEnd
     requires { IsCaller kernel.old here.0 tid.0 }
     ensures made { (h : Here) → h.hart ≡ here.0 → HoldsTables kernel.old h.kernel → HasPages h pages.now
-        → IsRead h pages.now tid.0 saved.old
+        → IsRead h pages.now tid.0 saved.old → AreSaved h.file kernel.old.threads
         → IsMade h tid.0 kernel.old pages.now kernel.new pages.now saved.new result (futex h tid.0) }
 {
     match asked(saved) {
         Ok(Operation::Wait) => wait(kernel, pages, here, tid, saved),
         Ok(Operation::Wake) => {
             let most = int_argument(saved, 2);
-            let woken = wake(kernel, argument(saved, 0), most);
+            let woken = wake(kernel, argument(saved, 0), most, wake_mask(saved));
             go_on(saved, Ok(woken))
         }
         Ok(Operation::Requeue) => move_waiters(kernel, pages, here, tid, saved),

@@ -3,6 +3,7 @@
 //! Nothing here takes memory but [`Console::new`].
 #![tactic(auto)]
 
+mod advice;
 mod affinity;
 mod arguments;
 mod asking;
@@ -19,6 +20,7 @@ mod memory;
 mod memory_calls;
 mod numbers;
 mod policies;
+mod random;
 mod ranges;
 mod rseq_areas;
 mod sequences;

@@ -5,7 +5,7 @@ ghost use Rattle.mach_types.specs.Bytes.{IsAccessSize, each_byte, word_at};
 ghost use Rattle.page_map.specs.Map.{byte_in, can_write_in};
 ghost use Rattle.mach_types.specs.declared.threads.Saved.{Saved as File};
 ghost use Rattle.block_model.specs.Here.{Here};
-ghost use Rattle.block_model.specs.Calls.Answers.{double_written, word_written};
+ghost use Rattle.block_model.specs.Calls.Answers.{byte_written, double_written, word_written};
 ghost use Rattle.sys_calls.specs.Answered.{IsEntered, IsRead};
 ghost use Rattle.sys_calls.specs.Made.{HasPages};
 
@@ -14,7 +14,7 @@ use mach_types::{Store, UserMem, Write};
 use page_map::{PageMap, held_bytes_are_seen};
 
 /// The kernel's writes to memory in a call, in order.
-pub type Written = ArrayVec<Write, 4>;
+pub type Written = ArrayVec<Write, 40>;
 
 /// The number of `size` bytes, 1, 2, 4 or 8, from an address on; 0 where one of them can't be read.
 pub fn number_at(pages: &PageMap, at: u64, size: u8) -> u64
@@ -41,10 +41,34 @@ pub fn byte_after(pages: &PageMap, at: u64, k: u64) -> u8
     }
 }
 
+/// Writes a byte.
+pub fn write_byte(pages: &mut PageMap, written: &mut Written, at: u64, value: u8)
+    requires writable { IsTrue (each_byte (can_write_in pages.old) at 1) }
+    requires room { length written.old.items < 40 }
+    ensures entered { IsEntered pages.old pages.new (byte_written at value ∷ []) }
+    ensures same { (a : ℕ) → can_write_in pages.new a ≡ can_write_in pages.old a }
+    ensures told { written.new.items ≡ written.old.items ++ byte_written at value ∷ [] }
+{
+    let _ = pages.set(at, 1, u64::from(value));
+    tell_byte(written, at, value);
+}
+
+/// Tells the write of a byte.
+fn tell_byte(written: &mut Written, at: u64, value: u8)
+    requires room { length written.old.items < 40 }
+    ensures { written.new.items ≡ written.old.items ++ byte_written at value ∷ [] }
+{
+    written.push(Write::Stored(Store {
+        at,
+        size: 1,
+        value: u64::from(value),
+    }));
+}
+
 /// Writes a u32.
 pub fn write_word(pages: &mut PageMap, written: &mut Written, at: u64, value: u32)
     requires writable { IsTrue (each_byte (can_write_in pages.old) at 4) }
-    requires room { length written.old.items < 4 }
+    requires room { length written.old.items < 40 }
     ensures entered { IsEntered pages.old pages.new (word_written at value ∷ []) }
     ensures same { (a : ℕ) → can_write_in pages.new a ≡ can_write_in pages.old a }
     ensures told { written.new.items ≡ written.old.items ++ word_written at value ∷ [] }
@@ -55,7 +79,7 @@ pub fn write_word(pages: &mut PageMap, written: &mut Written, at: u64, value: u3
 
 /// Tells the write of a u32.
 fn tell_word(written: &mut Written, at: u64, value: u32)
-    requires room { length written.old.items < 4 }
+    requires room { length written.old.items < 40 }
     ensures { written.new.items ≡ written.old.items ++ word_written at value ∷ [] }
 {
     written.push(Write::Stored(Store {
@@ -68,7 +92,7 @@ fn tell_word(written: &mut Written, at: u64, value: u32)
 /// Writes a u64.
 pub fn write_double(pages: &mut PageMap, written: &mut Written, at: u64, value: u64)
     requires writable { IsTrue (each_byte (can_write_in pages.old) at 8) }
-    requires room { length written.old.items < 4 }
+    requires room { length written.old.items < 40 }
     ensures entered { IsEntered pages.old pages.new (double_written at value ∷ []) }
     ensures same { (a : ℕ) → can_write_in pages.new a ≡ can_write_in pages.old a }
     ensures told { written.new.items ≡ written.old.items ++ double_written at value ∷ [] }

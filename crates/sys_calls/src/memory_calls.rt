@@ -1,4 +1,4 @@
-//! brk(2), mmap(2), munmap(2) and mprotect(2): the calls that map, remove and protect pages.
+//! brk(2), mmap(2), munmap(2) and mprotect(2): the calls that map, remove and protect pages; and the pages that a call takes.
 
 ghost use Rattle.std.specs.Prelude.{◌≡◌, ℕ, ◌+◌, ◌/◌, ◌<◌, ◌≤◌, ◌&&◌, ◌∷◌, [], Ok, IfErr, Option, if◌then◌else◌, nat_lt};
 ghost use Rattle.mach_types.specs.Kernel.Pages.{is_in, pages_of, run, zeros_of};
@@ -10,7 +10,8 @@ ghost use Rattle.block_model.specs.Calls.Memory.{are_mapping_flags, brk, mmap, m
 ghost use Rattle.sys_calls.specs.Made.{HasPages};
 ghost use Rattle.sys_calls.specs.Remapped.{IsRemapped, has_page};
 
-use crate::arguments::{A0, A7, argument};
+use crate::advice::pages_dropped;
+use crate::arguments::{A0, A7, argument, low_half};
 use crate::memory::Written;
 use mach_types::address_space::{MAPPING_START, PAGE_SIZE};
 use mach_types::errors::EINVAL;
@@ -23,6 +24,8 @@ const BRK: u64 = 214;
 const MUNMAP: u64 = 215;
 
 const MPROTECT: u64 = 226;
+
+const MADVISE: u64 = 233;
 
 /// Changes of a mapping are seen by this process alone (mmap(2)).
 const MAP_PRIVATE: u64 = 0x02;
@@ -52,7 +55,7 @@ pub struct PageSpan {
 }
 
 /// No pages.
-const NO_PAGES: PageSpan = PageSpan { first: 0, count: 0 };
+pub(crate) const NO_PAGES: PageSpan = PageSpan { first: 0, count: 0 };
 
 /// Whether these are the flags that mmap takes: MAP_PRIVATE and MAP_ANONYMOUS, and any of those that change nothing.
 fn are_mapping_flags(flags: u64) -> bool
@@ -70,7 +73,7 @@ fn prot_of(argument: u64) -> u8
 }
 
 /// Tells the zeros of so many pages from a first one on.
-fn tell_zeros(written: &mut Written, first: u64, count: u64)
+pub(crate) fn tell_zeros(written: &mut Written, first: u64, count: u64)
     requires fresh { written.old.items ≡ [] }
     requires end { first + count ≤ 67108864 }
     ensures { (permission : Option ℕ) → written.new.items ≡ zeros_of (run first count permission) ∷ [] }
@@ -149,7 +152,7 @@ pub fn mprotect(pages: &mut PageMap, saved: &Saved) -> Result<u64, Errno>
 }
 
 /// The pages that so many bytes from an address on fill, unless a call over them is refused.
-fn unless_refused(refusal: Option<Errno>, at: u64, len: u64) -> PageSpan
+pub(crate) fn unless_refused(refusal: Option<Errno>, at: u64, len: u64) -> PageSpan
     ensures { (permission : Option ℕ) (n : ℕ)
         → has_page result n ≡ is_in (unless_refused refusal (run (at / 4096) (pages_of len) permission)) n }
 {
@@ -180,8 +183,8 @@ fn below_break(pages: &PageMap, at: u64) -> PageSpan
     }
 }
 
-/// The pages that the call of a thread with these registers would remove or protect. A call that would be refused takes none, and
-/// no other call takes a page.
+/// The pages that the call of a thread with these registers would remove, protect or drop. A call that would be refused takes none,
+/// and no other call takes a page.
 pub fn pages_taken(pages: &PageMap, file: &Regs) -> PageSpan
     ensures { (h : Here) (t : ℕ) → HasPages h pages.now → file.now ≡ (h.file t).file
         → (n : ℕ) → has_page result n ≡ is_in (taken_by (call_number h t) h t) n }
@@ -195,6 +198,7 @@ pub fn pages_taken(pages: &PageMap, file: &Regs) -> PageSpan
             let prot = prot_of(file.get(A0 + 2));
             unless_refused(pages.protect_refusal(at, len, prot), at, len)
         }
+        MADVISE => pages_dropped(pages, at, len, low_half(file.get(A0 + 2))),
         _ => NO_PAGES,
     }
 }

@@ -34,6 +34,14 @@ impl Default for RegisteredArea {
 /// The registered areas, each with its thread.
 pub type Areas = ArrayVec<RegisteredArea, MOST_AREAS>;
 
+/// Gives a list the areas of another.
+pub(crate) fn copy_areas(areas: &mut Areas, other: &Areas)
+    ensures { areas.new.items ≡ other.now.items }
+{
+    areas.clear();
+    let _ = areas.try_extend_from_slice(other);
+}
+
 /// The area that is registered for a thread.
 pub fn area_of(kernel: &Kernel, tid: Tid) -> Option<Area>
     ensures { result ≡ areas.area_of tid.0 (areas_by_number kernel.now.areas.items) }

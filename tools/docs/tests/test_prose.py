@@ -11,6 +11,8 @@ ROOT = Path(__file__).resolve().parents[3]
 MOST_CHARACTERS, MOST_WORDS = 600, 40
 LINK = re.compile(r'\[([^\]]*)\]\([^)]*\)')
 CODE = re.compile(r'`[^`]*`')
+AVOIDED = re.compile(r'\b(?:told|anew)\b')
+"""Words that a reader stumbles over; "said" and "again" are what is meant."""
 SENTENCE = re.compile(r'(?<=[.!?:])\s+')
 
 
@@ -45,6 +47,12 @@ class Prose(unittest.TestCase):
                 for sentence in sentences(paragraph):
                     with self.subTest(page=page.name, sentence=sentence[:60]):
                         self.assertLessEqual(len(sentence.split()), MOST_WORDS)
+
+    def test_words(self) -> None:
+        for page in pages():
+            for paragraph in paragraphs(page):
+                with self.subTest(page=page.name, paragraph=paragraph[:60]):
+                    self.assertEqual(AVOIDED.findall(CODE.sub('', paragraph)), [])
 
 
 if __name__ == '__main__':

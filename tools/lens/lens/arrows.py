@@ -76,9 +76,10 @@ def seen_arrows(history: History, values: Values) -> Iterator[Arrow]:
 def loads_by_writer(values: Values) -> tuple[dict[int, list[Step]], dict[int, list[Step]]]:
     """The steps that saw a store while it waited, by the number of the store's step; and those that saw a
     write in memory, by the number of the step in which it entered."""
-    early, late = defaultdict(list), defaultdict(list)
+    early: dict[int, list[Step]] = defaultdict(list)
+    late: dict[int, list[Step]] = defaultdict(list)
     for record in values.trace.records:
-        sources = {(fact.source, fact.line) for fact in record.of_kind(Read) if fact.source != START}
+        sources = {(fact.source, fact.line or 0) for fact in record.of_kind(Read) if fact.source != START}
         for source, line in sorted(sources):
             (late if source == MEMORY else early)[line].append(record.step)
     return early, late

@@ -44,7 +44,9 @@ NAMES = {
     CLONE: 'clone',
     222: 'mmap',
     MPROTECT: 'mprotect',
+    233: 'madvise',
     261: 'prlimit64',
+    278: 'getrandom',
     MEMBARRIER: 'membarrier',
     RSEQ: 'rseq',
 }
@@ -68,8 +70,6 @@ UNBUILT = {
     167: 'prctl',
     169: 'gettimeofday',
     216: 'mremap',
-    233: 'madvise',
-    278: 'getrandom',
 }
 """Those that this machine hasn't and that C libraries make; any other is named by its number."""
 
@@ -78,7 +78,7 @@ def name_of(number: int | None) -> str:
     """The name of a call, or its number where it has no name here; `?` where the number isn't known."""
     if number is None:
         return '?'
-    return NAMES.get(number) or UNBUILT.get(number, f'call {number}')
+    return NAMES.get(number) or UNBUILT.get(number) or f'call {number}'
 
 
 def flags(named: dict[int, str]) -> Callable[[int], str]:
@@ -139,6 +139,18 @@ NAMES_OF: dict[str, Callable[[int], str]] = {
     'mask': one_of({0xFFFF_FFFF: 'FUTEX_BITSET_MATCH_ANY'}),
     'prot': flags({0: 'PROT_NONE', 1: 'PROT_READ', 2: 'PROT_WRITE', 4: 'PROT_EXEC'}),
     'map': flags({0x1: 'MAP_SHARED', 0x2: 'MAP_PRIVATE', 0x10: 'MAP_FIXED', 0x20: 'MAP_ANONYMOUS'}),
+    'advice': one_of(
+        {
+            number: f'MADV_{name}'
+            for first, names in (
+                (0, 'NORMAL RANDOM SEQUENTIAL WILLNEED DONTNEED'),
+                (8, 'FREE REMOVE DONTFORK DOFORK MERGEABLE UNMERGEABLE HUGEPAGE NOHUGEPAGE'),
+                (16, 'DONTDUMP DODUMP WIPEONFORK KEEPONFORK COLD PAGEOUT'),
+            )
+            for number, name in enumerate(names.split(), first)
+        }
+    ),
+    'random': flags({1: 'GRND_NONBLOCK', 2: 'GRND_RANDOM', 4: 'GRND_INSECURE'}),
     'request': one_of({0x5401: 'TCGETS', 0x5413: 'TIOCGWINSZ'}),
     'policy': one_of(
         {
@@ -224,7 +236,9 @@ FORMS: dict[int, tuple[str, ...]] = {
     CLONE: ('clone', 'p', 'p', 'p', 'p'),
     222: ('x', 'u', 'prot', 'map', 'd', 'u'),
     226: ('x', 'u', 'prot'),
+    233: ('x', 'u', 'advice'),
     261: ('d', 'limit', 'p', 'p'),
+    278: ('p', 'u', 'random'),
     MEMBARRIER: ('barrier', 'u', 'd'),
     293: ('p', 'u', 'rseq', 'x'),
 }

@@ -7,7 +7,7 @@ of `trace`; a program that doesn't tell it is asked the rest all the same.
 from __future__ import annotations
 
 from collections import Counter
-from collections.abc import Iterator
+from collections.abc import Callable, Iterator
 from functools import cached_property
 
 from . import calls
@@ -54,13 +54,14 @@ def explain(history: History, machine: Machine) -> Iterator[str]:
     """The cause of a run's end, a sentence a line."""
     causes = Causes(history, machine)
     reason, *number = history.output.end.split(' ')
-    yield from {
+    kinds: dict[str, Callable[..., Iterator[str]]] = {
         'exit': causes.of_exit,
         'killed': causes.of_kill,
         'stuck': causes.of_sleep,
         'limit': causes.of_limit,
         'open': causes.of_no_end,
-    }[reason](*map(int, number))
+    }
+    yield from kinds[reason](*map(int, number))
     if reason != 'open' and history.output.end != RIGHT:
         yield from of_unbuilt(history.program, causes.records)
 

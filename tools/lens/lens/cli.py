@@ -8,16 +8,23 @@ import sys
 from collections.abc import Iterable
 from dataclasses import replace
 from pathlib import Path
+from typing import TYPE_CHECKING
 
 from .arguments import add_program, limits_of
+from .as_json import calls_data, json_text, races_data, sequences_data, watch_data, why_data
 from .atomics import list_atomics
 from .call_list import list_calls
 from .causes import explain
 from .command_line import Parser, add_version, end, natural, no_such, positive
+from .coverage import cover, total
+from .coverage_runs import Runs, each_made, played, runs_of, runs_of_seeds
+from .coverage_text import list_coverage
+from .covered_lines import CoveredLines
 from .door import GDB, address, make_door, record
 from .faults import LensFault
 from .freed import list_freed
 from .history import History, make_history
+from .lcov import left_out, tracefile
 from .listing import CONTEXT, Selection, list_run
 from .machine import Answer, Machine
 from .output import RUN, Outline, Output, outline
@@ -25,18 +32,24 @@ from .picture import draw_run
 from .program import Program
 from .progress import Progress
 from .races import list_races
-from .scripts import OUTPUT_BEGINS, Lines, first_unreadable, read_bytes, read_lines, script_lines
+from .report import report_page
+from .report_changes import watch_names
+from .report_data import Reported
+from .scripts import OUTPUT_BEGINS, Lines, first_unreadable, read_bytes, read_lines, read_script, script_lines
 from .sequences import list_sequences
 from .shown_memory import asked, ranges_of, with_names
 from .shrinking import TRIES, Shrinking
 from .steering import steer
 from .stopping import Stop
 from .subjects import SEQUENCES, WORDS, steps_about
+from .timeline_reading import make_timeline
 from .trace import trace_text
 from .traced_calls import list_traced_calls
 from .values import Values, read_values
 from .watching import watch
 
+if TYPE_CHECKING:
+    Commands = argparse._SubParsersAction[Parser]
 ROWS_AT_ONCE = 1_000
 
 
@@ -53,11 +66,13 @@ def make_parser() -> argparse.ArgumentParser:
     add_list(commands)
     add_trace(commands)
     add_svg(commands)
+    add_report(commands)
     add_calls(commands)
     add_sequences(commands)
     add_watch(commands)
     add_races(commands)
     add_atomics(commands)
+    add_coverage(commands)
     add_why(commands)
     add_cut(commands)
     add_play(commands)
@@ -68,7 +83,7 @@ def make_parser() -> argparse.ArgumentParser:
     return parser
 
 
-def add_list(commands) -> None:
+def add_list(commands: Commands) -> None:
     command = commands.add_parser('list', help='one line a step: instruction, function+offset, source line')
     add_run_and_elf(command)
     command.add_argument('--around', type=positive, metavar='N', help='only the steps round step N')
@@ -89,7 +104,7 @@ def add_list(commands) -> None:
     command.set_defaults(action=list_command)
 
 
-def add_trace(commands) -> None:
+def add_trace(commands: Commands) -> None:
     command = commands.add_parser('trace', help='a trace for ui.perfetto.dev or chrome://tracing')
     add_run_and_elf(command)
     add_values(command, 'what each step read and wrote, and which store a load saw')
@@ -97,7 +112,7 @@ def add_trace(commands) -> None:
     command.set_defaults(action=trace_command)
 
 
-def add_svg(commands) -> None:
+def add_svg(commands: Commands) -> None:
     command = commands.add_parser('svg', help='a picture: a lane for each hart, a colour for each thread')
     add_run_and_elf(command)
     add_out(command, 'FILE.svg')
@@ -105,7 +120,21 @@ def add_svg(commands) -> None:
     command.set_defaults(action=svg_command)
 
 
-def add_cut(commands) -> None:
+def add_report(commands: Commands) -> None:
+    command = commands.add_parser('report', help='the run as one HTML page, to look at and to pass on')
+    add_run_and_elf(command)
+    command.add_argument(
+        '--watch',
+        action='append',
+        default=[],
+        metavar='NAME[+OFF][:SIZE]',
+        help='what a variable, or a member of one, holds at each step; several times for several',
+    )
+    add_out(command, 'FILE.html')
+    command.set_defaults(action=report_command)
+
+
+def add_cut(commands: Commands) -> None:
     command = commands.add_parser('cut', help='the first lines of a run as a script, to go on from by hand')
     command.add_argument('run', metavar='RUN')
     command.add_argument('--to', dest='last', type=natural, metavar='N', help='how many lines (all)')
@@ -116,23 +145,27 @@ def add_cut(commands) -> None:
     command.set_defaults(action=cut_command)
 
 
-def add_calls(commands) -> None:
+def add_calls(commands: Commands) -> None:
     command = commands.add_parser('calls', help='the system calls, with arguments and answers')
     add_run_and_elf(command)
     command.add_argument('--thread', type=positive, metavar='T', help='only those of thread T')
-    add_values(command, 'what each wrote, and whom it woke')
+    way = command.add_mutually_exclusive_group()
+    add_values(way, 'what each wrote, and whom it woke')
+    add_json(way)
     command.set_defaults(action=calls_command)
 
 
-def add_sequences(commands) -> None:
+def add_sequences(commands: Commands) -> None:
     command = commands.add_parser('sequences', help='the restartable sequences by name, and how each ended')
     add_run_and_elf(command)
     command.add_argument('--thread', type=positive, metavar='T', help='only those of thread T')
-    add_values(command, 'what each step of one read and wrote')
+    way = command.add_mutually_exclusive_group()
+    add_values(way, 'what each step of one read and wrote')
+    add_json(way)
     command.set_defaults(action=sequences_command)
 
 
-def add_watch(commands) -> None:
+def add_watch(commands: Commands) -> None:
     command = commands.add_parser(
         'watch', help='each access to a variable, with its value and where that came from'
     )
@@ -146,19 +179,21 @@ def add_watch(commands) -> None:
     command.add_argument('--hart', type=natural, metavar='H', help='only the accesses of hart H')
     command.add_argument('--thread', type=positive, metavar='T', help='only those of thread T')
     add_span(command, 'the last one (that of the run)')
+    add_json(command)
     command.set_defaults(action=watch_command)
 
 
-def add_races(commands) -> None:
+def add_races(commands: Commands) -> None:
     command = commands.add_parser('races', help='accesses of two harts that nothing orders')
     add_run_and_elf(command)
     command.add_argument(
         '--plain', action='store_true', help='without pairs that are atomic, volatile or assembler on both sides'
     )
+    add_json(command)
     command.set_defaults(action=races_command)
 
 
-def add_atomics(commands) -> None:
+def add_atomics(commands: Commands) -> None:
     command = commands.add_parser(
         'atomics', help='the instructions of a file that wait for stores: AMOs, LR, SC and full fences'
     )
@@ -166,19 +201,35 @@ def add_atomics(commands) -> None:
     command.set_defaults(action=atomics_command)
 
 
-def add_why(commands) -> None:
+def add_coverage(commands: Commands) -> None:
+    command = commands.add_parser(
+        'coverage',
+        help='what many runs came by: source lines, places of switches, and where restartable sequences were cut',
+        description='RUNS is a text of explore, whose runs are drawn again; or an output or a script; or a folder with '
+        'such files. With --seed and --runs RUNS is left out.',
+    )
+    add_run_and_elf(command)
+    command.add_argument('--runs', type=positive, metavar='N', help='with --seed: how many seeds from S on (1)')
+    command.add_argument('--policy', metavar='P', help='the policy of the draws, as draw has it (that of the text)')
+    command.add_argument('--calm', type=natural, metavar='N', help='as draw has it')
+    command.add_argument('--lcov', metavar='FILE', help='write a tracefile of lcov there, which genhtml shows')
+    command.set_defaults(action=coverage_command)
+
+
+def add_why(commands: Commands) -> None:
     command = commands.add_parser('why', help='why the run ended as it did')
     add_run_and_elf(command)
+    add_json(command)
     command.set_defaults(action=why_command)
 
 
-def add_play(commands) -> None:
+def add_play(commands: Commands) -> None:
     command = commands.add_parser('play', help='what the program\'s play prints, of an output text too')
     add_lines(command)
     command.set_defaults(action=play_command)
 
 
-def add_inspect(commands) -> None:
+def add_inspect(commands: Commands) -> None:
     command = commands.add_parser('inspect', help='what the program\'s inspect prints, of an output text too')
     add_lines(command)
     command.add_argument(
@@ -191,7 +242,7 @@ def add_inspect(commands) -> None:
     command.set_defaults(action=inspect_command)
 
 
-def add_shrink(commands) -> None:
+def add_shrink(commands: Commands) -> None:
     command = commands.add_parser('shrink', help='a short steer whose run ends as this one does')
     add_run_and_elf(command)
     command.add_argument(
@@ -209,7 +260,7 @@ def add_shrink(commands) -> None:
     command.set_defaults(action=shrink_command)
 
 
-def add_steer(commands) -> None:
+def add_steer(commands: Commands) -> None:
     command = commands.add_parser(
         'steer',
         help='a script made from a short one as a person writes it',
@@ -223,7 +274,7 @@ def add_steer(commands) -> None:
     command.set_defaults(action=steer_command)
 
 
-def add_gdb(commands) -> None:
+def add_gdb(commands: Commands) -> None:
     command = commands.add_parser(
         'gdb',
         help='gdb on the run, forwards and backwards',
@@ -253,8 +304,12 @@ def add_span(command: argparse.ArgumentParser, last: str) -> None:
     command.add_argument('--to', dest='last', type=positive, metavar='M', help=last)
 
 
-def add_values(command: argparse.ArgumentParser, what: str) -> None:
+def add_values(command: argparse._ActionsContainer, what: str) -> None:
     command.add_argument('--values', action='store_true', help=what)
+
+
+def add_json(command: argparse._ActionsContainer) -> None:
+    command.add_argument('--json', action='store_true', help='as JSON (tools/lens/lens/schemas)')
 
 
 def subjects(text: str) -> tuple[str, ...]:
@@ -316,17 +371,6 @@ def outline_of(arguments: argparse.Namespace) -> Outline:
     if text.startswith(OUTPUT_BEGINS):
         return outline(name, text)
     return played(script_lines(name, text), machine_of(arguments))
-
-
-def played(lines: Lines, machine: Machine) -> Outline:
-    """The run of a script; a fault that says which of its lines is refused, and why."""
-    unreadable = first_unreadable(lines.lines)
-    if unreadable:
-        raise LensFault(f'{lines.name}, line {unreadable[0]}: {unreadable[1]}')
-    answer = machine.call('play', lines.text())
-    if answer.status:
-        raise LensFault(f'{lines.name}: {answer.words()}')
-    return outline(lines.name, answer.text)
 
 
 def write_out(path: str | None, parts: Iterable[str]) -> None:
@@ -391,8 +435,17 @@ def svg_command(arguments: argparse.Namespace) -> None:
     write_out(arguments.out, [draw_run(read_history(arguments), arguments.first, arguments.last)])
 
 
+def report_command(arguments: argparse.Namespace) -> None:
+    outline_, machine, program = outline_of(arguments), machine_of(arguments), read_program(arguments.elf)
+    watches = watch_names(program, arguments.watch)
+    timeline = make_timeline(outline_.name, outline_.log, program, machine)
+    values = read_values(make_history(outline_.output(), program), machine)
+    reported = Reported(timeline, values, list(explain(values.history, machine)), watches)
+    write_out(arguments.out, [report_page(reported)])
+
+
 def cut_command(arguments: argparse.Namespace) -> None:
-    kept = read_lines(arguments.run).first(arguments.last)
+    kept = read_script(arguments.run).first(arguments.last)
     unreadable = first_unreadable(kept.lines)
     if unreadable:
         raise LensFault(f'{kept.name}, line {unreadable[0]}: {unreadable[1]}')
@@ -442,6 +495,8 @@ def pass_on(lines: Lines, answer: Answer) -> int:
 
 def calls_command(arguments: argparse.Namespace) -> None:
     history, machine = read_history(arguments), machine_of(arguments)
+    if arguments.json:
+        return write_out(None, json_text(calls_data(read_values(history, machine), arguments.thread)))
     if arguments.values:
         rows = list_traced_calls(read_values(history, machine), arguments.thread)
     else:
@@ -450,8 +505,10 @@ def calls_command(arguments: argparse.Namespace) -> None:
 
 
 def sequences_command(arguments: argparse.Namespace) -> None:
-    rows = list_sequences(values_of(arguments), arguments.thread, arguments.values)
-    write_rows(rows)
+    values = values_of(arguments)
+    if arguments.json:
+        return write_out(None, json_text(sequences_data(values, arguments.thread)))
+    write_rows(list_sequences(values, arguments.thread, arguments.values))
 
 
 def settle_watched(arguments: argparse.Namespace) -> None:
@@ -471,26 +528,63 @@ def settle_watched(arguments: argparse.Namespace) -> None:
 
 def watch_command(arguments: argparse.Namespace) -> None:
     settle_watched(arguments)
+    if arguments.json and arguments.freed:
+        raise LensFault('--json is of a NAME, and there is none for --freed')
     values = values_of(arguments)
     for number in (arguments.first, arguments.last):
         check_step(values.history.output, number)
     chosen = Selection(
         hart=arguments.hart, thread=arguments.thread, first=arguments.first, last=arguments.last
     )
+    if arguments.json:
+        return write_out(None, json_text(watch_data(values, arguments.variable, chosen)))
     write_rows(list_freed(values, chosen) if arguments.freed else watch(values, arguments.variable, chosen))
 
 
 def races_command(arguments: argparse.Namespace) -> None:
-    write_rows(list_races(values_of(arguments), arguments.plain))
+    values = values_of(arguments)
+    if arguments.json:
+        return write_out(None, json_text(races_data(values, arguments.plain)))
+    write_rows(list_races(values, arguments.plain))
 
 
 def atomics_command(arguments: argparse.Namespace) -> None:
     write_rows(list_atomics(read_program(arguments.elf)))
 
 
+def coverage_command(arguments: argparse.Namespace) -> None:
+    program, machine = read_program(arguments.elf), machine_of(arguments)
+    runs = covered_runs(arguments, machine)
+    progress = Progress(sys.stderr if sys.stderr.isatty() else None)
+    covered = total(each_made(runs, lambda run: cover(run, program, machine), progress), runs.explored)
+    if arguments.lcov:
+        lines = CoveredLines(program, covered)
+        write_out(arguments.lcov, (f'{line}\n' for line in tracefile(lines)))
+        lacking = left_out(lines)
+        if lacking:
+            print(f'lens: {arguments.lcov}: left out, since they aren\'t found: {", ".join(lacking)}', file=sys.stderr)
+    write_rows(list_coverage(program, covered, runs.words))
+
+
+def covered_runs(arguments: argparse.Namespace, machine: Machine) -> Runs:
+    """The runs that are wanted."""
+    policy = [] if arguments.policy is None else [f'--policy={arguments.policy}']
+    calm = [] if arguments.calm is None else [f'--calm={arguments.calm}']
+    draws = (*policy, *calm)
+    if (arguments.run is None) == (arguments.seed is None):
+        raise LensFault('either RUNS or --seed is wanted')
+    if arguments.run is not None and arguments.runs is not None:
+        raise LensFault('--runs is for --seed: how many runs RUNS has it says itself')
+    if arguments.seed is not None:
+        return runs_of_seeds(machine, arguments.seed, arguments.runs or 1, draws)
+    return runs_of(arguments.run, machine, draws)
+
+
 def why_command(arguments: argparse.Namespace) -> None:
-    history = read_history(arguments)
-    write_rows(explain(history, machine_of(arguments)))
+    history, machine = read_history(arguments), machine_of(arguments)
+    if arguments.json:
+        return write_out(None, json_text(why_data(history, machine)))
+    write_rows(explain(history, machine))
 
 
 def gdb_command(arguments: argparse.Namespace) -> int:

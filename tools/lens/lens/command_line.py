@@ -11,7 +11,7 @@ from typing import NoReturn
 from .faults import LensFault
 
 FAULT_STATUS, INTERRUPTED_STATUS = 2, 130
-VERSION = '0.1'
+VERSION = '0.4.0'
 """That of the program beside which the tools stand."""
 SIMILAR = 0.5
 """From which likeness on a word is proposed, as difflib measures it."""

@@ -14,7 +14,7 @@ COMMENT = re.compile(r'\s+#.*')
 
 
 def find_objdump() -> str | None:
-    return next((found for found in map(shutil.which, OBJDUMPS) if found), None)
+    return next((found for name in OBJDUMPS if (found := shutil.which(name))), None)
 
 
 def disassemble(path: str) -> dict[int, str]:

@@ -3,6 +3,7 @@ writes it."""
 from __future__ import annotations
 
 from collections.abc import Iterator
+from typing import Any
 
 from elftools.common.exceptions import DWARFError, ELFError
 from elftools.construct import StaticField
@@ -42,7 +43,7 @@ def units(elf: ELFFile) -> Iterator[CompileUnit]:
         yield from elf.get_dwarf_info().iter_CUs()
 
 
-def attribute(die: DIE, name: str) -> object:
+def attribute(die: DIE, name: str) -> Any:
     """The value of an attribute; None where there is none."""
     found = die.attributes.get(f'DW_AT_{name}')
     return found.value if found else None

@@ -1,12 +1,12 @@
 """What this program can't do, in words for the person who asked."""
+from __future__ import annotations
 
-FAULT_STATUS = 2
+from runs.faults import FAULT_STATUS, RunsFault
 
+__all__ = ['FAULT_STATUS', 'Interrupted', 'LensFault']
 
-class LensFault(Exception):
-    """One line that says what is wrong; the program ends with it and with this status."""
-
-    status = FAULT_STATUS
+LensFault = RunsFault
+"""That of the readers, so that whoever catches one catches both."""
 
 
 class Interrupted(LensFault):

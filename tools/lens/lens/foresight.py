@@ -112,19 +112,20 @@ class Foresight:
     ) -> list[Piece]:
         """The events of numbered stretches, and before each the drains that it is taken to need. Those of a
         thread that runs nowhere are left out."""
-        standing, found = standing or Standing(), []
+        standing = standing or Standing()
+        found: list[Piece] = []
         for number, stretch in stretches:
             self.add_pieces(found, number, stretch, standing)
         return found
 
     def add_pieces(self, found: list[Piece], number: int, stretch: Stretch, standing: Standing) -> None:
         """Adds the events of one stretch; they change what is taken to be so."""
-        hart, kind, thread, count = stretch
-        if kind == RUN and not self.may_run(hart, thread, standing):
+        first, kind, thread, count = stretch
+        if kind == RUN and not self.may_run(first, thread, standing):
             return
         if kind == RUN:
-            standing.where[thread] = hart
-        hart = standing.where.get(thread) if thread else hart
+            standing.where[thread] = first
+        hart = standing.where.get(thread) if thread else first
         if hart is None:
             return
         if kind == EXEC:
@@ -204,7 +205,7 @@ class Foresight:
         first = max((at for at in around if at <= pc and not self.is_calm(at)), default=around.start) + SIZE
         for last in itertools.takewhile(self.is_calm, range(pc, around.stop, SIZE)):
             jump, targets = self.program.instruction(last), range(first, min(pc + SIZE, last), SIZE)
-            if jump.opcode in JUMPS and any(map(jump.may_go_to, targets)):
+            if jump and jump.opcode in JUMPS and any(map(jump.may_go_to, targets)):
                 return True
         return False
 

@@ -21,13 +21,14 @@ def list_freed(values: Values, selection: Selection) -> Iterator[str]:
     """Each access to what was freed in the steps that are chosen, and each call that frees it again; below it
     who freed that."""
     chosen = {step.number for step in selection.steps(values.history.output.steps)}
-    shown, again, blocks = 0, 0, set()
+    shown, again = 0, 0
+    blocks: set[tuple[int, int]] = set()
     for found, freed in found_freed(values):
         if found.step.number in chosen:
-            is_again = type(found) is Again
+            is_again = isinstance(found, Again)
             shown, again = shown + 1, again + is_again
             blocks.add((freed.block.at, freed.step.number))
-            yield words_of_again(values, found) if is_again else words_of(values, found)
+            yield words_of_again(values, found) if isinstance(found, Again) else words_of(values, found)
             yield f'{BELOW}{words_of_block(values, found, freed)}'
     if blocks:
         yield ''
@@ -111,12 +112,13 @@ def of_second_free(values: Values) -> Iterator[str]:
     """Who freed the block twice whose second `free` came last."""
     spot = values.history.program.spot
     try:
-        twice = [found for found, _ in found_freed(values) if type(found) is Again]
+        twice = [found for found, _ in found_freed(values) if isinstance(found, Again)]
     except LensFault:
         return  # (the file has no `malloc` or no `free`)
     for again in twice[-1:]:
+        both: tuple[Freed | Again, ...] = (again.before, again)
         frees = ', and '.join(
             f'by thread {one.step.thread} in step {one.step.number}, at {spot(one.caller)}'
-            for one in (again.before, again)
+            for one in both
         )
         yield f'The block at {again.before.block.at:#x} was freed {frees}.'

@@ -7,10 +7,10 @@ from collections.abc import Sequence
 import gdb
 import gdb.unwinder
 
-RETURN, RETURN_END = 0x3F_FFFF_0000, 0x3F_FFFF_0008
-"""The code to which handlers return, which the machine maps."""
-FRAME_WORDS = 34
-"""A handler's frame is at sp: 34 words, the pc and x1 to x31 first."""
+RETURN, INFO_RETURN, RETURN_END = 0x3F_FFFF_0000, 0x3F_FFFF_0008, 0x3F_FFFF_0010
+"""The code to which handlers return, which the machine maps: those without SA_SIGINFO, and those with it."""
+INFO_REGISTERS = 304
+"""A handler's frame is at sp. The pc and x1 to x31 come first in it, and with SA_SIGINFO so many bytes further on."""
 REGISTERS = (
     'pc ra sp gp tp t0 t1 t2 fp s1 a0 a1 a2 a3 a4 a5 a6 a7 '
     's2 s3 s4 s5 s6 s7 s8 s9 s10 s11 t3 t4 t5 t6'
@@ -37,7 +37,8 @@ class HandlerFrames(gdb.unwinder.Unwinder):  # type: ignore[misc,name-defined]
         if not RETURN <= int(pc) < RETURN_END:
             return None
         sp = pending.read_register('sp')
-        words = bytes(gdb.selected_inferior().read_memory(int(sp), 8 * FRAME_WORDS))
+        at = int(sp) + (INFO_REGISTERS if int(pc) >= INFO_RETURN else 0)
+        words = bytes(gdb.selected_inferior().read_memory(at, 8 * len(REGISTERS)))
         found = pending.create_unwind_info(FrameId(sp, pc))
         kind = gdb.lookup_type('unsigned long')
         for number, name in enumerate(REGISTERS):

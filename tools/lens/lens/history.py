@@ -64,7 +64,8 @@ def make_history(output: Output, program: Program) -> History:
 
 def pcs_after(output: Output) -> dict[int, int]:
     """The pc of its thread after a step, which is the one before the thread's next step."""
-    after, last = {}, {}
+    after: dict[int, int] = {}
+    last: dict[int, int] = {}
     for step in output.steps:
         if step.thread in last:
             after[last[step.thread]] = step.pc
@@ -126,7 +127,7 @@ def note_stores(history: History, next_pcs: dict[int, int]) -> None:
     """The k-th drain of a hart enters its k-th plain store. A store that faults leaves the pc, and waits
     nowhere."""
     output = history.output
-    waiting = {hart: deque() for hart in output.harts}
+    waiting: dict[int, deque[Step]] = {hart: deque() for hart in output.harts}
     for step in output.steps:
         instruction = history.instructions.get(step.number)
         if step.kind == DRAIN:

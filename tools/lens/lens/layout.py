@@ -190,7 +190,7 @@ def counts(array: DIE) -> Iterator[int]:
             yield count.value if count else last.value + 1 if last else 0
 
 
-def part_of(kind: Kind, words: str, member: re.Match) -> tuple[Kind, int]:
+def part_of(kind: Kind, words: str, member: re.Match[str]) -> tuple[Kind, int]:
     """The type of a member or an element of what these words name, and how far behind its start it is."""
     if member['index']:
         if not isinstance(kind, Array):

@@ -97,7 +97,8 @@ class Rows:
 
     def find_instruction(self, pc: int) -> tuple[str, str, str]:
         program = self.history.program
-        return program.instruction(pc).text, program.where(pc), source(self.history, pc)
+        instruction = program.instruction(pc)
+        return instruction.text if instruction else '', program.where(pc), source(self.history, pc)
 
 
 def list_run(history: History, selection: Selection, values: Values | None = None) -> Iterator[str]:

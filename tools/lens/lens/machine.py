@@ -197,9 +197,9 @@ class Machine:
         """The run that a seed draws."""
         return self.draw_outline(seed).output()
 
-    def draw_outline(self, seed: int) -> Outline:
-        """The same, its log not yet taken apart."""
-        answer = self.answer(['draw', self.elf, f'--seed={seed}', *self.options])
+    def draw_outline(self, seed: int, words: tuple[str, ...] = ()) -> Outline:
+        """The same, under further words, its log not yet taken apart."""
+        answer = self.answer(['draw', self.elf, f'--seed={seed}', *words, *self.options])
         if answer.status == DONE:
             return outline(f'the run of seed {seed}', answer.text)
         raise self.fault('draw', answer)

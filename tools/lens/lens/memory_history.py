@@ -40,6 +40,10 @@ class Series:
         index = bisect_right(self.places, place)
         return self.values[index - 1] if index else before
 
+    def newest(self) -> int:
+        """What it is after all that was noted; 0 where it never changed."""
+        return self.values[-1] if self.values else 0
+
 
 class Touches:
     """The lines that touch an aligned word of memory, and which of its bytes: bit B of a mask is byte B."""

@@ -134,7 +134,7 @@ class Orders:
         """A load, an LR or an AMO: behind the writes of other harts from which it read."""
         step, hart = record.step, record.step.hart
         for fact in reads:
-            if fact.source == MEMORY and self.steps[fact.line - 1].hart != hart:
+            if fact.source == MEMORY and fact.line and self.steps[fact.line - 1].hart != hart:
                 self.join(hart, self.behind[fact.line])
         whole = joined(reads)
         is_reserving = any(fact.word == RESERVED for fact in record.of_kind(Reservation))
@@ -174,7 +174,7 @@ class Orders:
                         self.threads[thread] = later(self.threads[thread], here)
                     if state in (READY, SLEEPS, ENDED):
                         self.departed = later(self.departed, here)
-                case Signal(number, 'posted', thread):
+                case Signal(number, 'posted', int(thread)):
                     self.posted[thread, number] = later(self.posted[thread, number], here)
                 case Called(name, (command, *_)) if name == NAMES[MEMBARRIER] and command in BARRIERS:
                     self.begin(record)

@@ -43,6 +43,8 @@ text { font-family: "DejaVu Sans", Verdana, sans-serif; font-size: 10px; fill: #
 .mark { stroke: #fff; stroke-width: 2.4 }
 .other { fill: #fff; stroke: #111 }
 """
+Shape = Callable[[float, float, str], None]
+"""Draws something at a middle and a top, in a colour."""
 
 
 @dataclass(frozen=True)
@@ -169,10 +171,12 @@ class Picture:
             shape(across + CELL / 2, top, colour)
             self.add('text', words, x=across + CELL + 4, y=top + 10)
 
-    def legend(self) -> list[tuple[Callable[[float, float, str], None], str, str]]:
+    def legend(self) -> list[tuple[Shape, str, str]]:
         """What the colours and the shapes mean: what draws each of them, its colour, and the words."""
-        threads = [(self.swatch, self.colour(thread), f'thread {thread}') for thread in self.threads]
-        shapes = (
+        threads: list[tuple[Shape, str, str]] = [
+            (self.swatch, self.colour(thread), f'thread {thread}') for thread in self.threads
+        ]
+        shapes: tuple[tuple[Shape, str], ...] = (
             (self.store_block, 'store, which waits'),
             (self.triangle, 'it enters memory'),
             (self.fence_block, 'fence'),
@@ -199,7 +203,7 @@ class Picture:
 
     def row(self, row: int) -> None:
         """The lanes of a row with their names, and the numbers of the steps below."""
-        right = self.width - MARGIN
+        right: float = self.width - MARGIN
         for hart in self.harts:
             top = self.top(row, hart)
             self.add('text', f'hart {hart}', x=MARGIN, y=top + 11, kind='hart')
@@ -256,7 +260,7 @@ class Picture:
                 'text', step.kind, x=middle - CELL / 2, y=top + BLOCK + NAMES + CALLS - 2, kind='small'
             )
 
-    def shape_of(self, step: Step):
+    def shape_of(self, step: Step) -> Shape:
         instruction = self.history.instructions.get(step.number)
         if step.kind in (RUN, PREEMPT):
             return self.bar
@@ -321,7 +325,7 @@ class Picture:
     def arc_parts(self) -> list[tuple[Step, int, int, bool, bool]]:
         """The parts of arcs in each row: the store, from which step to which, and whether the store and the
         drain are these."""
-        drains = [(store, drain) for drain, store in self.history.drained.items()]
+        drains: list[tuple[Step, int | None]] = [(store, drain) for drain, store in self.history.drained.items()]
         drains += [(store, None) for store in self.history.waiting]
         return [
             (store, begin, end, begin == store.number, end == drain)
@@ -366,8 +370,9 @@ class Picture:
             starts = [(name, row, next(group)) for (row, name), group in named]
             for at, (name, row, step) in enumerate(starts):
                 following = starts[at + 1] if at + 1 < len(starts) else None
-                is_near = following is not None and following[1] == row
-                right = self.left(following[2].number) if is_near else self.width - MARGIN
+                right: float = self.width - MARGIN
+                if following is not None and following[1] == row:
+                    right = self.left(following[2].number)
                 self.function(name, step, right)
 
     def function(self, name: str, step: Step, right: float) -> None:

@@ -34,9 +34,11 @@ RETURNING = {
     for address, word, text in (
         (HANDLER_RETURN, 0x08B00893, 'li a7,139'),
         (HANDLER_RETURN + SIZE, 0x00000073, 'ecall'),
+        (HANDLER_RETURN + 2 * SIZE, 0x08B00893, 'li a7,139'),
+        (HANDLER_RETURN + 3 * SIZE, 0x00000073, 'ecall'),
     )
 }
-"""The code that signal handlers return to, which the machine maps beside the file's."""
+"""The code that signal handlers return to, without SA_SIGINFO and with it, which the machine maps beside the file's."""
 
 
 @dataclass(frozen=True)
@@ -46,6 +48,8 @@ class Symbol:
     address: int
     name: str
     is_function: bool
+    size: int = 0
+    """How many bytes of code it has, where the file says it."""
 
 
 @dataclass(frozen=True)
@@ -132,9 +136,7 @@ class Program:
             for segment in elf.iter_segments('PT_LOAD')
         ]
         self.descriptors = list(descriptors(elf))
-        self.symbols = sorted(
-            code_symbols(elf, self.code), key=lambda symbol: (symbol.address, symbol.is_function)
-        )
+        self.symbols = sorted(code_symbols(elf, self.code), key=place_of_symbol)
         if not self.symbols:
             raise LensFault(
                 f'{self.path}: it has no symbols: build it without -s (and with -g for its source lines)'
@@ -304,7 +306,7 @@ class Program:
             return self.line_addresses(words, found['file'], int(found['line']))
         found = SYMBOL_AND_OFFSET.fullmatch(words)
         named = [symbol.address for symbol in self.symbols if found and symbol.name == found['symbol']]
-        if not named:
+        if not found or not named:
             raise LensFault(f'{self.path} has no function or label {words!r}')
         return self.checked(words, [address + int(found['offset'] or '0', 0) for address in named])
 
@@ -338,7 +340,11 @@ def is_named(path: str, name: str) -> bool:
     return parts[-len(wanted) :] == wanted
 
 
-def code_symbols(elf: ELFFile, code: list[Code]):
+def place_of_symbol(symbol: Symbol) -> tuple[int, bool]:
+    return symbol.address, symbol.is_function
+
+
+def code_symbols(elf: ELFFile, code: list[Code]) -> Iterator[Symbol]:
     """The functions and labels of the code, without the assembler's own marks."""
     table = elf.get_section_by_name('.symtab')
     for symbol in table.iter_symbols() if table else ():
@@ -350,10 +356,10 @@ def code_symbols(elf: ELFFile, code: list[Code]):
             and symbol['st_shndx'] not in ('SHN_ABS', 'SHN_UNDEF')
         )
         if kind in SYMBOL_KINDS and is_of_code and is_kept:
-            yield Symbol(symbol['st_value'], symbol.name, kind == 'STT_FUNC')
+            yield Symbol(symbol['st_value'], symbol.name, kind == 'STT_FUNC', symbol['st_size'])
 
 
-def variables(elf: ELFFile):
+def variables(elf: ELFFile) -> Iterator[Variable]:
     """The variables of the program."""
     table = elf.get_section_by_name('.symtab')
     for symbol in table.iter_symbols() if table else ():
@@ -362,7 +368,7 @@ def variables(elf: ELFFile):
             yield Variable(symbol['st_value'], symbol['st_size'], symbol.name)
 
 
-def descriptors(elf: ELFFile):
+def descriptors(elf: ELFFile) -> Iterator[Descriptor]:
     """The descriptors of restartable sequences that the file has in the section for them."""
     section = elf.get_section_by_name(DESCRIPTORS)
     content = section.data() if section else b''

@@ -3,14 +3,16 @@ with a line of a script that can't be read."""
 from __future__ import annotations
 
 import re
-import sys
 from dataclasses import dataclass
-from pathlib import Path
+
+from runs.output import read_bytes
+from runs.pair import is_pair, pair_outline
+from runs.scripts import OUTPUT_BEGINS, is_output
 
 from .faults import LensFault
 from .output import EXEC, HARTS, KINDS, PC_DIGITS, RUN, Output, outline
 
-OUTPUT_BEGINS = (b'console ', b'fault ')
+__all__ = ['OUTPUT_BEGINS', 'Lines', 'first_unreadable', 'read_bytes', 'read_lines', 'script_lines', 'what_is_wrong']
 LARGEST_THREAD = 2**32 - 1
 SHOWN = 60
 NUMBER = re.compile(r'0|[1-9][0-9]*')
@@ -39,23 +41,25 @@ class Lines:
         return Lines(self.name, self.lines[:count])
 
 
-def read_bytes(path: str) -> tuple[str, bytes]:
-    """The name and the bytes of a file, or of standard input where the path is `-`."""
-    if path == '-':
-        return 'standard input', sys.stdin.buffer.read()
-    try:
-        return path, Path(path).read_bytes()
-    except OSError as error:
-        raise LensFault(f'{path}: {error.strerror}') from None
-
-
 def read_lines(path: str) -> Lines:
     """The script that is in a file, or that an output text in it has as its log."""
+    return read_lines_of(*read_bytes(path))
+
+
+def read_lines_of(name: str, text: bytes) -> Lines:
+    """The script that is in a text."""
+    if not is_output(text):
+        return script_lines(name, text)
+    found = outline(name, text)
+    return Lines(name, found.lines, found.output())
+
+
+def read_script(path: str) -> Lines:
+    """The same, also where the output is one of `pair`."""
     name, text = read_bytes(path)
-    if text.startswith(OUTPUT_BEGINS):
-        found = outline(name, text)
-        return Lines(name, found.lines, found.output())
-    return script_lines(name, text)
+    if text.startswith(b'console ') and is_pair(name, text):
+        return script_lines(name, pair_outline(name, text).log)
+    return read_lines_of(name, text)
 
 
 def script_lines(name: str, text: bytes) -> Lines:

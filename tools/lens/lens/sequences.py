@@ -4,6 +4,7 @@ from __future__ import annotations
 from collections.abc import Iterator
 
 from .facts import SequenceBegins, SequenceEnds
+from .faults import LensFault
 from .history import History
 from .listing import deed
 from .output import EXEC, PREEMPT, RUN, SIGNAL, TAKE, Step
@@ -51,7 +52,10 @@ def accesses(values: Values, ended: SequenceEnds) -> Iterator[str]:
 
 
 def begun(values: Values, ended: SequenceEnds) -> SequenceBegins:
-    return values.trace.records[ended.first - 1].first(SequenceBegins)
+    found = values.trace.records[ended.first - 1].first(SequenceBegins)
+    if found is None:
+        raise LensFault(f'the trace has a sequence that ends, and none begins in line {ended.first}')
+    return found
 
 
 def words_of(values: Values, ended: SequenceEnds) -> str:

@@ -27,7 +27,8 @@ def ranges_of(program: Program, named: list[str]) -> list[Range]:
 def asked(ranges: list[Range]) -> str:
     """The words by which the program is asked for these bytes. It shows whole words, so one of which another
     range has all words isn't asked for again."""
-    wanted, shown = [], set()
+    wanted: list[str] = []
+    shown: set[int] = set()
     for range_ in ranges:
         words = set(range(range_.at // WORD, (range_.at + range_.size - 1) // WORD + 1))
         if not words <= shown:

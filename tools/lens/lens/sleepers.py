@@ -41,7 +41,8 @@ def last_sleep(values: Values, thread: int, word: int) -> Step | None:
 
 def value_when_asleep(values: Values, slept: Step) -> int:
     """What the word held when its thread fell asleep, since the call compares it with its third argument."""
-    return values.record(slept).first(Called).arguments[2] & 0xFFFF_FFFF
+    called = values.record(slept).first(Called)
+    return called.arguments[2] & 0xFFFF_FFFF if called else 0
 
 
 def value_now(values: Values, slept: Step, word: int) -> int:

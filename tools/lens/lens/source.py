@@ -70,19 +70,28 @@ class Lines:
         return self.rows[index - 1].place if index else None
 
     def text(self, place: Place) -> str:
-        """The text of a line, where its file is found: where the compiler read it, or by its name from a
-        folder round the ELF file."""
-        named = PurePosixPath(place.folder) / place.file
-        roots = (Path('/'),) if named.is_absolute() else tuple(self.path.parents)
-        lines = read_lines(named, roots)
+        """The text of a line, where its file is found."""
+        path = self.path_of(place)
+        lines = read_lines(path) if path else ()
         return lines[place.line - 1].strip() if place.line <= len(lines) else ''
+
+    def path_of(self, place: Place) -> Path | None:
+        """Where the file of a place is found: where the compiler read it, or by its name from a folder round the ELF
+        file."""
+        named = PurePosixPath(place.folder) / place.file
+        return find_file(named, (Path('/'),) if named.is_absolute() else tuple(self.path.parents))
 
 
 @cache
-def read_lines(named: PurePosixPath, roots: tuple[Path, ...]) -> tuple[str, ...]:
-    """The lines of a file in the first of the folders that has it."""
-    found = next((root / named for root in roots if (root / named).is_file()), None)
-    return tuple(found.read_text(errors='replace').splitlines()) if found else ()
+def find_file(named: PurePosixPath, roots: tuple[Path, ...]) -> Path | None:
+    """A file in the first of the folders that has it."""
+    return next((root / named for root in roots if (root / named).is_file()), None)
+
+
+@cache
+def read_lines(path: Path) -> tuple[str, ...]:
+    """The lines of a file."""
+    return tuple(path.read_text(errors='replace').splitlines())
 
 
 def unit_rows(unit: CompileUnit) -> Iterator[Row]:

@@ -144,9 +144,9 @@ def read_order(path: str, number: int, words: str) -> Order:
         case ['finish', 'calm', calm] if COUNT.fullmatch(f'#{calm}') and int(calm) <= MOST_CALM:
             return Order(number, words, 0, FINISH, calm=int(calm))
         case [hart, *rest] if is_hart(hart):
-            order = order_of_hart(number, words, int(hart), rest)
-            if order is not None:
-                return order
+            of_hart = order_of_hart(number, words, int(hart), rest)
+            if of_hart is not None:
+                return of_hart
     raise LensFault(
         f'{path}, line {number}: {words!r} is no order; orders are "0 run 1", "0 exec", "0 exec x8", '
         '"0 exec until main+0x10", "0 exec all", "0 drain", "0 drain all", "0 preempt", "0 signal", "0 take", '

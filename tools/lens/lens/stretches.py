@@ -22,7 +22,7 @@ class Stretch(NamedTuple):
     hart: int
     kind: str
     thread: int
-    count: int
+    count: int  # type: ignore[assignment] # (in place of that of a tuple)
 
 
 Stretches = tuple[Stretch, ...]
@@ -36,7 +36,7 @@ class Piece(NamedTuple):
     hart: int
     kind: str
     thread: int
-    count: int = 1
+    count: int = 1  # type: ignore[assignment] # (in place of that of a tuple)
     origin: str = KEPT
     at: int = UNKNOWN
     """Which instruction of its thread's way the first is taken to be, counted from 0."""

@@ -77,6 +77,18 @@ class Printing(NamedTuple):
     length: int
 
 
+class HartHistory:
+    """What a hart keeps beside its waiting stores, as numbers that change."""
+
+    def __init__(self) -> None:
+        self.requests = Series()
+        """Bit G says that a request of hart G's barrier is pending on it."""
+        self.restarts = Series()
+        """1 where one of these asks for a restart."""
+        self.reservations = Series()
+        """Where the 8 bytes begin that it reserved, and 1; 0 where it has no reservation."""
+
+
 class ThreadHistory:
     """What a thread was and did."""
 
@@ -94,6 +106,8 @@ class ThreadHistory:
         self.changes = array('I', [since])
         self.states = [State(READY)]
         self.sequences: list[SequenceMade] = []
+        self.pending = Series()
+        """The signals that are pending for it: bit S - 1 is signal S."""
 
     def state(self, place: int) -> State:
         return self.states[max(0, bisect_right(self.changes, place) - 1)]
@@ -132,6 +146,7 @@ class Timeline:
         """Each event that there is."""
         self.lines = array('I', [0])
         """By line which of them it is."""
+        self.harts = [HartHistory() for _ in range(HARTS)]
         self.threads = {1: ThreadHistory(0, registers)}
         self.executions: dict[int, array[int]] = {}
         """By pc the lines that execute there, but for those that fault once more while the signal of the same

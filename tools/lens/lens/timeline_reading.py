@@ -11,15 +11,19 @@ from .facts import (
     RUNS,
     SLEEPS,
     Answer,
+    BarrierBegins,
     Called,
     Fact,
     Faulted,
     Interrupted,
+    Lost,
     Read,
     Register,
+    Reservation,
     SequenceBegins,
     SequenceEnds,
     Signal,
+    Taken,
     ThreadState,
     Waits,
     Wrote,
@@ -53,6 +57,8 @@ from .trace_text import END, NotATrace, of_line
 PRINTS = ('write', 'writev')
 LATER = 'later'
 SIGSEGV = 11
+WITH_RESTART = 128
+"""The command of membarrier whose requests ask for a restart (MEMBARRIER_CMD_PRIVATE_EXPEDITED_RSEQ)."""
 FACTS = 1 << 14
 """So many facts are kept, since a run tells the same again and again."""
 NUMBER = '  line '
@@ -125,6 +131,10 @@ class TimelineReader:
             Signal: self.note_signal,
             SequenceBegins: self.note_begin,
             SequenceEnds: self.note_end,
+            Reservation: self.note_reservation,
+            Lost: self.note_loss,
+            BarrierBegins: self.note_barrier,
+            Taken: self.note_taken,
         }
 
     def read(self, lines: Iterable[bytes]) -> None:
@@ -245,12 +255,19 @@ class TimelineReader:
         self.history.moves.pop()
 
     def note_signal(self, fact: Signal) -> None:
+        self.note_pending(fact)
         if fact.word == 'posted':
             return
         key = fact.thread or self.event.thread, fact.number
         if fact.word == 'delivered' and key not in self.faulting:
             self.notice(fact.number)
         self.faulting.discard(key)
+
+    def note_pending(self, fact: Signal) -> None:
+        """A signal is pending for a thread, or is so no longer."""
+        pending = self.timeline.threads[fact.thread or self.event.thread].pending
+        bit = 1 << fact.number - 1
+        pending.note(self.number, pending.newest() | bit if fact.word == 'posted' else pending.newest() & ~bit)
 
     def notice(self, signal: int) -> None:
         self.timeline.notices.append(Notice(self.number, self.event.thread, signal))
@@ -262,6 +279,32 @@ class TimelineReader:
         thread, abort = self.begun.pop(fact.first)
         made = SequenceMade(fact.first, fact.last, self.number, abort, fact.form)
         self.timeline.threads[thread].sequences.append(made)
+
+    # harts
+
+    def note_reservation(self, fact: Reservation) -> None:
+        """An SC that failed says nothing itself: that a reservation ended is told apart."""
+        if fact.word != 'failed':
+            value = fact.at + 1 if fact.word == 'reserved' else 0
+            self.timeline.harts[self.event.hart].reservations.note(self.number, value)
+
+    def note_loss(self, fact: Lost) -> None:
+        self.timeline.harts[fact.hart].reservations.note(self.number, 0)
+
+    def note_barrier(self, fact: BarrierBegins) -> None:
+        """The call that begins a barrier was noted just before."""
+        command = self.timeline.calls[-1].arguments[0]
+        for hart in fact.harts:
+            history = self.timeline.harts[hart]
+            history.requests.note(self.number, history.requests.newest() | 1 << self.event.hart)
+            if command == WITH_RESTART:
+                history.restarts.note(self.number, 1)
+
+    def note_taken(self, fact: Taken) -> None:
+        """A hart takes all requests that are pending on it."""
+        history = self.timeline.harts[self.event.hart]
+        history.requests.note(self.number, 0)
+        history.restarts.note(self.number, 0)
 
     # calls
 

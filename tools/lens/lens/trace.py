@@ -97,7 +97,7 @@ def stretch_slice(stretch: Stretch, lane: int, row: int, name: str) -> Event:
 
 def function_slices(history: History) -> Iterator[Event]:
     """The functions that a hart was in, each from its first instruction on end to its last."""
-    executed = {hart: [] for hart in history.output.harts}
+    executed: dict[int, list[Step | None]] = {hart: [] for hart in history.output.harts}
     for step in history.output.steps:
         if step.kind in (RUN, PREEMPT):
             executed[step.hart].append(None)
@@ -107,7 +107,7 @@ def function_slices(history: History) -> Iterator[Event]:
         named = itertools.groupby(steps, lambda step: step and history.program.function(step.pc))
         for name, group in named:
             if name is not None:
-                inside = list(group)
+                inside = [step for step in group if step]
                 yield {
                     'ph': COMPLETE,
                     'name': name,
@@ -126,7 +126,7 @@ def step_slices(history: History, values: Values | None) -> Iterator[Event]:
     for step in history.output.steps:
         if step.kind != EXEC or step.number in chosen:
             own, slice_ = by_step.get(step.number), step_slice(history, step)
-            if own:
+            if own and values:
                 tell_accesses(slice_, values, step, own)
             yield slice_
 

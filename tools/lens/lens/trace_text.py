@@ -5,12 +5,13 @@ import re
 from collections.abc import Iterator
 from dataclasses import dataclass
 from functools import cache
-from typing import NamedTuple
+from typing import NamedTuple, TypeVar
 
 from .facts import Fact, fact_of
 from .faults import LensFault
 from .output import Step, fields_of
 
+Kind = TypeVar('Kind')
 END = 'end '
 BETWEEN = '\n  line \n'
 RECORD = re.compile(r'(.*)\n  line ([0-9]+)\n((?:  .*\n)*)')
@@ -33,11 +34,11 @@ class Record(NamedTuple):
         """The facts in their order, read when they are first asked for."""
         return facts_of(self.lines)
 
-    def of_kind(self, kind: type) -> Iterator:
+    def of_kind(self, kind: type[Kind]) -> Iterator[Kind]:
         """Its facts of one kind."""
-        return (fact for fact in self.facts if type(fact) is kind)
+        return (fact for fact in self.facts if isinstance(fact, kind))
 
-    def first(self, kind: type):
+    def first(self, kind: type[Kind]) -> Kind | None:
         """The first of its facts of one kind; None where it has none."""
         return next(self.of_kind(kind), None)
 
@@ -76,9 +77,9 @@ def records(name: str, text: str) -> list[Record]:
     """One for each log line, with the lines up to the next. The last has no newline."""
     whole = f'{text}\n' if text else ''
     found = RECORD.findall(whole)
-    fields = [of_line(line) for line, _, _ in found]
+    fields = [words for line, _, _ in found if (words := of_line(line))]
     told = sum([len(line) + len(number) + len(lines) for line, number, lines in found])
-    if None in fields or told + len(BETWEEN) * len(found) < len(whole):
+    if len(fields) < len(found) or told + len(BETWEEN) * len(found) < len(whole):
         raise fault(name, whole)
     steps = [Step(int(number), *words) for (_, number, _), words in zip(found, fields)]
     return [Record(step, lines) for step, (_, _, lines) in zip(steps, found)]

@@ -47,7 +47,8 @@ class Player:
     def run(self, stretches: Stretches) -> Run | None:
         """The run that begins with stretches. What isn't allowed is left out, and so is the rest of its
         stretch. None where it had to be mended too often."""
-        pieces, spins = self.foresight.pieces(enumerate(stretches)), set()
+        pieces = self.foresight.pieces(enumerate(stretches))
+        spins: set[int] = set()
         for _ in range(MENDINGS):
             self.stop.check()
             answer = self.machine.finish_outline(script_of(pieces), self.calm)

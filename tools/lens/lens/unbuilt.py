@@ -12,8 +12,6 @@ from .trace_text import Record
 
 OPERATION = 0x7F
 """What of the second argument of futex says what is done."""
-MASKED, MASK = (9, 10), 5
-"""The operations of futex that have a mask, and which argument that is."""
 
 
 def of_unbuilt(program: Program, records: Iterable[Record]) -> Iterator[str]:
@@ -33,10 +31,7 @@ def of_unbuilt(program: Program, records: Iterable[Record]) -> Iterator[str]:
 def name_of(called: Called) -> str:
     """The name of a call with its number, or of futex with its operation."""
     if called.name == 'futex':
-        operation = called.arguments[1] & OPERATION
-        masked = operation in MASKED and len(called.arguments) > MASK
-        mask = f' and mask {called.arguments[MASK] & 0xFFFF_FFFF:#x}' if masked else ''
-        return f'futex with operation {operation}{mask}'
+        return f'futex with operation {called.arguments[1] & OPERATION}'
     if not called.name.isdecimal():
         return called.name
     number = int(called.name)

@@ -85,7 +85,7 @@ def accesses(values: Values, range_: Range) -> Iterator[Access]:
                 own = [read for read in reads if range_.has(read.at, read.size)]
                 yield Access(step, READS, whole.at, whole.size, whole.value, values.sources(own))
         for fact in facts:
-            if type(fact) in (Waits, Wrote, Zeroed) and range_.has(fact.at, fact[1]):
+            if isinstance(fact, (Waits, Wrote, Zeroed)) and range_.has(fact.at, fact[1]):
                 yield written(values, step, fact)
 
 
@@ -114,8 +114,8 @@ def watch(values: Values, words: str, selection: Selection = EVERY) -> Iterator[
     heads = '  '.join(head.ljust(width) for head, width in zip(HEADS, widths))
     yield f'{"step":>7}  {"hart":>4}  {"thread":>6}  {"access":<6}  {heads}  source'
     for (step, kind, *_), row in rows:
-        shown = '  '.join(cell.ljust(width) for cell, width in zip(row, [*widths, 0]))
-        yield f'{step.number:>7}  {step.hart:>4}  {step.thread or "":>6}  {kind:<6}  {shown}'.rstrip()
+        told = '  '.join(cell.ljust(width) for cell, width in zip(row, [*widths, 0]))
+        yield f'{step.number:>7}  {step.hart:>4}  {step.thread or "":>6}  {kind:<6}  {told}'.rstrip()
     yield ''
     size = f'{range_.size} bytes' if range_.size > 1 else '1 byte'
     often = f'{len(rows)}' if len(rows) == len(every) else f'{len(rows)} of {len(every)}'

@@ -247,14 +247,13 @@ class Ends(unittest.TestCase):
                     self.assertEqual(last, 'The check at prog.c:5 failed: count == two() (1, 2).')
 
     def test_calls_that_are_not_there(self):
-        """Where the program fails they are named, each once; where it doesn't, nothing is said of them."""
+        """Where the program fails they are named, each once; where it doesn't, nothing is said of them. A wake with a mask is there."""
         again = 'li a0, 0x2000\nli a1, 133\nli a7, 98\necall\n'
         masked = 'li a1, 10\nli a5, 4\necall\n'
         source = f'li a7, 113\necall\n{again}{again}{masked}li a7, 999\necall\nli a0, {{}}\nli a7, 93\necall'
         said = [
             'This machine has no clock_gettime (113): thread 1 got ENOSYS at _start+0x4 (step 3).',
             'This machine has no futex with operation 5: thread 1 got ENOSYS at _start+0x14 (step 7), the first of 2 times.',
-            'This machine has no futex with operation 10 and mask 0x4: thread 1 got ENOSYS at _start+0x30 (step 14).',
             'This machine has no call 999: thread 1 got ENOSYS at _start+0x38 (step 16).',
         ]
         with tempfile.TemporaryDirectory() as name:

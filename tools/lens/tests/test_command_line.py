@@ -107,7 +107,7 @@ class Words(unittest.TestCase):
         folder = tempfile.TemporaryDirectory()
         self.addCleanup(folder.cleanup)
         program = Path(folder.name) / 'program'
-        program.write_text('#!/bin/sh\n[ "$1" = --version ] && echo rseq_run 0.1 && exit\nseq 100000\n')
+        program.write_text('#!/bin/sh\n[ "$1" = --version ] && echo rseq_run 0.4.0 && exit\nseq 100000\n')
         program.chmod(0o755)
         return program
 

@@ -193,6 +193,16 @@ class WithGdb(unittest.TestCase):
         terminal.close()
         self.assertRegex(shown, r'#0  count_signal .*\n#1  .*3fffff0000 in .*\n#2 .* addv ')
 
+    def test_frames_of_handlers_with_more_to_read(self) -> None:
+        """With SA_SIGINFO the registers lie elsewhere in the frame."""
+        terminal = Terminal(['--seed', '1', EXAMPLES / 'segv_info' / 'segv_info.elf'], [])
+        terminal.ask('handle all nostop noprint')
+        terminal.ask('break mend')
+        terminal.ask('continue')
+        shown = terminal.ask('bt')
+        terminal.close()
+        self.assertRegex(shown, r'#0  mend .*\n#1  .*3fffff0008 in .*\n#2 .* main ')
+
     def test_help_and_completion(self) -> None:
         terminal = Terminal([FOUND, PETERSON], [])
         self.assertIn('Go to the place before a step of the run: goto N, or goto end.', terminal.ask('help goto'))

@@ -41,7 +41,7 @@ class Reading(unittest.TestCase):
             WHOLE.replace(
                 b'exec 12', b'jump 12'
             ): 'it: line 2 of its log is \'1 jump 12 000000000001007c\', and "HART KIND THREAD PC" is due',
-            b'console 0\n\nconsole 0\n\nlog 0\n': 'it: it is an output of `pair`, and lens shows the run of one process',
+            b'console 0\n\nconsole 0\n\nlog 0\n': 'it: it is an output of `pair`, and the run of one process is wanted here',
             WHOLE + b'more\n': 'it: a line "end REASON" is due behind the log, and \'end exit 7\' came',
         }
         for text, words in cases.items():

@@ -13,8 +13,11 @@ from .common import PROGRAM, ROOT, TIMEOUT, needs_objdump, needs_program
 
 PAGES = {
     'README.md': 3,
+    'docs/how-to/LITMUS_FILES.md': 7,
+    'docs/how-to/MANY_MACHINES.md': 1,
+    'docs/how-to/REPORT.md': 3,
     'docs/how-to/SCRIPTS.md': 6,
-    'docs/how-to/TESTS_IN_CI.md': 3,
+    'docs/how-to/TESTS_IN_CI.md': 7,
     'docs/reference/COMMANDS.md': 2,
     'docs/reference/EXPLORE.md': 3,
     'docs/reference/FORMATS.md': 10,
@@ -23,12 +26,14 @@ PAGES = {
     'docs/reference/STATUSES.md': 1,
     'docs/tutorial/FINDING_A_BUG.md': 33,
     'docs/tutorial/REAL_PROGRAMS.md': 18,
-    'tools/lens/README.md': 14,
+    'tools/lens/README.md': 15,
 }
 """How many commands of each are tried at least."""
 BLOCK = re.compile(r'(?:^ {4}.*\n|^\n(?= {4}))+', re.MULTILINE)
 COMMANDS = (
     'tools/bin/lens ',
+    'tools/bin/litmus ',
+    'tools/bin/sweep ',
     'crates/rseq_run/out/rseq_run ',
     'cat /tmp/',
     'D=examples',
@@ -38,8 +43,9 @@ COMMANDS = (
     'printf',
     'sed -n',
     'echo ',
+    'grep ',
 )
-NONE = ('tools/bin/lens why RUN ELF',)
+NONE = ('tools/bin/lens why RUN ELF', 'tools/bin/sweep lock.elf ')
 """How a block begins that shows the words of commands."""
 PROGRAMS = ROOT / 'docs' / 'PROGRAMS.md'
 FIRST = ROOT / 'docs' / 'tutorial' / 'FIRST_PROGRAM.md'

@@ -43,7 +43,7 @@ MOST_CALLS = 250
 120 times on 1 December 2026, and 904 before spinning was foreseen."""
 COUNTED_CLOCK = f'''
 import itertools, sys, time
-sys.path.insert(0, {str(ROOT / 'tools' / 'lens')!r})
+sys.path[:0] = {[str(ROOT / 'tools' / name) for name in ('runs', 'lens')]!r}
 from lens.cli import main
 looks = itertools.count()
 time.monotonic = lambda: next(looks) / 64

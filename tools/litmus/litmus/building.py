@@ -21,9 +21,9 @@ def toolchains() -> list[str]:
     return [name for name, tools in TOOLS.items() if all(map(shutil.which, tools))]
 
 
-def build(text: str, elf: Path, toolchain: str | None = None) -> Path:
+def build(text: str, elf: Path, toolchain: str | None = None, data: int | None = None) -> Path:
     """Builds a program beside its text, by one of the toolchains: where none is named, by the first that is
-    here."""
+    here; and with its data at an address, where one is given."""
     found = toolchain or next(iter(toolchains()), None)
     if found is None:
         raise NoToolchain('neither riscv64-unknown-elf-as and -ld nor clang and ld.lld is here')
@@ -32,7 +32,8 @@ def build(text: str, elf: Path, toolchain: str | None = None) -> Path:
     source.write_text(text)
     words = ['--target=riscv64-unknown-elf', '-c'] if found == LLVM else []
     run(assembler, *words, *ARCHITECTURE, '-o', str(made), str(source))
-    run(linker, *LINKED, '-o', str(elf), str(made))
+    placed = [] if data is None else [f'-Tdata={data:#x}']
+    run(linker, *LINKED, *placed, '-o', str(elf), str(made))
     return elf
 
 

@@ -3,6 +3,7 @@ from __future__ import annotations
 
 import argparse
 import os
+import sys
 from collections.abc import Callable
 from math import inf
 
@@ -13,6 +14,7 @@ from lens.machine import BUILT
 from .building import NoToolchain
 from .comparing import Explorer, explore_all
 from .enumeration import outcomes
+from .files.cli import COMMAND, SUFFIX, add_run, with_command
 from .generator import random_litmus
 from .instructions import described
 from .listing import assembler
@@ -20,17 +22,26 @@ from .searching import Comparison, Searcher
 from .showing import told
 
 DIFFERENT_STATUS = 1
+COMMANDS = (COMMAND, 'show', 'explore', 'compare')
 PLACES = 20_000
 
 
 def make_parser() -> argparse.ArgumentParser:
     parser = Parser(
         prog='litmus',
-        description='Makes small random tests of memory and threads from seeds, and compares the outcomes '
-        'that rseq_run finds of each with all that Ztso allows. Ends with 1 where they differ.',
+        description='Runs litmus files of herd7\'s format; or makes small random tests of memory and threads '
+        'from seeds, and compares the outcomes that rseq_run finds of each with all that Ztso allows. Ends '
+        'with 1 where they differ.',
     )
     add_version(parser)
     commands = parser.add_subparsers(dest='command', metavar='COMMAND', required=True)
+    run = commands.add_parser(
+        COMMAND,
+        help=f'runs litmus files, and prints what herd7 prints (short: litmus NAME{SUFFIX})',
+        description='Each thread of a test has a hart of its own. All of its runs are looked at (outcomes), or '
+        'with --runs some (explore).',
+    )
+    add_run(run)
     show = commands.add_parser('show', help='the program of a seed, and its outcomes')
     show.add_argument('seed', type=natural, metavar='SEED')
     show.add_argument('--harts', type=positive, metavar='N', help='how many harts (as many as threads)')
@@ -98,13 +109,15 @@ def compare_tests(arguments: argparse.Namespace) -> int:
     return DIFFERENT_STATUS if comparison.compare(seeds_of(arguments), arguments.harts) else 0
 
 
-def asked(arguments: argparse.Namespace) -> int:
-    act: Callable[[argparse.Namespace], int] = arguments.act
+def asked(words: list[str]) -> int:
+    """Does what a command says."""
     try:
+        arguments = make_parser().parse_args(with_command(words, COMMANDS))
+        act: Callable[[argparse.Namespace], int] = arguments.act
         return act(arguments)
     except NoToolchain as missing:
         raise LensFault(str(missing)) from None
 
 
 def main(words: list[str] | None = None) -> int:
-    return end('litmus', lambda: asked(make_parser().parse_args(words)))
+    return end('litmus', lambda: asked(sys.argv[1:] if words is None else words))

@@ -227,7 +227,7 @@ class Searches(unittest.TestCase):
     def test_what_counts_is_said(self) -> None:
         """A search that takes long and is unfinished says which register took the most values."""
         build(COUNTING, self.elf)
-        words = [PROGRAM, 'outcomes', self.elf, '--harts=1', '--places=8000', '--scripts=no']
+        words = [str(PROGRAM), 'outcomes', str(self.elf), '--harts=1', '--places=8000', '--scripts=no']
         ran = subprocess.run(words, capture_output=True, text=True)
         self.assertTrue(ran.stdout.endswith('\nunfinished places\n'), ran.stdout)
         (said,) = filter(None, map(MOST_VALUES.fullmatch, ran.stderr.splitlines()))

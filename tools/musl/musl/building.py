@@ -119,7 +119,9 @@ def link_kernel_headers(made: Path) -> None:
         found = re.search(r'(\S+)/linux/version\.h', call(words, made, 'linux/version.h'))
     except LensFault:
         return
-    for name in ('linux', 'asm', 'asm-generic') if found else ():
+    if found is None:
+        return
+    for name in ('linux', 'asm', 'asm-generic'):
         (made / 'include' / name).symlink_to(Path(found[1], name))
 
 

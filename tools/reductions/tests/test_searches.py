@@ -29,7 +29,7 @@ def has_option() -> bool:
     """Whether the built program can leave a reduction out."""
     if not PROGRAM.is_file():
         return False
-    return '--without' in subprocess.run([PROGRAM, '--help'], capture_output=True, text=True).stderr
+    return '--without' in subprocess.run([PROGRAM, '--help'], capture_output=True, text=True).stdout
 
 
 needs_option = unittest.skipUnless(has_option(), f'{PROGRAM} isn\'t built, or has no option --without')

@@ -6,61 +6,40 @@ import contextlib
 import hashlib
 import shlex
 import sys
+import time
+from collections.abc import Iterator
+from dataclasses import dataclass, replace as changed
 from pathlib import Path
 
-from lens.arguments import add_program, limits_of
-from lens.command_line import FAULT_STATUS, INTERRUPTED_STATUS, Parser, add_version, end, natural, positive
+from lens.arguments import limits_of
+from lens.command_line import FAULT_STATUS, INTERRUPTED_STATUS, end
 from lens.faults import LensFault
 from lens.machine import Machine
-from lens.output import shown_console
 
 from .jobs import Parallel, Swept, make_jobs, seconds_of_jobs, sweep_jobs
+from .junit import junit_text
 from .limits import jobs_that_fit, mebibytes_a_run
-from .records import ELF, RUNS, Folder, Met, Outcome, replace
+from .merge import merge
+from .records import ELF, RUNS, Folder, replace
+from .reports import Failure, Report
+from .table import again, sorted_outcomes, table_of
+from .words import SEEDS, make_parser
 
 UNEXPECTED_STATUS = 1
-SEEDS = 1 << 64
 
 
-def make_parser() -> argparse.ArgumentParser:
-    parser = Parser(
-        prog='sweep',
-        description='Runs a program many times, each time with another seed, '
-        'and says which outcomes came how often. The same command goes on with a sweep '
-        'that was interrupted, and with more runs goes on where it was; with another ELF it begins anew. '
-        'Ends with 1 where a run ended otherwise than --expect says.',
-    )
-    add_version(parser)
-    parser.add_argument('elf', metavar='ELF')
-    parser.add_argument('-o', '--out', metavar='FOLDER', required=True, help='where the sweep is kept')
-    parser.add_argument('--runs', type=positive, default=1000, metavar='N', help='how many seeds (1000)')
-    parser.add_argument('--first-seed', type=natural, default=1, metavar='S', help='the first of them (1)')
-    parser.add_argument(
-        '--by',
-        choices=('draw', 'run'),
-        default='draw',
-        help='the command: by draw a seed gives one run on each machine; by run it repeats nothing (draw)',
-    )
-    parser.add_argument('--expect', metavar='END', help="how each run is to end, as 'exit 0'")
-    parser.add_argument(
-        '--seeds-a-job', type=positive, default=100, metavar='K', help='seeds of one process (100)'
-    )
-    parser.add_argument(
-        '--jobs', type=positive, metavar='J', help='how many at once (one a processor, as memory allows)'
-    )
-    parser.add_argument(
-        '--seconds', type=float, default=600, metavar='T', help='how long a call may take (600)'
-    )
-    parser.add_argument(
-        '--sshlogin',
-        action='append',
-        default=[],
-        metavar='LOGIN',
-        help='a machine, as GNU parallel '
-        'has it (`:` is this one); it needs the same files at the same paths; may be given again',
-    )
-    add_program(parser)
-    return parser
+@dataclass
+class Clock:
+    """How many seconds a call may take; None for as many as it wants."""
+
+    within: float | None
+    began: float
+
+    def left(self, files: int) -> float | None:
+        """The share of one of so many files that are left in what is left."""
+        if self.within is None:
+            return None
+        return max(0.0, self.within - (time.monotonic() - self.began)) / files
 
 
 def digest(path: str) -> str:
@@ -70,11 +49,11 @@ def digest(path: str) -> str:
         raise LensFault(f'{path}: {error.strerror}') from None
 
 
-def asked_of(arguments: argparse.Namespace) -> dict:
+def asked_of(arguments: argparse.Namespace, elf: str) -> dict[str, object]:
     """What makes two sweeps the same one."""
     return {
         'program': digest(arguments.program),
-        ELF: digest(arguments.elf),
+        ELF: digest(elf),
         'command': arguments.by,
         RUNS: arguments.runs,
         'first seed': arguments.first_seed,
@@ -84,30 +63,116 @@ def asked_of(arguments: argparse.Namespace) -> dict:
 
 
 def sweep(arguments: argparse.Namespace) -> int:
+    """Sweeps the files one behind the other, and reports of them together; the status of all."""
+    check_words(arguments)
+    folders = folders_of(arguments)
+    for elf in arguments.elf:
+        asked_of(arguments, elf)
+        check_first(arguments, elf)
+    clock = Clock(arguments.within, time.monotonic())
+    reports: list[Report] = []
+    statuses: list[int] = []
+    for at, (elf, folder) in enumerate(folders.items()):
+        if statuses and statuses[-1] == INTERRUPTED_STATUS:
+            reports.append(Report(elf, arguments.runs))
+            continue
+        report, status = sweep_one(arguments, elf, Folder(folder), clock.left(len(folders) - at))
+        reports.append(report)
+        statuses.append(status)
+    write_reports(arguments, reports)
+    return max(statuses)
+
+
+def check_words(arguments: argparse.Namespace) -> None:
+    """What the words ask for together has to be there."""
     if not 0 <= arguments.first_seed <= SEEDS - arguments.runs:
         raise LensFault(f'a seed is a number from 0 to {SEEDS - 1}')
-    asked = asked_of(arguments)
-    check_first(arguments)
-    folder = Folder(arguments.out)
-    if folder.open(asked):
+    if (arguments.junit or arguments.github) and arguments.expect is None:
+        raise LensFault("--junit and --github want --expect, as --expect 'exit 0': without it no run ends otherwise")
+
+
+def folders_of(arguments: argparse.Namespace) -> dict[str, Path]:
+    """Where the sweep of each file is kept: in the folder that is named; of several files in folders in it, by their
+    names."""
+    out, elves = Path(arguments.out), list(dict.fromkeys(arguments.elf))
+    if len(elves) == 1:
+        return {elves[0]: out}
+    folders = {elf: out / Path(elf).stem for elf in elves}
+    for elf, folder in folders.items():
+        twin = next((other for other in elves if other != elf and folders[other] == folder), None)
+        if twin:
+            raise LensFault(f'{elf} and {twin} would both be kept in {folder}: sweep them by two calls')
+    return folders
+
+
+def sweep_one(
+    arguments: argparse.Namespace, elf: str, folder: Folder, within: float | None
+) -> tuple[Report, int]:
+    """The sweep of a file, for so many seconds at most: what it came to, and its status. Where there are several files,
+    a fault of one keeps none of the others back."""
+    began = time.monotonic()
+    report = Report(elf, arguments.runs, expected=arguments.expect or '')
+    try:
+        report, status = swept_report(arguments, report, folder, within)
+    except LensFault as fault:
+        if len(arguments.elf) == 1 and not arguments.junit and not arguments.github:
+            raise
+        print(f'sweep: {fault}', file=sys.stderr)
+        report, status = changed(report, fault=str(fault)), fault.status
+    return changed(report, seconds=time.monotonic() - began), status
+
+
+def swept_report(
+    arguments: argparse.Namespace, report: Report, folder: Folder, within: float | None
+) -> tuple[Report, int]:
+    """Makes the runs of a file, and prints the table of those that there are at the end."""
+    elf = report.elf
+    if folder.open(asked_of(arguments, elf)):
         print(f'sweep: {folder.path} held the sweep of another ELF; it begins anew', file=sys.stderr)
-    mebibytes = mebibytes_a_run(arguments.frames, arguments.steps)
-    program, elf = (str(Path(path).resolve()) for path in (arguments.program, arguments.elf))
-    command = [str(arguments.seconds), program, arguments.by, elf, *limits_of(arguments)]
-    parallel = Parallel(jobs_that_fit(arguments.jobs, mebibytes), mebibytes, arguments.sshlogin, command)
+    parallel = parallel_of(arguments, elf)
     jobs = make_jobs(arguments.first_seed, arguments.runs, arguments.seeds_a_job)
-    swept = sweep_jobs(parallel, folder, jobs)
+    swept = sweep_jobs(parallel, folder, jobs, within)
     tell_fault(swept.faults)
     if not swept.is_whole:
-        print(
-            f'sweep: {swept.runs} of {arguments.runs} runs are kept in {folder.path}; the same command goes on',
-            file=sys.stderr,
-        )
-        return INTERRUPTED_STATUS if swept.was_interrupted else FAULT_STATUS
-    table = table_of(swept, folder, arguments)
+        print(f'sweep: {what_is_kept(swept, arguments, folder)}', file=sys.stderr)
+    report = changed(report, runs=swept.runs, failures=tuple(failures(swept, folder, arguments, elf)))
+    if not is_shown(swept):
+        status = INTERRUPTED_STATUS if swept.was_interrupted else FAULT_STATUS
+        return changed(report, fault=(swept.faults or [what_is_kept(swept, arguments, folder)])[0]), status
+    table = table_of(swept, folder, arguments, elf)
     keep_table(folder, table)
     print_table(table, seconds_of_jobs(folder), parallel.jobs_at_once)
-    return UNEXPECTED_STATUS if has_unexpected(swept, arguments.expect) else 0
+    return report, UNEXPECTED_STATUS if report.failures else 0
+
+
+def is_shown(swept: Swept) -> bool:
+    """Whether there is a table of a sweep: it is whole, or its time was over and nothing else ended it."""
+    return swept.is_whole or (swept.was_late and bool(swept.runs) and not (swept.was_interrupted or swept.faults))
+
+
+def what_is_kept(swept: Swept, arguments: argparse.Namespace, folder: Folder) -> str:
+    """How much of a sweep there is, where that isn't all."""
+    runs = f'{swept.runs} of {arguments.runs} runs'
+    if not swept.was_late or swept.was_interrupted:
+        return f'{runs} are kept in {folder.path}; the same command goes on'
+    fewer = '' if swept.runs else f', and no job of {arguments.seeds_a_job} seeds ended: --seeds-a-job says how many'
+    return f'{runs} were made in the time of --within{fewer}; the same command goes on'
+
+
+def failures(swept: Swept, folder: Folder, arguments: argparse.Namespace, elf: str) -> Iterator[Failure]:
+    """The outcomes that weren't expected, the most frequent one first."""
+    for outcome, met in sorted_outcomes(swept):
+        if arguments.expect is not None and outcome.end != arguments.expect:
+            words = shlex.join(again(outcome, met, folder, arguments, elf))
+            yield Failure(outcome, met.runs, met.rank.seed, words, folder.output_of(outcome))
+
+
+def parallel_of(arguments: argparse.Namespace, elf: str) -> Parallel:
+    """How GNU parallel is called for a file."""
+    mebibytes = mebibytes_a_run(arguments.frames, arguments.steps)
+    program, path = (str(Path(path).resolve()) for path in (arguments.program, elf))
+    command = [str(arguments.seconds), program, arguments.by, path, *limits_of(arguments)]
+    return Parallel(jobs_that_fit(arguments.jobs, mebibytes), mebibytes, arguments.sshlogin, command)
 
 
 def tell_fault(faults: list[str]) -> None:
@@ -132,47 +197,34 @@ def keep_table(folder: Folder, table: str) -> None:
         raise LensFault(f'{folder.table}: {error.strerror}; the same command makes it') from None
 
 
-def check_first(arguments: argparse.Namespace) -> None:
+def write_reports(arguments: argparse.Namespace, reports: list[Report]) -> None:
+    """The file of JUnit's form, and the workflow commands on standard output, where they are asked for."""
+    if arguments.junit:
+        try:
+            replace(Path(arguments.junit), junit_text(reports))
+        except OSError as error:
+            raise LensFault(f'{arguments.junit}: {error.strerror}; the same command makes it') from None
+    if arguments.github:
+        from .github import workflow_commands  # (it alone needs what reads source lines)
+
+        machine = Machine(arguments.program, '', tuple(limits_of(arguments)))
+        with contextlib.suppress(BrokenPipeError):
+            for line in workflow_commands(reports, machine):
+                print(line)
+
+
+def check_first(arguments: argparse.Namespace, elf: str) -> None:
     """Says in one line what each job would say: that the program is another one, or that it doesn't take the
     file or a limit. One step of the first run tells."""
     limits = [word for word in limits_of(arguments) if not word.startswith('--steps=')]
-    machine = Machine(arguments.program, arguments.elf, (*limits, '--steps=1'))
+    machine = Machine(arguments.program, elf, (*limits, '--steps=1'))
     machine.check_name()
     machine.draw(arguments.first_seed)
 
 
-def has_unexpected(swept: Swept, expected: str | None) -> bool:
-    """Whether some run ended otherwise than was expected."""
-    return expected is not None and any(outcome.end != expected for outcome in swept.tally)
-
-
-def table_of(swept: Swept, folder: Folder, arguments: argparse.Namespace) -> str:
-    """The outcomes, the most frequent one first, and how each is seen again."""
-    rows = sorted(swept.tally.items(), key=lambda row: (-row[1].runs, row[0].end, row[0].console))
-    lines = [
-        f'{swept.runs} runs of {arguments.elf}, {len(rows)} outcome{"s" if len(rows) != 1 else ""}',
-        f'{"runs":>9}  {"end":<12}  {"steps":>9}  console',
-    ]
-    lines += [
-        f'{met.runs:>9}  {outcome.end:<12}  {met.rank.steps:>9}  {shown_console(outcome.console)}'
-        for outcome, met in rows
-    ]
-    lines += [
-        '',
-        'A run of each, again ("steps" are its steps; its text is in the file .output beside):',
-    ]
-    lines += [shlex.join(again(outcome, met, folder, arguments)) for outcome, met in rows]
-    return ''.join(f'{line}\n' for line in lines)
-
-
-def again(outcome: Outcome, met: Met, folder: Folder, arguments: argparse.Namespace) -> list[str]:
-    """The words that make the kept run of an outcome again: its seed draws it, or its log is played."""
-    limits = limits_of(arguments)
-    if arguments.by == 'draw':
-        return [arguments.program, 'draw', arguments.elf, f'--seed={met.rank.seed}', *limits]
-    return [arguments.program, 'play', arguments.elf, str(folder.script_of(outcome)), *limits]
-
-
 def main() -> int:
     """Does what the words ask; 2 and one line on standard error where it can't."""
-    return end('sweep', lambda: sweep(make_parser().parse_args()))
+    words = sys.argv[1:]
+    if words[:1] == ['merge']:
+        return end('sweep', lambda: merge(words[1:]))
+    return end('sweep', lambda: sweep(make_parser().parse_args(words)))

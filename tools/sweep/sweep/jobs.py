@@ -7,10 +7,12 @@ import signal
 import subprocess
 import sys
 import tempfile
-from collections.abc import Iterator
+import threading
+from collections.abc import Generator, Iterator
 from contextlib import closing, contextmanager
 from dataclasses import dataclass, field
 from pathlib import Path
+from typing import IO, cast
 
 from lens.faults import LensFault
 
@@ -19,6 +21,10 @@ from .records import Folder, Record, Tally, note, read_fault, read_record, repla
 WORKER = Path(__file__).with_name('worker.py')
 PYTHON = '/usr/bin/python3'
 PARALLEL = 'parallel'
+TRIES = 4
+"""So often a job is begun at most where other machines have part: each time on one on which it failed least."""
+SSH = 'ssh -o BatchMode=yes -o ConnectTimeout=10 -o ServerAliveInterval=5 -o ServerAliveCountMax=3'
+"""A machine that isn't heard for 15 seconds is given up, and its jobs fail there."""
 
 
 @dataclass(frozen=True)
@@ -52,6 +58,7 @@ class Parallel:
         worker = shlex.join([python(), str(WORKER)])
         job = f'{worker} {{1}} {{2}} {shlex.join(self.command)}'
         logins = [word for login in self.logins for word in ('--sshlogin', login)]
+        others = ['--retries', str(TRIES), '--ssh', SSH] if any(map(is_elsewhere, self.logins)) else []
         bar = ['--bar'] if sys.stderr.isatty() else []
         return [
             PARALLEL,
@@ -66,6 +73,7 @@ class Parallel:
             '--halt',
             'soon,fail=1',
             *bar,
+            *others,
             *logins,
             '--colsep',
             ' ',
@@ -75,18 +83,24 @@ class Parallel:
         ]
 
 
+def is_elsewhere(login: str) -> bool:
+    """Whether a login of GNU parallel is that of another machine: behind the number of jobs, `:` is this one."""
+    return login.rpartition('/')[2] != ':'
+
+
 def python() -> str:
     return PYTHON if Path(PYTHON).exists() else sys.executable
 
 
 @dataclass
 class Swept:
-    """What a sweep has: the outcomes that were met, whether every job gave its record, and whether it was
-    interrupted."""
+    """What a sweep has: the outcomes that were met, whether every job gave its record, whether it was
+    interrupted, and whether its time was over."""
 
     tally: Tally
     is_whole: bool = False
     was_interrupted: bool = False
+    was_late: bool = False
     faults: list[str] = field(default_factory=list)
     """Why jobs gave no record, in the order in which they said so."""
 
@@ -97,40 +111,53 @@ class Swept:
 
 @dataclass
 class Interruption:
-    """Whether an interrupt came, and the process that it is handed on to."""
+    """Whether an interrupt came, or the time was over, and the process that is interrupted then."""
 
     came: bool = False
-    running: subprocess.Popen | None = None
+    is_late: bool = False
+    running: subprocess.Popen[str] | None = None
 
     def note(self, *_: object) -> None:
         self.came = True
+        self.hand_on()
+
+    def note_late(self) -> None:
+        self.is_late = True
+        self.hand_on()
+
+    def hand_on(self) -> None:
         if self.running:
             self.running.send_signal(signal.SIGINT)
 
-    def watch(self, running: subprocess.Popen) -> None:
+    def watch(self, running: subprocess.Popen[str]) -> None:
         """Hands interrupts on to a process, and the one that came while it was started too."""
         self.running = running
-        if self.came:
+        if self.came or self.is_late:
             running.send_signal(signal.SIGINT)
 
 
 @contextmanager
-def noted_interrupts() -> Iterator[Interruption]:
+def noted_interrupts(within: float | None) -> Iterator[Interruption]:
     """Within it an interrupt is noted, whatever it comes upon, and breaks nothing off. It stays ignored
-    where it was."""
+    where it was. The end of so many seconds is noted in the same way."""
     interruption = Interruption()
     before = signal.getsignal(signal.SIGINT)
     if before is not signal.SIG_IGN:
         signal.signal(signal.SIGINT, interruption.note)
+    timer = threading.Timer(within or 0, interruption.note_late)
+    timer.daemon = True
     try:
+        if within is not None:
+            timer.start()
         yield interruption
     finally:
+        timer.cancel()
         signal.signal(signal.SIGINT, before)
 
 
-def sweep_jobs(parallel: Parallel, folder: Folder, jobs: list[Job]) -> Swept:
-    """Runs the jobs whose records aren't kept yet. The last job of a sweep of fewer runs may have had fewer seeds: it is
-    run again."""
+def sweep_jobs(parallel: Parallel, folder: Folder, jobs: list[Job], within: float | None = None) -> Swept:
+    """Runs the jobs whose records aren't kept yet, for so many seconds at most. The last job of a sweep of fewer runs
+    may have had fewer seeds: it is run again."""
     if shutil.which(PARALLEL) is None:
         raise LensFault('GNU parallel isn\'t installed: apt-get install parallel')
     counts = {job.first: job.count for job in jobs}
@@ -142,14 +169,14 @@ def sweep_jobs(parallel: Parallel, folder: Folder, jobs: list[Job]) -> Swept:
     try:
         replace(folder.jobs, ''.join(f'{job.first} {job.count}\n' for job in jobs).encode())
         prune_job_log(folder, {str(job.number) for job in jobs if job.first in kept})
-        with noted_interrupts() as interruption:
+        with noted_interrupts(within) as interruption:
             keep_records(parallel, folder, swept, kept, interruption)
     except OSError as error:
         runs = sum(counts[first] for first in kept)
         raise LensFault(
             f'{folder.path}: {error.strerror}; {runs} runs are kept there, and the same command goes on'
         ) from None
-    swept.was_interrupted = interruption.came
+    swept.was_interrupted, swept.was_late = interruption.came, interruption.is_late
     swept.is_whole = all(job.first in kept for job in jobs)
     return swept
 
@@ -181,7 +208,7 @@ def prune_job_log(folder: Folder, numbers: set[str]) -> None:
     replace(folder.job_log, ''.join([heading, *left]).encode())
 
 
-def answers_of(words: list[str], interruption: Interruption) -> Iterator[Record | str]:
+def answers_of(words: list[str], interruption: Interruption) -> Generator[Record | str, None, None]:
     """The records that GNU parallel prints, as they come, and why jobs gave none; after an interruption, those that
     it still prints. Where no more of them are wanted, it is interrupted. What it says itself is passed on at its end
     where no job said what is wrong; on a terminal at once."""
@@ -195,7 +222,7 @@ def answers_of(words: list[str], interruption: Interruption) -> Iterator[Record 
         interruption.watch(running)
         is_told = False
         try:
-            for line in running.stdout:
+            for line in cast(IO[str], running.stdout):
                 answer = read_record(line) or read_fault(line)
                 if answer:
                     is_told = is_told or isinstance(answer, str)

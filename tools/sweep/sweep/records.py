@@ -8,6 +8,7 @@ import os
 import zlib
 from dataclasses import asdict, dataclass
 from pathlib import Path
+from typing import Any
 
 from lens.faults import LensFault
 from lens.output import Outline, outline
@@ -142,7 +143,7 @@ class Folder:
     """Where a sweep keeps what it was asked, its jobs, the job log of GNU parallel, the records, and a
     run of each outcome."""
 
-    def __init__(self, path: str):
+    def __init__(self, path: str | Path):
         self.path = Path(path)
         self.asked = self.path / 'sweep.json'
         self.jobs = self.path / 'jobs'
@@ -150,7 +151,7 @@ class Folder:
         self.results = self.path / 'results'
         self.table = self.path / 'table.txt'
 
-    def open(self, asked: dict) -> bool:
+    def open(self, asked: dict[str, object]) -> bool:
         """Makes the folder, or takes it up again where it holds the same sweep, also one of fewer runs. Where it
         holds the sweep of another ELF, that is forgotten: whether it was."""
         try:
@@ -168,7 +169,7 @@ class Folder:
             raise LensFault(f'{self.path}: {error.strerror}') from None
         return begins_anew
 
-    def differs_in_elf(self, kept: dict, asked: dict) -> bool:
+    def differs_in_elf(self, kept: dict[str, Any], asked: dict[str, Any]) -> bool:
         """Whether a sweep that is kept is that of another ELF. A fault where it differs in something else, or has more
         runs than are asked for."""
         differing = {key for key in kept.keys() | asked.keys() if kept.get(key) != asked.get(key)}

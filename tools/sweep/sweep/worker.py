@@ -12,11 +12,11 @@ import sys
 from dataclasses import dataclass, replace
 from pathlib import Path
 
-sys.path += [str(Path(__file__).resolve().parents[2] / name) for name in ('lens', 'sweep')]
+sys.path += [str(Path(__file__).resolve().parents[2] / name) for name in ('runs', 'lens', 'sweep')]
 
 from lens.faults import LensFault  # noqa: E402 (found by the line above)
 from lens.machine import said  # noqa: E402
-from sweep.explored import read_explored  # noqa: E402
+from runs.explored import read_explored  # noqa: E402
 from sweep.records import Record, Tally, fault_line, note, read_run  # noqa: E402
 
 FAULT_STATUS = 2

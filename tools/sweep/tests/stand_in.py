@@ -50,14 +50,17 @@ def explore(runs, first, count):
         console, steps, end = runs.make(seed)
         texts.setdefault(end, f'seed {seed} policy stretch steps {steps}\n{console_part(console)}end {end}\n')
         counts[end] = counts.get(end, 0) + 1
+    others = ''
+    if 'others' in runs.words:
+        end, text = texts.popitem()
+        others = f'others {counts[end]} {text.partition(" policy")[0]}\n'
     parts = ''.join(f'runs {counts[end]} {text}' for end, text in texts.items())
-    others = 'others 1 seed 1\n' if 'others' in runs.words else ''
     return f'outcomes {len(texts)}\n{parts}{others}runs {count}\nharts 1 {count}\nswitches 0\npreemptions 0 inside 0\nwaited\novertaken 0 of 0\n'
 
 
 def main():
     if sys.argv[1:] == ['--version']:
-        print('rseq_run 0.1 (a stand-in)')
+        print('rseq_run 0.4.0 (a stand-in)')
         return 0
     command, file, *options = sys.argv[1:]
     numbers = dict(option.removeprefix('--').split('=') for option in options)

@@ -9,9 +9,10 @@ use Rattle.block_model.proofs.CallEffects.Console.{deed_write, deed_writev}
 use Rattle.block_model.proofs.CallEffects.Ending.{deed_exit, deed_exit_group}
 use Rattle.block_model.proofs.CallEffects.Futexes.{deed_futex}
 use Rattle.block_model.proofs.CallEffects.Limits.{deed_prlimit}
-use Rattle.block_model.proofs.CallEffects.Memory.{deed_brk, deed_mmap, deed_mprotect, deed_munmap}
+use Rattle.block_model.proofs.CallEffects.Memory.{deed_brk, deed_madvise, deed_mmap, deed_mprotect, deed_munmap}
 use Rattle.block_model.proofs.CallEffects.Numbers.{deed_getegid, deed_geteuid, deed_getgid, deed_getpid, deed_getppid, deed_gettid, deed_getuid, deed_set_tid_address}
 use Rattle.block_model.proofs.CallEffects.Policies.{deed_getparam, deed_getscheduler, deed_priority_max, deed_priority_min}
+use Rattle.block_model.proofs.CallEffects.Random.{deed_getrandom}
 use Rattle.block_model.proofs.CallEffects.Sequences.{deed_sequence_call}
 use Rattle.block_model.proofs.CallEffects.Signals.{deed_sigaction, deed_sigpending, deed_sigprocmask, deed_sigreturn, deed_tgkill, deed_tkill}
 use Rattle.block_model.proofs.CallEffects.System.{deed_uname}
@@ -64,7 +65,9 @@ deed_own_call here t number =
     either (eqb number 220) (λ is. deed_clone here t number (eqb-true number 220 is)) (λ _.
     either (eqb number 222) (λ is. at_number here t number 222 _ is (deed_mmap here t)) (λ _.
     either (eqb number 226) (λ is. at_number here t number 226 _ is (deed_mprotect here t)) (λ _.
-    deed_asking_call here t number))))))))))))))))))))))
+    either (eqb number 233) (λ _. deed_madvise here t number) (λ _.
+    either (eqb number 278) (λ _. deed_getrandom here t number) (λ _.
+    deed_asking_call here t number))))))))))))))))))))))))
 
 deed_call_of : (here : Here) (t number : ℕ) → CallDeed here t number (call_of number here t)
 deed_call_of here t number =

@@ -1,6 +1,7 @@
 -- futex(2).
 use Rattle.block_model.proofs.Common.{◌≡◌, ℕ, ◌<◌, ◌^◌, ◌&&◌, ◌||◌, Bool, true, false, not, refl, sym, [], arith, eqb, Here, argument, false≢true, int_argument, leb-false, mod-lt, next_for}
-use Rattle.block_model.specs.Calls.Futexes.{futex, futex_errors, futex_requeue, futex_wait, futex_wake, is_negative, is_requeue, is_wait, is_wake, operation, requeue_errors, wait_errors}
+use Rattle.mach_types.specs.Kernel.Futexes.{hears, operation}
+use Rattle.block_model.specs.Calls.Futexes.{anyone, futex, futex_errors, futex_requeue, futex_wait, futex_wake, is_negative, is_requeue, is_wait, is_wake, requeue_errors, wait_errors, wake_mask}
 use Rattle.block_model.proofs.SignalsOfWaiters.{none_left}
 use Rattle.block_model.proofs.CallEffects.{CallDeed, NoneHolds, Waits, Wakes, answers_0, by_errors, either}
 
@@ -26,16 +27,16 @@ module _ (here : Here) (t number : ℕ) (is : number ≡ 98) where
   deed_wake : CallDeed here t number (futex_wake here t)
   deed_wake =
       let most : int_argument here t 2 < 2 ^ 32 = mod-lt (argument here t 2) (omega arith) in
-      Wakes (int_argument here t 2) 0 (argument here t 0) 0 (omega arith)
+      Wakes (int_argument here t 2) 0 (argument here t 0) 0 (λ u. hears (wake_mask here t) (here.file u)) (omega arith)
 
   deed_requeue : NoneHolds (futex_errors here t) → is_wait op ≡ false → is_wake op ≡ false → CallDeed here t number (futex_requeue here t)
   deed_requeue none waits wakes =
       let n = int_argument here t 2 in
       let more = int_argument here t 3 in
-      let small = neither _ _ (requeues _ _ _ _ waits wakes none.0 none.1.1.1.1.0) in
+      let small = neither _ _ (requeues _ _ _ _ waits wakes none.0 none.1.1.1.0) in
       let few : n < 2 ^ 31 = leb-false _ _ small.0 in
       let fewer : more < 2 ^ 31 = leb-false _ _ small.1 in
-      by_errors (requeue_errors here t) _ (λ _. Wakes n more (argument here t 0) (argument here t 4) (omega arith))
+      by_errors (requeue_errors here t) _ (λ _. Wakes n more (argument here t 0) (argument here t 4) anyone (omega arith))
 
   pub deed_futex : CallDeed here t number (futex here t)
   deed_futex =

@@ -1,10 +1,11 @@
--- brk(2), mmap(2), munmap(2) and mprotect(2): a page that such a call doesn't take can be written after it
+-- brk(2), mmap(2), munmap(2), mprotect(2) and madvise(2): a page that such a call doesn't take can be written after it
 -- where it could before.
-use Rattle.block_model.proofs.Common.{◌≡◌, ℕ, ◌-◌, ◌/◌, ◌≤◌, inl, inr, List, [], ◌∷◌, refl, sym, subst, arith, Bool, true, false, not, cond, ◌&&◌, eqb, leb, ltb, Option, Some, None, Result, Ok, Err, is_none, is_some, Errno, Here, IsError, MAPPING_START, PAGE_SIZE, PageRun, Pages, USER_END, and_parts, argument, can_write, cases_lt, cond_both, each_page-at, false≢true, is_in, is_writable, le-leb, le-ltb, leb-true, lt-ltb, paged, pages_of, permission_of, run, said, taken_by}
+use Rattle.block_model.proofs.Common.{◌≡◌, ℕ, ◌-◌, ◌/◌, ◌≤◌, inl, inr, List, [], ◌∷◌, refl, sym, subst, arith, Bool, true, false, not, cond, ◌&&◌, eqb, leb, ltb, Option, Some, None, Result, Ok, Err, is_none, is_some, Errno, Here, IsError, MAPPING_START, PAGE_SIZE, PageRun, Pages, USER_END, and_parts, argument, int_argument, can_write, cases_lt, cond_both, each_page-at, false≢true, is_in, is_writable, le-leb, le-ltb, leb-true, lt-ltb, paged, pages_of, permission_of, run, said, taken_by}
 use Rattle.mach_types.specs.Kernel.Pages.{zeros_of}
 use Rattle.mach_types.specs.Kernel.PageCalls.{break_run, free_past, mapped_at, mmap_answer, mprotect_refusal, munmap_refusal, permission_for, protected, unmapped}
-use Rattle.block_model.specs.Calls.Memory.{brk, changed_unless, mapped_or_refused, may_break, mmap, mmap_errors, mprotect, munmap, no_pages, permission_here, unless_refused, zeros_if_mapped}
-use Rattle.block_model.proofs.CallEffects.{CallDeed, Answers, Remaps, Says, answers_0, by_errors}
+use Rattle.block_model.specs.Calls.Memory.{advice_writes, brk, changed_unless, is_dropping, madvise, madvise_refusal, mapped_or_refused, may_break, mmap, mmap_errors, mprotect, munmap, no_pages, pages_at, permission_here, unless_refused, wrote_unless, zeros_if_mapped}
+use Rattle.mach_types.specs.declared.user_memory.Write.{Write}
+use Rattle.block_model.proofs.CallEffects.{CallDeed, Answers, Remaps, Same, Says, answers_0, by_errors}
 use Rattle.block_model.proofs.Invariants.Calls.Conditions.{StaysWritable}
 use Rattle.block_model.proofs.Pages.{IsPaged, paged_brk, paged_mmap, paged_mprotect, paged_munmap, IsPlaced, is_inside, placed}
 use Rattle.block_model.proofs.WritableBytes.{AllWritable}
@@ -123,6 +124,24 @@ module _ (here : Here) (p : ℕ) where
         (λ n outside may. grown_stays (break_run old.break_at p) old.runs
         (is_in (break_run old.break_at p) n) n refl (grows up) may)
   ]
+
+-- madvise(2) leaves the pages, and writes zeros or nothing
+deed_wrote : (here : Here) (t number : ℕ) (o : Option Errno) (ws : List Write) → AllWritable (is_writable here) ws
+    → CallDeed here t number (wrote_unless here t o ws)
+deed_wrote here t number (Some e) ws writable = Says _
+deed_wrote here t number None ws writable = answers_0 ws here.kernel writable Same
+
+advice_writable : (here : Here) (at len advice : ℕ) → AllWritable (is_writable here) (advice_writes at len advice)
+advice_writable here at len advice =
+    cond_both (is_dropping advice && not (eqb len 0)) (zeros_of (pages_at at len) ∷ []) [] (AllWritable (is_writable here)) (λ dropped. (tt, tt)) (λ none. tt)
+
+pub deed_madvise : (here : Here) (t number : ℕ) → CallDeed here t number (madvise here t)
+deed_madvise here t number =
+    let p = argument here t 0 in
+    let len = argument here t 1 in
+    let advice = int_argument here t 2 in
+    deed_wrote here t number (madvise_refusal (permission_here here) here.setting.program.break_at p len advice) (advice_writes p len advice)
+    (advice_writable here p len advice)
 
 -- a page that comes to be is zeroed, and nothing is stored
 zeros_writable : (here : Here) (r : PageRun) → AllWritable (is_writable here) (zeros_if_mapped r)

@@ -1,5 +1,5 @@
 -- An instruction.
-use Rattle.block_model.proofs.Common.{◌≡◌, ℕ, ◌+◌, ◌≤◌, List, [], ◌∷◌, refl, sym, ap, ◌∙◌, arith, Bool, true, false, not, cond, ◌&&◌, ◌||◌, leb, ltb, Option, Some, None, length, is_some, AllByRecursion, Effect, FullBuffer, Here, IsGoodHere, MayEnter, Neighbour, Others, Pages, Regs, Store, Why, by_call, by_outcome, call_number, called, can_write, each_byte, fault_by, fault_in, fetched, instruction_gate, is_call, is_held, is_inside_here, is_reserved, is_storable, leb-false, lies_waiting_on, lt-ltb, next_effect, next_fault, option_or, or_in_segment, others_gate, outcome, outcome_of, permission_at, reached, refusal_exec, refusal_exec_by, runs, taken_by, unless_allowed, view_of_all, waiting_here, with_pending}
+use Rattle.block_model.proofs.Common.{◌≡◌, ℕ, ◌+◌, ◌≤◌, List, [], ◌∷◌, refl, sym, ap, ◌∙◌, arith, Bool, true, false, not, cond, ◌&&◌, ◌||◌, leb, ltb, Option, Some, None, length, is_some, AllByRecursion, Effect, FullBuffer, Here, IsGoodHere, MayEnter, Neighbour, Others, Pages, Regs, Store, Why, by_call, by_outcome, call_number, called, can_write, each_byte, fault_by, fault_in, fetched, instruction_gate, is_call, is_held, is_inside_here, is_reserved, is_storable, leb-false, lies_waiting_on, lt-ltb, next_effect, next_fault, option_or, or_in_segment, others_gate, outcome, outcome_of, permission_at, reached, refusal_exec, refusal_exec_by, runs, taken_by, unless_allowed, view_of_all, waiting_here, fault_told, with_fault}
 use Rattle.mach_types.specs.declared.events.Why.TheVariants.{Waiting}
 use Rattle.mach_types.specs.declared.user_memory.TheConstants.{STORE_BUFFER_CAPACITY}
 use Rattle.rv_inst.specs.declared.effects.Effect.TheVariants as effect
@@ -14,7 +14,7 @@ use Rattle.block_model.proofs.Invariants.Calls.Conditions.{fit_by_call, own_apar
 use Rattle.block_model.proofs.Invariants.Calls.RecordSteps.{kept_signalled}
 use Rattle.block_model.proofs.Invariants.Calls.EachCall.{fit_called}
 use Rattle.block_model.proofs.Invariants.Events.{fit_staying, out_of_barrier}
-use Rattle.block_model.proofs.SignalTables.{pending_keeps}
+use Rattle.block_model.proofs.SignalTables.{fault_keeps}
 
 -- what a plain store executes, where it doesn't fault: one store that may enter; no other instruction executes one
 pub record IsExecuted (beside : Option Neighbour) (p : Pages) (e : Effect) (o : Outcome) : Type 0 where
@@ -50,10 +50,10 @@ gate_room n e faults few free = room_by _ (leb STORE_BUFFER_CAPACITY n) (is_plai
 
 -- a fault that is handled: the thread stays where it is, and a signal becomes pending for it
 pub fit_fault : (here : Here) (t signal : ℕ) → IsGoodHere here
-    → IsFit here (record (one_instruction here) { kernel = signalled (with_pending t signal here.kernel.signals) here.kernel })
+    → IsFit here (record (one_instruction here) { kernel = signalled (with_fault t (fault_told here t signal) here.kernel.signals) here.kernel })
 fit_fault here t signal good =
     fit_staying here _ good refl refl (omega arith) refl refl (apart_none here)
-    (kept_signalled here.setting (with_pending t signal here.kernel.signals) here.kernel good.kernel (pending_keeps t signal here.kernel.signals))
+    (kept_signalled here.setting (with_fault t (fault_told here t signal) here.kernel.signals) here.kernel good.kernel (fault_keeps t (fault_told here t signal) here.kernel.signals))
 
 plain : (here : Here) (t : ℕ) (e : Effect) → IsGoodHere here → runs here ≡ Some t → here.awaits ≡ None → IsExecuted here.beside here.kernel.pages e (outcome_of here t e) → length (waiting_here here) + cond (is_plain_store e) 1 0 ≤ STORE_BUFFER_CAPACITY → IsFit here (by_outcome here t (outcome_of here t e))
 plain here t e good at out is room = record {

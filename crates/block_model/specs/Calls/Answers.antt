@@ -52,7 +52,10 @@ are_readable here at len = each_byte (λ a. is_some (memory here a)) at len
 abbrev pub are_writable : Here → ℕ → ℕ → Bool
 are_writable here at len = each_byte (is_writable here) at len
 
--- the kernel's write of a u32, or of 8 bytes
+-- the kernel's write of a byte, of a u32, or of 8 bytes
+abbrev pub byte_written : ℕ → ℕ → Write
+byte_written at value = Stored (record { at = at; size = 1; value = value })
+
 abbrev pub word_written : ℕ → ℕ → Write
 word_written at value = Stored (record { at = at; size = 4; value = value })
 

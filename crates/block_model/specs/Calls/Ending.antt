@@ -8,7 +8,7 @@ use Rattle.mach_types.specs.Kernel.Threads.{clear_of}
 use Rattle.block_model.specs.Here.{Here}
 use Rattle.block_model.specs.Kernel.{gone}
 use Rattle.block_model.specs.Calls.Answers.{CallDone, argument, are_writable, word_written}
-use Rattle.block_model.specs.Calls.Futexes.{Woken, answered_wait, wake}
+use Rattle.block_model.specs.Calls.Futexes.{Woken, answered_wait, anyone, wake}
 
 -- the process ends with this code
 abbrev pub ended_with : Here → ℕ → End
@@ -24,7 +24,7 @@ is_last here = nat_le (length here.kernel.threads.live) 1
 
 -- at the clear address one waiter is woken
 abbrev pub woken_at_exit : Here → ℕ → Woken
-woken_at_exit here t = wake (if clears here t then 1 else 0) (clear_of t here.kernel.threads) here.kernel
+woken_at_exit here t = wake (if clears here t then 1 else 0) (clear_of t here.kernel.threads) anyone here.kernel
 
 -- the write of 0 at the clear address
 abbrev pub clearing : Here → ℕ → List Write

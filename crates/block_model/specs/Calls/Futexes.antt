@@ -1,6 +1,6 @@
 -- futex(2): a thread waits at the address of a word, and others wake it, or let it wait at another word. That the longest waiting is
 -- woken first, and that waking none wakes nobody, is own.
-use Rattle.std.specs.Prelude.{ℕ, ◌-◌, ◌*◌, ◌/◌, ◌%◌, ◌^◌, ◌==◌, ◌&&◌, ◌||◌, Bool, not, nat_le, zero, suc, List, [], ◌∷◌, length, map, if◌then◌else◌, None, is_some}
+use Rattle.std.specs.Prelude.{ℕ, ◌/◌, ◌%◌, ◌^◌, ◌==◌, ◌&&◌, ◌||◌, Bool, true, not, nat_le, zero, suc, List, [], ◌∷◌, length, map, if◌then◌else◌, Option, Some, None, is_some}
 use Rattle.std.specs.Option.{option_map_or}
 use Rattle.mach_types.specs.Registers.{with_register}
 use Rattle.mach_types.specs.declared.address_space.TheConstants.{USER_END}
@@ -8,6 +8,7 @@ use Rattle.mach_types.specs.declared.errors.TheConstants.{EAGAIN, EFAULT, EINTR,
 use Rattle.mach_types.specs.declared.threads.Saved.{Saved}
 use Rattle.block_model.specs.Record.{Kernel}
 use Rattle.mach_types.specs.Kernel.Signals.{next_for}
+use Rattle.mach_types.specs.Kernel.Futexes.{hears, operation}
 use Rattle.mach_types.specs.Kernel.Threads.{longest_waiter}
 use Rattle.block_model.specs.Here.{Here}
 use Rattle.block_model.specs.Kernel.{requeued, waited, woken}
@@ -29,23 +30,25 @@ nobody k = record { threads = []; kernel = k }
 abbrev pub woken_first : ℕ → Woken → Woken
 woken_first u rest = record { threads = u ∷ rest.threads; kernel = rest.kernel }
 
--- of the threads that wait at an address so many wait at another one from now on, the longest waiting first
-abbrev pub move : ℕ → ℕ → ℕ → Kernel → Woken
-move zero at to k = nobody k
-move (suc n) at to k = option_map_or (λ u. woken_first u (move n at to (requeued u to k))) (longest_waiter at k.threads) (nobody k)
+-- of the threads that wait at an address and listen so many wait at another one from now on, the longest waiting first
+abbrev pub move : ℕ → ℕ → ℕ → (ℕ → Bool) → Kernel → Woken
+move zero at to listens k = nobody k
+move (suc n) at to listens k =
+    option_map_or (λ u. woken_first u (move n at to listens (requeued u to k))) (longest_waiter at listens k.threads) (nobody k)
 
--- of the threads that wait at an address so many are woken, the longest waiting first, and so many more wait at another one
-abbrev pub requeue : ℕ → ℕ → ℕ → ℕ → Kernel → Woken
-requeue zero more at to k = move more at to k
-requeue (suc n) more at to k = option_map_or (λ u. woken_first u (requeue n more at to (woken u k))) (longest_waiter at k.threads) (nobody k)
+-- of the threads that wait at an address and listen so many are woken, the longest waiting first, and so many more wait at another one
+abbrev pub requeue : ℕ → ℕ → ℕ → ℕ → (ℕ → Bool) → Kernel → Woken
+requeue zero more at to listens k = move more at to listens k
+requeue (suc n) more at to listens k =
+    option_map_or (λ u. woken_first u (requeue n more at to listens (woken u k))) (longest_waiter at listens k.threads) (nobody k)
 
 -- so many are woken, and the others wait as before
-abbrev pub wake : ℕ → ℕ → Kernel → Woken
-wake n at k = requeue n 0 at 0 k
+abbrev pub wake : ℕ → ℕ → (ℕ → Bool) → Kernel → Woken
+wake n at listens k = requeue n 0 at 0 listens k
 
--- an operation without its bits 128, by which a futex is private to the process, and 256, by which a time is one of CLOCK_REALTIME
-abbrev pub operation : ℕ → ℕ
-operation op = op - 128 * ((op / 128) % 4)
+-- whoever waits listens
+abbrev pub anyone : ℕ → Bool
+anyone t = true
 
 abbrev pub is_by_clock : ℕ → Bool
 is_by_clock op = (op / 256) % 2 == 1
@@ -63,10 +66,6 @@ is_requeue op = op == 3 || op == 4
 -- which take a mask
 abbrev pub has_mask : ℕ → Bool
 has_mask op = op == 9 || op == 10
-
--- the mask of all bits, which is the only one that is built (own)
-abbrev pub all_bits : ℕ
-all_bits = 2 ^ 32 - 1
 
 -- a negative `int`
 abbrev pub is_negative : ℕ → Bool
@@ -98,11 +97,15 @@ counted here t done = record {
   ended = None;
 }
 
--- WAKE
-abbrev pub futex_wake : Here → ℕ → CallDone
-futex_wake here t = counted here t (wake (int_argument here t 2) (argument here t 0) here.kernel)
+-- WAKE, and WAKE_BITSET, which has a mask
+abbrev pub wake_mask : Here → ℕ → Option ℕ
+wake_mask here t = if has_mask (operation (int_argument here t 1)) then Some (int_argument here t 5) else None
 
--- REQUEUE, and CMP_REQUEUE, which compares the word first; both words being one is own
+abbrev pub futex_wake : Here → ℕ → CallDone
+futex_wake here t =
+    counted here t (wake (int_argument here t 2) (argument here t 0) (λ u. hears (wake_mask here t) (here.file u)) here.kernel)
+
+-- REQUEUE, and CMP_REQUEUE, which compares the word first; whoever waits listens. Both words being one is own
 abbrev pub requeue_errors : Here → ℕ → Errors
 requeue_errors here t =
     let p = argument here t 0 in
@@ -118,7 +121,7 @@ requeue_errors here t =
 abbrev pub futex_requeue : Here → ℕ → CallDone
 futex_requeue here t =
     unless here t (requeue_errors here t)
-    (counted here t (requeue (int_argument here t 2) (int_argument here t 3) (argument here t 0) (argument here t 4) here.kernel))
+    (counted here t (requeue (int_argument here t 2) (int_argument here t 3) (argument here t 0) (argument here t 4) anyone here.kernel))
 
 -- futex(p, op, val, timeout or val2, q, val3), number 98
 abbrev pub futex_errors : Here → ℕ → Errors
@@ -129,7 +132,6 @@ futex_errors here t =
     (not (is_wait op || is_wake op || is_requeue op), ENOSYS)
     ∷ (is_by_clock (int_argument here t 1) && not (op == 9), ENOSYS)
     ∷ (has_mask op && mask == 0, EINVAL)
-    ∷ (has_mask op && not (mask == all_bits), ENOSYS)
     ∷ (is_requeue op && (is_negative (int_argument here t 2) || is_negative (int_argument here t 3)), EINVAL)
     ∷ (not (p % 4 == 0), EINVAL)
     ∷ (nat_le USER_END p, EFAULT)

@@ -1,20 +1,20 @@
--- brk(2), mmap(2), munmap(2) and mprotect(2): the calls that map, remove and protect pages of the process. When each is refused
--- and what it makes of the pages stands with the pages; here are their arguments, answers and writes, and the pages that a call
--- would take from those who use them.
-use Rattle.std.specs.Prelude.{ℕ, zero, suc, ◌-◌, ◌/◌, ◌==◌, ◌&&◌, ◌||◌, Bool, false, not, List, [], ◌∷◌, if◌then◌else◌, Option, Some, None, is_none, is_some, Result, Ok, Err, nat_lt, bit_and}
+-- brk(2), mmap(2), munmap(2), mprotect(2) and madvise(2): the calls that map, remove and protect pages of the process, or make them
+-- zero. When the first four are refused and what they make of the pages stands with the pages; here are their arguments, answers and
+-- writes, all of madvise(2), and the pages that a call would take from those who use them.
+use Rattle.std.specs.Prelude.{ℕ, zero, suc, ◌+◌, ◌-◌, ◌*◌, ◌/◌, ◌%◌, ◌^◌, ◌==◌, ◌&&◌, ◌||◌, Bool, false, not, List, [], ◌∷◌, if◌then◌else◌, Option, Some, None, is_none, is_some, Result, Ok, Err, nat_le, nat_lt, bit_and}
 use Rattle.std.specs.List.{list_any}
 use Rattle.mach_types.specs.Bytes.{each_byte}
-use Rattle.mach_types.specs.declared.address_space.TheConstants.{PAGE_SIZE}
+use Rattle.mach_types.specs.declared.address_space.TheConstants.{PAGE_SIZE, USER_END}
 use Rattle.mach_types.specs.declared.errors.Errno.{Errno}
-use Rattle.mach_types.specs.declared.errors.TheConstants.{EINVAL}
+use Rattle.mach_types.specs.declared.errors.TheConstants.{EINVAL, ENOMEM}
 use Rattle.mach_types.specs.declared.user_memory.Store.{Store}
 use Rattle.mach_types.specs.declared.user_memory.Write.{Write}
-use Rattle.mach_types.specs.Kernel.Pages.{PageRun, Pages, is_in, pages_of, permission_of, run, zeros_of}
+use Rattle.mach_types.specs.Kernel.Pages.{PageRun, Pages, is_in, is_mapped, is_without_code, pages_of, permission_of, run, zeros_of}
 use Rattle.mach_types.specs.Kernel.PageCalls.{break_moved, break_run, mapped_at, may_move_break, mmap_answer, mprotect_refusal, munmap_refusal, permission_for, protected, unmapped}
 use Rattle.block_model.specs.Beside.{Neighbour, or_in_segment}
 use Rattle.block_model.specs.Here.{Here}
 use Rattle.block_model.specs.Kernel.{paged}
-use Rattle.block_model.specs.Calls.Answers.{CallDone, Errors, argument, refused, said, unless}
+use Rattle.block_model.specs.Calls.Answers.{CallDone, Errors, argument, int_argument, refused, said, unless}
 
 -- the permission of page n, where it is mapped
 abbrev pub permission_here : Here → ℕ → Option ℕ
@@ -89,8 +89,62 @@ mprotect here t =
     let prot = argument here t 2 in
     changed_unless here t (mprotect_refusal (permission_here here) p len prot) (protected p len prot here.kernel.pages)
 
--- The pages that a call takes from those who use them: those that munmap removes, that mprotect protects, and that brk removes
--- where the break falls. A call that is refused takes none.
+-- The advice that changes nothing here: MADV_NORMAL, MADV_RANDOM, MADV_SEQUENTIAL and MADV_WILLNEED, 0 to 3; MADV_FREE, 8, whose pages
+-- are never freed (own); MADV_DONTFORK and MADV_DOFORK, 10 and 11; and from MADV_HUGEPAGE to MADV_PAGEOUT, 14 to 21
+abbrev pub is_idle_advice : ℕ → Bool
+is_idle_advice advice =
+    nat_le advice 3 || advice == 8 || (nat_le 10 advice && nat_le advice 11) || (nat_le 14 advice && nat_le advice 21)
+
+-- MADV_DONTNEED: the bytes of the pages are needed no more, and they are zero from now on
+abbrev pub is_dropping : ℕ → Bool
+is_dropping advice = advice == 4
+
+-- whether whole pages that hold so many bytes from an address on would pass the last address
+abbrev pub passes_last : ℕ → ℕ → Bool
+passes_last at len = nat_le (2 ^ 64) (at + pages_of len * PAGE_SIZE)
+
+-- whether so many pages from one on can be dropped, where each is mapped with these permissions and the program's own data ended at
+-- this lowest break: none is the program's, nor the one that signal handlers return to (own; on Linux the program's get the bytes of
+-- its file again)
+abbrev pub can_drop : (ℕ → Option ℕ) → ℕ → ℕ → ℕ → Bool
+can_drop permission lowest first count = nat_le (pages_of lowest) first && is_without_code permission first count
+
+-- madvise(p, len, advice), number 233: EINVAL for other advice (own), for an address within a page, and where the pages would pass the
+-- last address; no bytes are no error; ENOMEM where the bytes end past the addresses of a process, or where a page isn't mapped; and
+-- EINVAL for pages that can't be dropped
+abbrev pub madvise_refusal : (ℕ → Option ℕ) → ℕ → ℕ → ℕ → ℕ → Option Errno
+madvise_refusal permission lowest at len advice =
+    if not (is_idle_advice advice || is_dropping advice) then Some EINVAL
+    else if not (at % PAGE_SIZE == 0) then Some EINVAL
+    else if passes_last at len then Some EINVAL
+    else if len == 0 then None
+    else if nat_lt USER_END (at + len) then Some ENOMEM
+    else if not (is_mapped permission (at / PAGE_SIZE) (pages_of len)) then Some ENOMEM
+    else if is_dropping advice && not (can_drop permission lowest (at / PAGE_SIZE) (pages_of len)) then Some EINVAL
+    else None
+
+-- the pages that so many bytes from an address on fill
+abbrev pub pages_at : ℕ → ℕ → PageRun
+pages_at at len = run (at / PAGE_SIZE) (pages_of len) None
+
+-- what the advice writes: the zeros of the pages that are dropped
+abbrev pub advice_writes : ℕ → ℕ → ℕ → List Write
+advice_writes at len advice = if is_dropping advice && not (len == 0) then zeros_of (pages_at at len) ∷ [] else []
+
+-- a call that has no other answer than 0, and leaves the record: refused with an error, or these are its writes
+abbrev pub wrote_unless : Here → ℕ → Option Errno → List Write → CallDone
+wrote_unless here t (Some e) ws = refused here t e
+wrote_unless here t None ws = record (said here t 0) { entered = ws }
+
+abbrev pub advised : Here → ℕ → ℕ → ℕ → ℕ → CallDone
+advised here t p len advice =
+    wrote_unless here t (madvise_refusal (permission_here here) here.setting.program.break_at p len advice) (advice_writes p len advice)
+
+abbrev pub madvise : Here → ℕ → CallDone
+madvise here t = advised here t (argument here t 0) (argument here t 1) (int_argument here t 2)
+
+-- The pages that a call takes from those who use them: those that munmap removes, that mprotect protects, that madvise drops, and that
+-- brk removes where the break falls. A call that is refused takes none.
 abbrev pub no_pages : PageRun
 no_pages = run 0 0 None
 
@@ -116,12 +170,23 @@ taken_by_mprotect here t =
     let prot = argument here t 2 in
     unless_refused (mprotect_refusal (permission_here here) p len prot) (run (p / PAGE_SIZE) (pages_of len) (Some (permission_for prot)))
 
+abbrev pub taken_by_advice : Option Errno → ℕ → ℕ → ℕ → PageRun
+taken_by_advice refusal at len advice = if is_dropping advice then unless_refused refusal (pages_at at len) else no_pages
+
+abbrev pub taken_by_madvise : Here → ℕ → PageRun
+taken_by_madvise here t =
+    let p = argument here t 0 in
+    let len = argument here t 1 in
+    let advice = int_argument here t 2 in
+    taken_by_advice (madvise_refusal (permission_here here) here.setting.program.break_at p len advice) p len advice
+
 -- the same for the call of a number; no other call takes a page
 abbrev pub taken_by : ℕ → Here → ℕ → PageRun
 taken_by number here t =
     if number == 214 then taken_by_brk here t
     else if number == 215 then taken_by_munmap here t
     else if number == 226 then taken_by_mprotect here t
+    else if number == 233 then taken_by_madvise here t
     else no_pages
 
 -- whether a byte of a store lies on one of the pages of a run; none does that lies in the segment that the process

@@ -2,10 +2,12 @@
 use Rattle.std.specs.Prelude.{ℕ, [], ◌∷◌, ◌&&◌, Bool, false, not, length, if◌then◌else◌, Option, Some, None, is_some}
 use Rattle.std.specs.Option.{option_map_or, option_or}
 use Rattle.mach_types.specs.Bytes.{all_stored}
-use Rattle.mach_types.specs.Kernel.Signals.{action_of, has_signal, is_handler, mask_of, with_pending}
+use Rattle.mach_types.specs.Kernel.Pages.{permission_at}
+use Rattle.mach_types.specs.Kernel.Signals.{action_of, has_signal, is_handler, mask_of, with_fault}
 use Rattle.mach_types.specs.declared.events.Why.{Why}
 use Rattle.mach_types.specs.declared.events.Why.TheVariants.{Idle, Others}
 use Rattle.mach_types.specs.declared.limits.End.TheVariants.{Killed}
+use Rattle.mach_types.specs.declared.signal_words.Fault.{Fault}
 use Rattle.rv_inst.specs.declared.effects.Effect.{Effect}
 use Rattle.rv_inst.specs.Execution.{Outcome, outcome, instruction_gate}
 use Rattle.rv_inst.specs.Class.{is_call}
@@ -24,6 +26,10 @@ next_effect here t = instruction.next_effect here.setting.program.pages (here.fi
 
 abbrev pub next_fault : Here → ℕ → Option ℕ
 next_fault here t = instruction.next_fault here.setting.program.pages (reached here) (is_storable here) (here.file t)
+
+-- what a fault with this signal of thread t says of itself
+abbrev pub fault_told : Here → ℕ → ℕ → Fault
+fault_told here t signal = instruction.told_by (permission_at here.kernel.pages) (here.file t).pc (next_effect here t) signal
 
 -- whether a byte of a store that waits on some hart of the machine lies on a page that the call of thread t would take (own: so
 -- a store that was executed can always enter memory). A call inside a sequence takes none
@@ -57,12 +63,13 @@ abbrev pub has_handler : Here → ℕ → ℕ → Bool
 has_handler here t signal =
     not (has_signal (mask_of t here.kernel.signals) signal) && is_handler (action_of signal here.kernel.signals)
 
--- a fault: registers and pc stay as they are. The signal becomes pending for the thread where it has a handler (signal(7); that the
--- thread stays at its instruction until the signal is delivered is own), and else the process is killed by it
+-- a fault: registers and pc stay as they are. The signal becomes pending for the thread, which keeps what the fault says, where it
+-- has a handler (signal(7); that the thread stays at its instruction until the signal is delivered is own), and else the process is
+-- killed by it
 abbrev pub by_fault : Here → ℕ → ℕ → Done
 by_fault here t signal =
     if has_handler here t signal
-    then record (one_instruction here) { kernel = signalled (with_pending t signal here.kernel.signals) here.kernel }
+    then record (one_instruction here) { kernel = signalled (with_fault t (fault_told here t signal) here.kernel.signals) here.kernel }
     else record (one_instruction here) { ended = Some (Killed signal) }
 
 -- a call, which ends its hart's reservation

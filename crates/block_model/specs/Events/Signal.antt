@@ -12,7 +12,7 @@ use Rattle.mach_types.specs.declared.signals.TheConstants.{SIGSEGV}
 use Rattle.mach_types.specs.declared.threads.Saved.{Saved}
 use Rattle.mach_types.specs.Kernel.Areas.{pc_after, writes_of}
 use Rattle.mach_types.specs.Kernel.SignalFrames.{can_write_frame, entered, frame_writes, handler_file}
-use Rattle.mach_types.specs.Kernel.Signals.{Signalling, action_of, dropped, is_handler, is_ignored, mask_of, next_for, without_pending}
+use Rattle.mach_types.specs.Kernel.Signals.{Signalling, action_of, dropped, fault_of, is_handler, is_ignored, mask_of, next_for, without_pending}
 use Rattle.block_model.specs.Here.{Here, Done, is_writable, nothing, runs, waiting_here}
 use Rattle.block_model.specs.Kernel.{signalled}
 use Rattle.block_model.specs.Sequences.{area_here, files_interrupted, interruption_here}
@@ -39,8 +39,9 @@ file_interrupted here t o = record (here.file t) { pc = pc_after (here.file t).p
 -- where the handler is entered
 abbrev pub kills_unhandled : Here → ℕ → ℕ → Outcome → Option ℕ
 kills_unhandled here t signal o =
-    if not (is_handler (action_of signal here.kernel.signals)) then Some signal
-    else if not (can_write_frame (is_writable here) (file_interrupted here t o)) then Some SIGSEGV
+    let a = action_of signal here.kernel.signals in
+    if not (is_handler a) then Some signal
+    else if not (can_write_frame (is_writable here) a (file_interrupted here t o)) then Some SIGSEGV
     else None
 
 abbrev pub kills : Here → ℕ → ℕ → Outcome → Option ℕ
@@ -70,14 +71,15 @@ dropped_if_ignored signal g = if is_ignored signal (action_of signal g) then dro
 abbrev pub signals_handled : ℕ → ℕ → Signalling → Signalling
 signals_handled t signal g = dropped_if_ignored signal (entered t signal g)
 
--- then the handler is entered: its frame has the file of the interrupted thread, and the mask that the thread had
+-- then the handler is entered: its frame has the file of the interrupted thread, and the mask that the thread had; with SA_SIGINFO
+-- it has also what the signal says
 abbrev pub handled : Here → ℕ → ℕ → Outcome → Done
 handled here t signal o =
     let g = here.kernel.signals in
     let interrupted = file_interrupted here t o in
     record (only_taken here t signal o) {
       files = (t, handler_file signal (action_of signal g) interrupted) ∷ [];
-      entered = writes_of (area_here here t) o ++ frame_writes interrupted (mask_of t g);
+      entered = writes_of (area_here here t) o ++ frame_writes signal (action_of signal g) (fault_of t signal g) interrupted (mask_of t g);
       kernel = signalled (signals_handled t signal (signals_taken here t signal)) here.kernel;
     }
 

@@ -185,6 +185,7 @@ impl Bench {
                 rseq: false,
             },
             console: Console::new(alloc)?,
+            random: 0,
         };
         let pages = booted(alloc)?;
         let mut bench = Bench { kernel, pages };

@@ -4,6 +4,7 @@
 pub mod asking;
 pub mod console;
 pub mod memory;
+pub mod random;
 pub mod sequences;
 pub mod signalling;
 pub mod threads;

@@ -70,7 +70,11 @@ pub const MMAP: u64 = 222;
 
 pub const MPROTECT: u64 = 226;
 
+pub const MADVISE: u64 = 233;
+
 pub const PRLIMIT64: u64 = 261;
+
+pub const GETRANDOM: u64 = 278;
 
 pub const MEMBARRIER: u64 = 283;
 

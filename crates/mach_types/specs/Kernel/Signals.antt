@@ -5,6 +5,7 @@ use Rattle.std.specs.Prelude.{ℕ, ◌+◌, ◌-◌, ◌/◌, ◌%◌, ◌^◌, 
 use Rattle.std.specs.Option.{option_map_or}
 use Rattle.std.specs.List.{list_any, range_with_len}
 use Rattle.mach_types.specs.declared.signal_words.Action.{Action}
+use Rattle.mach_types.specs.declared.signal_words.Fault.{Fault}
 use Rattle.mach_types.specs.declared.signal_words.ThreadSignals.{ThreadSignals}
 use Rattle.mach_types.specs.declared.signals.TheConstants.{LAST_SIGNAL, SIGKILL, SIGSTOP, SIGCHLD, SIGCONT, SIGURG, SIGWINCH, SIG_DFL, SIG_IGN, SIG_BLOCK, SIG_UNBLOCK, SIG_SETMASK}
 
@@ -62,7 +63,7 @@ is_handler a = not (a.at == SIG_DFL || a.at == SIG_IGN)
 
 -- at its start a thread has a mask, and nothing is pending
 abbrev pub new_thread : ℕ → ℕ → ThreadSignals
-new_thread t mask = record { tid = t; mask = mask; pending = 0 }
+new_thread t mask = record { tid = t; mask = mask; pending = 0; fault = None }
 
 abbrev pub is_of : ℕ → ThreadSignals → Bool
 is_of t th = th.tid == t
@@ -76,6 +77,18 @@ mask_of t g = option_map_or (λ th. th.mask) (find (is_of t) g.threads) 0
 
 abbrev pub pending_of : ℕ → Signalling → ℕ
 pending_of t g = option_map_or (λ th. th.pending) (find (is_of t) g.threads) 0
+
+-- what the newest fault of a thread says; and the same where it is of signal s
+abbrev pub newest_fault : ℕ → Signalling → Option Fault
+newest_fault t g = option_map_or (λ th. th.fault) (find (is_of t) g.threads) None
+
+abbrev pub fault_by : ℕ → Option Fault → Option Fault
+fault_by s None = None
+fault_by s (Some f) = if f.signal == s then Some f else None
+
+-- of what the pending signal s tells a thread: of its fault, or of no fault, where it was posted to it
+abbrev pub fault_of : ℕ → ℕ → Signalling → Option Fault
+fault_of t s g = fault_by s (newest_fault t g)
 
 -- a signal that is pending and isn't masked can be delivered (signal(7)); the lowest one is next (own)
 abbrev pub is_deliverable : ℕ → Signalling → ℕ → Bool
@@ -112,9 +125,20 @@ post_if t s th = if is_of t th then record th { pending = joined th.pending (onl
 abbrev pub with_pending : ℕ → ℕ → Signalling → Signalling
 with_pending t s g = record g { threads = map (post_if t s) g.threads }
 
--- a signal isn't pending any more for a thread, and for all threads
+-- a thread faults: the signal becomes pending for it, and it keeps what the fault says in place of what an earlier one said (own)
+abbrev pub fault_if : ℕ → Fault → ThreadSignals → ThreadSignals
+fault_if t f th = if is_of t th then record th { pending = joined th.pending (only f.signal); fault = Some f } else th
+
+abbrev pub with_fault : ℕ → Fault → Signalling → Signalling
+with_fault t f g = record g { threads = map (fault_if t f) g.threads }
+
+-- a signal isn't pending any more for a thread, and for all threads; nor is what its fault said kept
+abbrev pub without_fault : ℕ → Option Fault → Option Fault
+without_fault s None = None
+without_fault s (Some f) = if f.signal == s then None else Some f
+
 abbrev pub without_signal : ℕ → ThreadSignals → ThreadSignals
-without_signal s th = record th { pending = less th.pending (only s) }
+without_signal s th = record th { pending = less th.pending (only s); fault = without_fault s th.fault }
 
 abbrev pub take_if : ℕ → ℕ → ThreadSignals → ThreadSignals
 take_if t s th = if is_of t th then without_signal s th else th

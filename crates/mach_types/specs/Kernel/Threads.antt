@@ -91,9 +91,9 @@ is_waiting_at at (Some Ready) = false
 is_waiting_at at (Some (Running h)) = false
 is_waiting_at at (Some (Waiting b)) = b == at
 
--- the thread that waits longest at an address
-abbrev pub longest_waiter : ℕ → Threads → Option ℕ
-longest_waiter at ts = find (λ t. is_waiting_at at (state_of t ts)) ts.waiters
+-- of the threads that listen the one that waits longest at an address
+abbrev pub longest_waiter : ℕ → (ℕ → Bool) → Threads → Option ℕ
+longest_waiter at listens ts = find (λ t. is_waiting_at at (state_of t ts) && listens t) ts.waiters
 
 -- futex(2), wake, and a wait that a signal breaks: the thread waits no longer, and is ready
 abbrev pub with_woken : ℕ → Threads → Threads

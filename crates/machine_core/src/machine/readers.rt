@@ -229,8 +229,8 @@ impl Machine {
         }
     }
     /// The kernel's tables: the threads, each that doesn't run with the file in which it goes on, the signals, the ready list with the
-    /// affinities, the areas, the registrations for barriers and the console. The threads that have signals and affinities are those
-    /// that are live.
+    /// affinities, the areas, the registrations for barriers, the console and the state of the generator of random bytes. The threads
+    /// that have signals and affinities are those that are live.
     pub fn kernel(&self) -> &Kernel
         ensures threads { result.now.threads.threads
             ≡ (kernel self.now.setting (history self.now.setting self.now.log)).threads }
@@ -250,6 +250,8 @@ impl Machine {
             ≡ (kernel self.now.setting (history self.now.setting self.now.log)).barriers }
         ensures console { result.now.console
             ≡ (kernel self.now.setting (history self.now.setting self.now.log)).console }
+        ensures random { result.now.random
+            ≡ (kernel self.now.setting (history self.now.setting self.now.log)).random }
     {
         &self.parts.kernel
     }

@@ -24,6 +24,22 @@ impl<'a> Nearest<'a> {
     /// One word more that might have been meant.
     pub(crate) fn look_at(&mut self, word: &'a str) {
         let apart = letters_apart(self.wrong.as_bytes(), word.as_bytes());
+        self.look_at_distance(word, apart);
+    }
+
+    /// One option more that might have been meant, by its name: its word has two dashes before that.
+    pub(crate) fn look_at_option(&mut self, name: &'a str) {
+        let apart = match self.wrong.strip_prefix("--") {
+            Some(wrong) => letters_apart(wrong.as_bytes(), name.as_bytes()),
+            None => {
+                letters_apart(from(self.wrong.as_bytes(), 1), name.as_bytes()).saturating_add(1)
+            }
+        };
+        self.look_at_distance(name, apart);
+    }
+
+    /// A word that is so many letters apart.
+    fn look_at_distance(&mut self, word: &'a str, apart: usize) {
         if apart < self.apart {
             self.found = Some(word);
             self.apart = apart;

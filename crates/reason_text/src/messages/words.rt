@@ -2,7 +2,7 @@
 
 use super::Nearest;
 use super::shown::Shown;
-use crate::usage::{look_at_options, push_help, push_usage};
+use crate::usage::{look_at_options, push_usage};
 use command_words::{COMMANDS, WordsFault};
 use std::alloc::AllocError;
 use std::fmt::Write;
@@ -24,32 +24,16 @@ const ENDS: &str = "\"exit N\" or \"killed N\" with a number from 0 to 255, stuc
 /// The names of reductions.
 const REDUCTIONS: &str = "local-steps";
 
-/// Appends what is wrong with the words, in one line. Where no command is named, the usage stands below it; where the words ask for
-/// help, what each command does too.
+/// Appends what is wrong with the words, in one line. Where there is no word, the usage stands below it.
 pub(crate) fn push_words_fault(
     text: &mut String,
     fault: WordsFault,
     words: &[String],
 ) -> Result<(), AllocError> {
-    let is_for_help = asks_for_help(fault, words);
-    match fault {
-        WordsFault::UnknownCommand if is_for_help => {
-            text.push_str("no command is named; these are there:\n")?
-        }
-        WordsFault::UnknownOption(_) if is_for_help => {
-            push_word(text, fault, words)?;
-            text.push_str("there is no such option\n")?;
-        }
-        _ => {
-            push_word(text, fault, words)?;
-            push_complaint(text, fault, words)?;
-        }
-    }
-    if is_for_help || matches!(fault, WordsFault::NoCommand) {
+    push_word(text, fault, words)?;
+    push_complaint(text, fault, words)?;
+    if matches!(fault, WordsFault::NoCommand) {
         push_usage(text)?;
-    }
-    if is_for_help {
-        push_help(text)?;
     }
     Ok(())
 }
@@ -145,7 +129,7 @@ fn push_range(text: &mut String, least: u64, most: u64) -> Result<(), AllocError
 /// Appends that there is no such command, and which one may have been meant.
 fn push_unknown_command(text: &mut String, words: &[String]) -> Result<(), AllocError> {
     text.push_str("there is no such command")?;
-    push_meant(text, nearest_command(word_at(words, 1)))
+    push_meant(text, "", nearest_command(word_at(words, 1)))
 }
 
 /// Appends that there is no such option, and which one may have been meant.
@@ -155,16 +139,14 @@ fn push_unknown_option(
     number: usize,
 ) -> Result<(), AllocError> {
     text.push_str("there is no such option")?;
-    push_meant(
-        text,
-        nearest_option(word_at(words, number), word_at(words, 1)),
-    )
+    let meant = nearest_option(word_at(words, number), word_at(words, 1));
+    push_meant(text, "--", meant)
 }
 
-/// Appends which word may have been meant, or how to see all of them, and ends the line.
-fn push_meant(text: &mut String, meant: Option<&str>) -> Result<(), AllocError> {
+/// Appends which word may have been meant, behind the dashes that it begins with, or how to see all words; and ends the line.
+fn push_meant(text: &mut String, dashes: &str, meant: Option<&str>) -> Result<(), AllocError> {
     match meant {
-        Some(word) => writeln!(text, "; did you mean {word}?"),
+        Some(word) => writeln!(text, "; did you mean {dashes}{word}?"),
         None => text.push_str("; rseq_run --help shows what there is\n"),
     }
 }
@@ -178,7 +160,7 @@ fn nearest_command<'a>(word: &'a str) -> Option<&'a str> {
     nearest.found()
 }
 
-/// The option of a command that is nearest to a word. A word may have its value behind a `=`.
+/// The name of the option of a command that is nearest to a word. A word may have its value behind a `=`.
 fn nearest_option<'a>(word: &'a str, command: &str) -> Option<&'a str> {
     let option = match word.split_once('=') {
         Some((option, _)) => option,
@@ -187,18 +169,6 @@ fn nearest_option<'a>(word: &'a str, command: &str) -> Option<&'a str> {
     let mut nearest = Nearest::to(option);
     look_at_options(&mut nearest, command);
     nearest.found()
-}
-
-/// Whether the words ask for help or for the version, by their first word or by an option. The grammar has
-/// none of these.
-fn asks_for_help(fault: WordsFault, words: &[String]) -> bool {
-    match fault {
-        WordsFault::UnknownCommand => {
-            matches!(word_at(words, 1), "--help" | "-h" | "help" | "--version")
-        }
-        WordsFault::UnknownOption(number) => matches!(word_at(words, number), "--help" | "-h"),
-        _ => false,
-    }
 }
 
 /// The word of this number, counted from 1.

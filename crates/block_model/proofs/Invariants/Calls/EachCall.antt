@@ -1,8 +1,8 @@
 -- Each call of the table is fit.
-use Rattle.block_model.proofs.Common.{◌≡◌, ℕ, List, [], ◌∷◌, length, map, cond, refl, sym, ap, ◌∙◌, subst, arith, is_some, true, Option, Some, None, CallDone, Here, IsGoodHere, Kernel, PageRun, Setting, ThreadState, Write, answered_wait, broken_wait, call_number, called, clear_of, clears, gone, left, ne_eqb, registered, requeue, restricted, returned, runs, said, signalled, sum_64, taken_by, unregistered, waits, wake, woken}
+use Rattle.block_model.proofs.Common.{◌≡◌, ℕ, List, [], ◌∷◌, length, map, cond, refl, sym, ap, ◌∙◌, subst, arith, is_some, true, Option, Some, None, CallDone, Here, IsGoodHere, Kernel, PageRun, Setting, ThreadState, Write, answered_wait, broken_wait, call_number, called, clear_of, clears, gone, left, ne_eqb, registered, requeue, restricted, returned, runs, said, signalled, sum_64, taken_by, unregistered, waits, wake, woken, anyone}
 use Rattle.mach_types.specs.Kernel.SignalFrames as frame
 use Rattle.block_model.proofs.Barriers.Events.{IsAtOthers}
-use Rattle.block_model.proofs.CallEffects.{Answers, Bears, Begins, Breaks, CallDeed, ChangesRows, Ends, EnrolsFor, Exits, Leaves, MovesOff, Prints, Registers, Remaps, Resumes, Same, Says, Signalled, Stays, TableStep, Unregisters, Waits, Wakes}
+use Rattle.block_model.proofs.CallEffects.{Answers, Bears, Begins, Breaks, CallDeed, ChangesRows, Draws, Ends, EnrolsFor, Exits, Leaves, MovesOff, Prints, Registers, Remaps, Resumes, Same, Says, Signalled, Stays, TableStep, Unregisters, Waits, Wakes}
 use Rattle.block_model.proofs.CallEffects.EachCall.{deed_called}
 use Rattle.block_model.proofs.Invariants.Calls.Cloning.{fit_child}
 use Rattle.block_model.proofs.Invariants.Calls.Conditions.{IsFitTaking, IsApart, apart_none, apart_one, apart_own, fit_kept, fit_moved}
@@ -57,6 +57,7 @@ module _ (here : Here) (t number : ℕ) (good : IsGoodHere here) (at : runs here
   fit_step n entered Unregisters = keeping n entered _ (kept_tables s now (unregistered t now) good.kernel refl refl refl refl (held_unregistered s.limits.harts t now))
   fit_step n entered (Signalled g keeps stand heeds calm) = keeping n entered _ (kept_signalled s g now good.kernel keeps)
   fit_step n entered (EnrolsFor r) = keeping n entered _ (kept_tables s now _ good.kernel refl refl refl refl (held_beside s.limits.harts now _ refl refl refl refl))
+  fit_step n entered (Draws state) = keeping n entered _ (kept_tables s now _ good.kernel refl refl refl refl (held_beside s.limits.harts now _ refl refl refl refl))
   fit_step n entered (Remaps pages stays paged) = record {
     others = λ k ne. refl;
     apart = apart_one here t (returned n (here.file t)) good at;
@@ -71,11 +72,11 @@ module _ (here : Here) (t number : ℕ) (good : IsGoodHere here) (at : runs here
   fit_deed : {c : CallDone} → CallDeed here t number c → IsFitTaking here taken c
   fit_deed (Says n) = keeping n [] now (kept_still s now good.kernel)
   fit_deed (Answers n entered k no_error writes step) = fit_step n entered step
-  fit_deed (Wakes n more p to small) =
-      let done = requeue n more p to now in
+  fit_deed (Wakes n more p to listens small) =
+      let done = requeue n more p to listens now in
       fit_kept here taken _ refl
-      (apart_own here t (returned (length done.threads) (here.file t)) (map (answered_wait here) done.threads) good at (apart_woken here n more p to good))
-      (kept_requeue s n more p to now good.kernel)
+      (apart_own here t (returned (length done.threads) (here.file t)) (map (answered_wait here) done.threads) good at (apart_woken here n more p to listens good))
+      (kept_requeue s n more p to listens now good.kernel)
   fit_deed (Breaks u g waiting keeps stand heeds calm) =
       let k = signalled g now in
       let kept = kept_signalled s g now good.kernel keeps in
@@ -84,10 +85,10 @@ module _ (here : Here) (t number : ℕ) (good : IsGoodHere here) (at : runs here
   fit_deed (Exits more) =
       let n : ℕ = cond (clears here t) 1 0 in
       let address = clear_of t now.threads in
-      let then = (wake n address now).kernel in
-      let kept = kept_requeue s n 0 address 0 now good.kernel in
+      let then = (wake n address anyone now).kernel in
+      let kept = kept_requeue s n 0 address 0 anyone now good.kernel in
       let moved = moved_gone s h t then kept.sound (kept.running h ∙ at) in
-      fit_moved here taken _ refl (apart_woken here n 0 address 0 good) (moved_after s h now then (gone t then) kept moved)
+      fit_moved here taken _ refl (apart_woken here n 0 address 0 anyone good) (moved_after s h now then (gone t then) kept moved)
   fit_deed (Bears entered writes free its_number) = fit_child here t entered taken good at free
   fit_deed (Begins set restart others no_error its_number) = record {
     others = λ k ne. refl;

@@ -1,10 +1,10 @@
-//! brk(2), mmap(2), munmap(2) and mprotect(2).
+//! brk(2), mmap(2), munmap(2), mprotect(2) and madvise(2).
 
 use crate::calls::bench::{CODE, DATA, DATA_END, Row, USER_END};
 use crate::calls::steps::{Scene, Step};
 use crate::calls::words::{
-    ABOVE, AT_MAPPED, BREAK, BRK, EACCES, EINVAL, ENOMEM, FLAGS, MAPPED, MMAP, MPROTECT, MUNMAP,
-    PAGE,
+    ABOVE, AT_MAPPED, BREAK, BRK, EACCES, EINVAL, ENOMEM, FLAGS, MADVISE, MAPPED, MMAP, MPROTECT,
+    MUNMAP, PAGE,
 };
 
 /// MAP_NORESERVE, MAP_POPULATE and MAP_STACK.
@@ -68,6 +68,46 @@ const MPROTECTS: [Row; 16] = [
     ([DATA, 2 * PAGE, 2, 0, 0], 0),
 ];
 
+/// The page at which addresses end.
+const LAST: u64 = u64::MAX - PAGE + 1;
+
+/// Advice: MADV_WILLNEED, MADV_DONTNEED, MADV_FREE, and MADV_REMOVE, which isn't there.
+const WILLNEED: u64 = 3;
+
+const DONTNEED: u64 = 4;
+
+const FREE: u64 = 8;
+
+const REMOVE: u64 = 9;
+
+/// madvise(p, len, advice), where two pages are mapped.
+const ADVICE: [Row; 24] = [
+    ([DATA + 1, PAGE, REMOVE, 0, 0], EINVAL),
+    ([DATA, PAGE, 5, 0, 0], EINVAL),
+    ([DATA, PAGE, 12, 0, 0], EINVAL),
+    ([DATA, PAGE, 22, 0, 0], EINVAL),
+    ([DATA, PAGE, u64::MAX, 0, 0], EINVAL),
+    ([DATA + 1, 0, DONTNEED, 0, 0], EINVAL),
+    ([DATA, u64::MAX, WILLNEED, 0, 0], EINVAL),
+    ([LAST, 1, WILLNEED, 0, 0], EINVAL),
+    ([LAST, 0, DONTNEED, 0, 0], 0),
+    ([LAST - PAGE, 1, WILLNEED, 0, 0], ENOMEM),
+    ([DATA, USER_END - DATA + 1, DONTNEED, 0, 0], ENOMEM),
+    ([DATA, 2 * PAGE + 1, WILLNEED, 0, 0], ENOMEM),
+    ([MAPPED + 2 * PAGE, 1, DONTNEED, 0, 0], ENOMEM),
+    ([CODE - PAGE, 2 * PAGE, DONTNEED, 0, 0], ENOMEM),
+    ([DATA, PAGE, DONTNEED, 0, 0], EINVAL),
+    ([CODE, 1, DONTNEED, 0, 0], EINVAL),
+    ([DATA, 2 * PAGE, WILLNEED, 0, 0], 0),
+    ([CODE, PAGE, 0, 0, 0], 0),
+    ([DATA, 1, 1, 0, 0], 0),
+    ([DATA, 1, 2, 0, 0], 0),
+    ([MAPPED, 2 * PAGE, FREE, 0, 0], 0),
+    ([MAPPED, 2 * PAGE, 10, 0, 0], 0),
+    ([MAPPED, 2 * PAGE, 21, 0, 0], 0),
+    ([MAPPED, 1, ABOVE + DONTNEED, 0, 0], 0),
+];
+
 /// brk(p), which answers the break whether it moved or not.
 const BRKS: [Row; 11] = [
     ([0, 0, 0, 0, 0], BREAK),
@@ -85,7 +125,7 @@ const BRKS: [Row; 11] = [
 
 /// Calls that change pages, over the 60 frames that are free at the start; in the last scene they run out
 /// and come back.
-pub const SCENES: [Scene; 5] = [
+pub const SCENES: [Scene; 6] = [
     &[Step::Answers(MMAP, &MMAPS)],
     &[Step::Answers(MUNMAP, &MUNMAPS)],
     &[
@@ -94,6 +134,26 @@ pub const SCENES: [Scene; 5] = [
         Step::Memory(DATA, 7),
     ],
     &[Step::Answers(BRK, &BRKS)],
+    &[
+        Step::Answers(MMAP, &[([0, 2 * PAGE, 3, FLAGS, 0], AT_MAPPED)]),
+        Step::PutAll(&[
+            (DATA, 7),
+            (MAPPED, 8),
+            (MAPPED + PAGE - 8, 9),
+            (MAPPED + PAGE, 10),
+        ]),
+        Step::Answers(MADVISE, &ADVICE),
+        Step::Memory(DATA, 7),
+        Step::Memory(MAPPED, 0),
+        Step::Memory(MAPPED + PAGE - 8, 0),
+        Step::Memory(MAPPED + PAGE, 10),
+        Step::Answers(BRK, &[([DATA_END + PAGE, 0, 0, 0, 0], BREAK + 0x1000)]),
+        Step::Put(DATA_END, 11),
+        Step::Answers(MPROTECT, &[([DATA_END, PAGE, 0, 0, 0], 0)]),
+        Step::Answers(MADVISE, &[([DATA_END, PAGE, DONTNEED, 0, 0], 0)]),
+        Step::Answers(MPROTECT, &[([DATA_END, PAGE, 1, 0, 0], 0)]),
+        Step::Memory(DATA_END, 0),
+    ],
     &[
         Step::Answers(
             MMAP,

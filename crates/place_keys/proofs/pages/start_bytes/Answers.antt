@@ -2,8 +2,18 @@ use Rattle.std.proofs.Common.{◌≡◌, ◌∙◌, ℕ, List, Option, Some, Non
 use Rattle.std.specs.Option.{option_map}
 use Rattle.page_map.specs.Map.{Page, page_in}
 use Rattle.place_keys.specs.PageWords.{page_word}
-use Rattle.place_keys.proofs.MemoryWords.{has_bytes, start_nowhere, start_there}
+use Rattle.place_keys.proofs.MemoryWords.{start_nowhere, start_there}
 use Rattle.place_keys.proofs.pages.start_bytes.Goals as goal
+
+-- the page of these bytes
+record HasBytes (o : Option Page) (bytes : List ℕ) : Type 0 where
+  page : Page
+  is : o ≡ Some page
+  bytes_are : page.bytes ≡ bytes
+
+has_bytes : (o : Option Page) (bytes : List ℕ) → option_map (λ (p : Page). p.bytes) o ≡ Some bytes → HasBytes o bytes
+has_bytes None bytes e = cc
+has_bytes (Some p) bytes e = record { page = p; is = refl; bytes_are = cc }
 
 no_page : (o : Option Page) → None ≡ option_map (λ (p : Page). p.bytes) o → o ≡ None
 no_page None e = refl

@@ -6,11 +6,11 @@ use Rattle.place_keys.proofs.pages.write_memory.Given as goal
 
 abbrev pub invariant-loop-number : goal.invariant-loop-number
 invariant-loop-number l = record {
-  within : l.from ≤ ALL_PAGES;
-  order : l.past ≤ 512 * l.from;
+  within : l.number ≤ ALL_PAGES;
+  order : l.past ≤ 512 * l.number;
   written : IsWrittenOn (start_word l.start) (memory_word l.start l.pages) (record { words = l.initial.words.items; past = 0; next = 0 })
-      (record { words = l.words.items; past = l.past; next = 512 * l.from });
+      (record { words = l.words.items; past = l.past; next = 512 * l.number });
 }
 
 abbrev pub decreases-loop-number : goal.decreases-loop-number
-decreases-loop-number l = ALL_PAGES - l.from
+decreases-loop-number l = ALL_PAGES - l.number

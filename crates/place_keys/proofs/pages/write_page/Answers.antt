@@ -1,13 +1,12 @@
-use Rattle.std.proofs.Common.{◌≡◌, ◌∙◌, ◌+◌, ◌-◌, ◌*◌, ◌<◌, ◌≤◌, ℕ, List, Option, Some, None, ap, sym, refl, arith}
+use Rattle.std.proofs.Common.{◌≡◌, ◌∙◌, ◌+◌, ◌-◌, ◌*◌, ◌/◌, ◌<◌, ◌≤◌, ℕ, List, Option, Some, None, ap, sym, refl, arith}
 use Rattle.std.specs.Option.{option_map}
-use Rattle.std.proofs.lemmas.Bool.{OnTrue_at}
 use Rattle.std.proofs.lemmas.Bool.Decides.{Decides-eqb}
 use Rattle.std.proofs.lemmas.Slice.Eq.{slice_eq-Decides}
 use Rattle.page_map.specs.Map.{Map, Page, page_in}
 use Rattle.place_keys.specs.PageWords.{memory_word, page_word, start_word}
 use Rattle.place_keys.proofs.Codes.{if_ok}
 use Rattle.place_keys.proofs.DifferenceCodes.{skipped}
-use Rattle.place_keys.proofs.MemoryWords.{memory_there}
+use Rattle.place_keys.proofs.MemoryWords.{memory_there, unmapped_word}
 use Rattle.place_keys.proofs.pages.write_page.Goals as goal
 
 -- the words of the page that has these bytes
@@ -25,19 +24,22 @@ same_word m start n bytes first same now old j low high =
     let lt : j - 512 * n < 512 = omega arith in
     ap (memory_word start m) place ∙ now (j - 512 * n) lt ∙ ap (λ (bs : List ℕ). page_word bs (j - 512 * n)) (sym same) ∙ sym (old (j - 512 * n) lt) ∙ ap (start_word start) (sym place)
 
-pub returns-then-stays_fresh-clause-order : goal.returns-then-stays_fresh-clause-order
-returns-then-stays_fresh-clause-order c = let order : c.args.past ≤ 512 * c.args.number = c.requires.order in omega arith
+no_page : (o : Option Page) → None ≡ option_map (λ (p : Page). p.bytes) o → o ≡ None
+no_page None e = refl
+no_page (Some p) e = cc
 
-pub returns-then-stays_fresh-clause-written : goal.returns-then-stays_fresh-clause-written
-returns-then-stays_fresh-clause-written c =
+pub returns-in_default-clause-order : goal.returns-in_default-clause-order
+returns-in_default-clause-order c = let order : c.args.past ≤ 512 * c.args.number = c.requires.order in omega arith
+
+pub returns-in_default-clause-written : goal.returns-in_default-clause-written
+returns-in_default-clause-written c =
     let n = c.args.number in
     let start = c.args.start.now in
     let m = c.args.pages.now in
-    let all : (k : ℕ) → k < 512 → memory_word start m (512 * n + k) ≡ start_word start (512 * n + k) = OnTrue_at c.if-stays_fresh.true c.stays_fresh.ensures in
     skipped (start_word start) (memory_word start m) c.args.words.now.items c.args.past (512 * n) (512 * n + 512) c.requires.order (omega arith)
     (λ j low high.
-    let place : j ≡ 512 * n + (j - 512 * n) = omega arith in
-    ap (memory_word start m) place ∙ all (j - 512 * n) (omega arith) ∙ ap (start_word start) (sym place))
+    let number : j / 512 ≡ n = omega arith in
+    unmapped_word start m j (ap (page_in m) number ∙ no_page (page_in m n) c.in_default.ensures.bytes))
 
 pub returns-then-eq-clause-order : goal.returns-then-eq-clause-order
 returns-then-eq-clause-order c = let order : c.args.past ≤ 512 * c.args.number = c.requires.order in omega arith

@@ -1,9 +1,20 @@
-use Rattle.std.proofs.Common.{◌≤◌, ◌<◌, sym, arith}
+use Rattle.std.proofs.Common.{◌≤◌, ◌<◌, ◌+◌, ◌++◌, ◌∙◌, List, ℕ, ap, sym, arith}
+use Rattle.std.specs.Option.{option_map_or}
+use Rattle.std.proofs.lemmas.Bool.{OnTrue_at}
 use Rattle.page_map.specs.declared.listing.TheConstants.{ALL_PAGES}
 use Rattle.place_keys.specs.PageWords.{permission_word}
 use Rattle.place_keys.proofs.Codes.{then_ok}
+use Rattle.place_keys.proofs.DifferenceCodes.{nothing_differs}
 use Rattle.place_keys.proofs.PageCodes.{permission_step, permissions_end}
 use Rattle.place_keys.proofs.pages.write_permissions.Goals as goal
+
+pub returns-then-has_pages_of : goal.returns-then-has_pages_of
+returns-then-has_pages_of c =
+    let start = c.args.start.now in
+    let m = c.args.pages.now in
+    let none = nothing_differs (permission_word start) (permission_word m) 0 0 ALL_PAGES (λ j low high.
+    ap (λ o. option_map_or (λ permission. permission + 1) o 0) (OnTrue_at c.if-has_pages_of.true c.has_pages_of.ensures j)) in
+    then_ok c.write_word.result _ _ (λ is. is ∙ ap (λ (ws : List ℕ). c.args.words.now.items ++ ws) (sym none)) c.write_word.ensures
 
 pub write_change-requires-clause-order : goal.write_change-requires-clause-order
 write_change-requires-clause-order c =
@@ -37,5 +48,5 @@ loop-number-preserved c =
 
 pub returns : goal.returns
 returns c =
-    then_ok c.write_word.result _ _ (λ is. permissions_end c.args.start.now c.args.pages.now c.loop-number.from c.args.words.now.items c.loop-number.words.items c.write_word.new.words.items
-    c.loop-number.past c.loop-number.invariant.within c.in_default.ensures.first c.loop-number.invariant.written is) c.write_word.ensures
+    then_ok c.write_word-2.result _ _ (λ is. permissions_end c.args.start.now c.args.pages.now c.loop-number.from c.args.words.now.items c.loop-number.words.items c.write_word-2.new.words.items
+    c.loop-number.past c.loop-number.invariant.within c.in_default.ensures.first c.loop-number.invariant.written is) c.write_word-2.ensures

@@ -6,20 +6,19 @@ use Rattle.shared_procs.proofs.events.fault.Goals as goal
 
 pub fault-requires : goal.fault-requires
 fault-requires c =
-    let has = c.requires.1 in (
-      c.requires.0,
-      record {
-        stand = stand has.setting has.pair has.process;
-        place = has.step.place;
-        plan = fault_planned has.setting has.pair has.process c.args.hart.0 c.requires.0 c.args.signal c.args.mine.now c.args.other.now has.step;
-      },
-    )
+    let has = c.requires in
+    record {
+      stand = stand has.setting has.pair has.process;
+      place = has.step.place;
+      plan = fault_planned has.setting has.pair has.process c.args.hart.0 c.args.effect c.args.signal c.args.mine.now c.args.other.now has.step;
+    }
 
 pub returns : goal.returns
-returns c effect s m p step =
+returns c s m p step =
     let h = c.args.hart.0 in
+    let effect = c.args.effect in
     let quiet = fault_quiet (here_two s m p h) step.thread c.args.signal step.at (sym step.fault) in
     unshared s m p h (done_of Exec (here_two s m p h)) c.args.mine.now c.fault.new.self c.unseen.new.other
-    (c.fault.ensures effect (stand s m p) step.place (fault_planned s m p h effect c.args.signal c.args.mine.now c.args.other.now step))
+    (c.fault.ensures (stand s m p) step.place (fault_planned s m p h effect c.args.signal c.args.mine.now c.args.other.now step))
     (ap (λ (ws : List Write). filter is_shared ws) quiet.none_written)
     (c.unseen.ensures (setting s (not p)) (half (not p) m) (done_of Exec (here_two s m p h)) step.beside quiet.untaken quiet.none_begun)

@@ -8,7 +8,7 @@ pub fault-requires : goal.fault-requires
 fault-requires c =
     let n : Next = record { effect = c.args.next.effect; fault = Some c.in-Some-default.signal } in
     let same : c.args.next ≡ n = λ i. record { effect = c.args.next.effect; fault = c.in-Some-default.is-0 i } in
-    (c.args.next.effect, step_there c.args.hart.0 c.args.next n c.args.mine.now c.args.other.now c.args.segment.now same c.requires)
+    step_there c.args.hart.0 c.args.next n c.args.mine.now c.args.other.now c.args.segment.now same c.requires
 
 pub call-requires : goal.call-requires
 call-requires c =
@@ -33,7 +33,7 @@ pub returns-in-Some-default : goal.returns-in-Some-default
 returns-in-Some-default c =
     let n : Next = record { effect = c.args.next.effect; fault = Some c.in-Some-default.signal } in
     let same : c.args.next ≡ n = λ i. record { effect = c.args.next.effect; fault = c.in-Some-default.is-0 i } in
-    performed_as c.args.hart.0 c.args.next n c.args.mine.now c.args.other.now c.args.segment.now _ _ same (c.fault.ensures c.args.next.effect)
+    performed_as c.args.hart.0 c.args.next n c.args.mine.now c.args.other.now c.args.segment.now _ _ same c.fault.ensures
 
 pub returns-in-None-Some-Call : goal.returns-in-None-Some-Call
 returns-in-None-Some-Call c =

@@ -1,4 +1,4 @@
--- The calls that change pages, by their numbers, and the others.
+-- The calls over pages, by their numbers, and the others.
 use Rattle.sys_calls.proofs.Common.{ℕ, [], sym, subst, Ok, Result, Errno, IsAnswered, call_of}
 use Rattle.sys_calls.proofs.CallAnswers.{answered_remapped}
 use Rattle.sys_calls.proofs.call_answers.answered.Goals as goal
@@ -36,3 +36,9 @@ returns-in-226-clause-answered c = λ h hart told has read.
     let t = c.args.tid.0 in
     silent_by_number c.requires.fresh c.in-226.is
     (answered_remapped h t c.args.kernel.now c.args.pages.now c.mprotect.new.pages [] c.mprotect.result (call_of 226 h t) told (c.mprotect.ensures.remapped h t has read.file))
+
+pub returns-in-233-clause-answered : goal.returns-in-233-clause-answered
+returns-in-233-clause-answered c = λ h hart told has read.
+    let t = c.args.tid.0 in
+    by_number c.in-233.is
+    (answered_remapped h t c.args.kernel.now c.args.pages.now c.madvise.new.pages c.madvise.new.written.items c.madvise.result (call_of 233 h t) told (c.madvise.ensures.remapped h t has read.file))

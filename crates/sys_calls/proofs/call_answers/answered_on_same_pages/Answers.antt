@@ -49,6 +49,9 @@ returns-in-135-clause-answered c = λ h hart told read. by_number c.in-135.is (c
 pub asked-requires-clause-held : goal.asked-requires-clause-held
 asked-requires-clause-held c = signals_held c.args.tid.0 c.args.kernel.now c.requires.caller.signals c.requires.caller.live
 
+pub returns-in-278-clause-answered : goal.returns-in-278-clause-answered
+returns-in-278-clause-answered c = λ h hart told read. by_number c.in-278.is (c.getrandom.ensures.answered h c.args.tid.0 told read)
+
 -- the number isn't that one
 is_not : (i n : ℕ) (x y : CallDone) → (n ≡ i → ⊥) → cond (eqb n i) x y ≡ y
 is_not i n x y ne = cond-false (eqb n i) x y (ne_eqb n i ne)
@@ -84,6 +87,8 @@ returns-in_default-clause-answered c = λ h hart told read.
     ∙ is_not 215 n _ _ p.munmap
     ∙ is_not 220 n _ _ (λ e. absurd (omega (arith, d, e)))
     ∙ is_not 222 n _ _ p.mmap
-    ∙ is_not 226 n _ _ p.mprotect in
+    ∙ is_not 226 n _ _ p.mprotect
+    ∙ is_not 233 n _ _ p.madvise
+    ∙ is_not 278 n _ _ (λ e. absurd (omega (arith, d, e))) in
     subst (λ (d : CallDone). IsAnswered h t c.args.kernel.now c.args.pages.now c.args.kernel.now c.asked.new.pages c.asked.new.written.items c.asked.result d) (sym is)
     (c.asked.ensures.answered h told read)

@@ -36,7 +36,7 @@ returns-in-94-clause-made c = λ h at.
 pub returns-in-98-clause-made : goal.returns-in-98-clause-made
 returns-in-98-clause-made c = λ h at.
     made_numbered at.file c.call_number.ensures c.in-98.is
-    (c.futex.ensures.made h at.hart at.tables at.pages (c.shows_pages.ensures h c.args.caller.tid.0 c.args.saved.now at.pages at.file))
+    (c.futex.ensures.made h at.hart at.tables at.pages (c.shows_pages.ensures h c.args.caller.tid.0 c.args.saved.now at.pages at.file) at.kept)
 
 pub returns-in-98-clause-told : goal.returns-in-98-clause-told
 returns-in-98-clause-told c = λ h at.

@@ -6,7 +6,7 @@ use Rattle.sys_calls.proofs.calling.make_call.Goals as goal
 pub returns : goal.returns
 returns c =
     let agreed = agreed_made c.args.kernel.now c.args.pages.now c.args.here c.args.running c.args.harts c.args.tid c.args.saved.now c.args.cid
-    c.dispatch-end.new.kernel c.dispatch-end.new.pages c.dispatch-end.new.saved c.dispatch-end.result c.requires.running c.requires.runs
+    c.dispatch-end.new.kernel c.dispatch-end.new.pages c.dispatch-end.new.saved c.dispatch-end.result c.requires.running c.has_nothing_saved.ensures c.requires.runs
     c.requires.tables c.requires.areas c.requires.signals c.dispatch-end.ensures.made in
     record { made = search rules; table = search rules; tables = agreed.tables; signals = agreed.signals; areas = agreed.areas; written = search rules }
 

@@ -6,6 +6,7 @@ use Rattle.sys_calls.specs.Ended.{IsGone}
 use Rattle.sys_calls.proofs.KernelWrites.{pages_kept}
 use Rattle.sys_calls.proofs.GuestMemory.{writable_at}
 use Rattle.sys_calls.proofs.CallerTables.{caller_lives}
+use Rattle.block_model.specs.Calls.Futexes.{anyone}
 use Rattle.sys_calls.proofs.FutexWakes.{requeue_pages}
 use Rattle.sys_calls.proofs.ending.exit.Goals.{After-clear_word-is_cleared}
 use Rattle.sys_calls.proofs.ending.exit.Goals as goal
@@ -28,7 +29,7 @@ made_one h t here k k' m m' saved ws hart file has entered writes gone = record 
   ids = gone.ids;
   kept = gone.kept;
   own = file ∙ sym gone.alone;
-  pages = pages_kept h m m' (one_exits h t) (subst (IsEntered m m') writes entered) (requeue_pages (cond (clears h t) 1 0) 0 (clear_of t h.kernel.threads) 0 h.kernel) has;
+  pages = pages_kept h m m' (one_exits h t) (subst (IsEntered m m') writes entered) (requeue_pages (cond (clears h t) 1 0) 0 (clear_of t h.kernel.threads) 0 anyone h.kernel) has;
   code = entered.code;
   hart = ap (running_on h.hart) (sym gone.tables.threads) ∙ ap (λ n. running_on n k'.threads.threads) hart ∙ gone.idle;
   stands = state_of-without_same t (woken_at_exit h t).kernel.threads;

@@ -4,6 +4,7 @@ use Rattle.sys_calls.proofs.Laws.{holds_gone}
 use Rattle.sys_calls.proofs.CallAnswers.{kept_gone}
 use Rattle.sys_calls.proofs.ThreadSignals.{caller_signalled, tids}
 use Rattle.sys_calls.proofs.CallerTables.{caller_held, caller_lives, caller_unlisted}
+use Rattle.block_model.specs.Calls.Futexes.{anyone}
 use Rattle.sys_calls.proofs.FutexWakes.{runs_alone}
 use Rattle.sys_calls.proofs.ending.go.Goals as goal
 
@@ -33,7 +34,7 @@ returns c = record {
   gone = λ h told.
       let t = c.args.tid.0 in
       let k1 = c.wake.new.kernel in
-      let woken = c.wake.ensures.woken h told in
+      let woken = c.wake.ensures.woken h told (λ m is. absurd cc) in
       let caller : IsCaller k1 c.args.here.0 t = still c.args.kernel.now k1 c.args.here.0 t c.wake.ensures.onward c.requires in
       let tables = subst (λ (ts : Threads). IsTables c.requires.tables.0 ts c.args.kernel.now.ready) told.threads c.requires.tables.1 in
       let sound = subst (λ (sc : Scheduling). IsTables c.requires.tables.0 h.kernel.threads sc) told.scheduling tables in
@@ -43,6 +44,6 @@ returns c = record {
         ids = ap (without_id t) woken.ids;
         kept = λ all. kept_gone t _ k1.threads c.exit.new.self c.exit.ensures.saved (woken.kept all);
         idle = ap (running_on c.args.here.0) c.exit.ensures.threads ∙ ended_idle caller.tables.0 c.args.here.0 t k1.threads.threads k1.ready caller.tables.1 caller.runs;
-        alone = runs_alone c.requires.tables.0 c.args.here.0 t c.args.most 0 c.args.at 0 h (h.file t) h.kernel sound (ap (running_on c.args.here.0) (sym told.threads) ∙ c.requires.runs);
+        alone = runs_alone c.requires.tables.0 c.args.here.0 t c.args.most 0 c.args.at 0 anyone h (h.file t) h.kernel sound (ap (running_on c.args.here.0) (sym told.threads) ∙ c.requires.runs);
       };
 }

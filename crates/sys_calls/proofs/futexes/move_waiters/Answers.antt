@@ -1,5 +1,6 @@
 -- Threads are woken or wait at another word, or that is refused.
 use Rattle.sys_calls.proofs.Common.{◌≡◌, ◌∙◌, sym, subst, CallDone, IsMade, IsWoken, Woken, argument, futex_requeue, int_argument, requeue}
+use Rattle.block_model.specs.Calls.Futexes.{anyone}
 use Rattle.sys_calls.proofs.CallAnswers.{made_refused}
 use Rattle.sys_calls.proofs.FutexWakes.{requeue_pages}
 use Rattle.sys_calls.proofs.GuestMemory.{argument_is, int_argument_is}
@@ -18,10 +19,10 @@ returns-in-Ok c = record {
       let more : c.int_argument-more.result ≡ int_argument h t 3 = c.int_argument-more.ensures ∙ int_argument_is h t file read.file 3 in
       let at : c.argument-at.result ≡ argument h t 0 = c.argument-at.ensures ∙ argument_is h t file read.file 0 in
       let to : c.argument-to.result ≡ argument h t 4 = c.argument-to.ensures ∙ argument_is h t file read.file 4 in
-      let done : Woken = requeue (int_argument h t 2) (int_argument h t 3) (argument h t 0) (argument h t 4) h.kernel in
-      let woken = subst (λ (done : Woken). IsWoken h k k' done c.requeue-count.result) (λ i. requeue (most i) (more i) (at i) (to i) h.kernel) (c.requeue-count.ensures.woken h told) in
+      let done : Woken = requeue (int_argument h t 2) (int_argument h t 3) (argument h t 0) (argument h t 4) anyone h.kernel in
+      let woken = subst (λ (done : Woken). IsWoken h k k' done c.requeue-count.result) (λ i. requeue (most i) (more i) (at i) (to i) anyone h.kernel) (c.requeue-count.ensures.woken h told (λ m is. absurd cc)) in
       let made = counted_made h t c.args.here.0 k k' m file c.go_on.new.saved done c.requeue-count.result c.go_on.result
-      hart told has read.file c.requires woken (requeue_pages (int_argument h t 2) (int_argument h t 3) (argument h t 0) (argument h t 4) h.kernel) c.requeue-count.ensures.onward
+      hart told has read.file c.requires woken (requeue_pages (int_argument h t 2) (int_argument h t 3) (argument h t 0) (argument h t 4) anyone h.kernel) c.requeue-count.ensures.onward
       c.go_on.ensures.saved c.go_on.ensures.stays c.go_on.ensures.runs_on c.go_on.ensures.waits_in_none c.go_on.ensures.ends c.go_on.ensures.answer in
       subst (λ (d : CallDone). IsMade h t k m k' m c.go_on.new.saved c.go_on.result d) (sym (c.in-Ok.ensures.goes h t read)) made;
 }

@@ -1,6 +1,7 @@
 -- The thread that waited longest is ready, runs, and waits again.
 use Rattle.sys_calls.proofs.Common.{◌≡◌, ◌∙◌, Some, None, Option, sym, ap, option_map, Ready, Saved, Threads, Waiting, answering, longest_waiter, longest_waits, on, saved_of, state_now, state_of, waits, with_saved, with_waiter, with_woken, with_state}
 use Rattle.kernel_threads.proofs.Laws.{saved_of-answered}
+use Rattle.kernel_threads.specs.Table.{hears_saved}
 use Rattle.sys_calls.proofs.FutexWakes.{saved_over, waiter_over}
 use Rattle.sys_calls.proofs.waking.move_one.Goals as goal
 
@@ -8,16 +9,16 @@ pub run-saved-requires : goal.run-saved-requires
 run-saved-requires c =
     let ts = c.args.kernel.now.threads.threads in
     let u = c.in_ok-tid.tid.0 in
-    let longest : longest_waiter c.args.at ts ≡ Some u = sym c.in_ok-tid.ensures.longest in
-    let waiting : waits ts u = longest_waits c.args.at ts u longest in
+    let longest : longest_waiter c.args.at (hears_saved c.args.mask c.args.kernel.now.threads.saved) ts ≡ Some u = sym c.in_ok-tid.ensures.longest in
+    let waiting : waits ts u = longest_waits c.args.at (hears_saved c.args.mask c.args.kernel.now.threads.saved) ts u longest in
     ap (state_of u) c.in_ok-tid.ensures.threads ∙ state_now u Ready (Waiting waiting.0) ts waiting.1
 
 pub wait-requires : goal.wait-requires
 wait-requires c =
     let ts = c.args.kernel.now.threads.threads in
     let u = c.in_ok-tid.tid.0 in
-    let longest : longest_waiter c.args.at ts ≡ Some u = sym c.in_ok-tid.ensures.longest in
-    let waiting : waits ts u = longest_waits c.args.at ts u longest in
+    let longest : longest_waiter c.args.at (hears_saved c.args.mask c.args.kernel.now.threads.saved) ts ≡ Some u = sym c.in_ok-tid.ensures.longest in
+    let waiting : waits ts u = longest_waits c.args.at (hears_saved c.args.mask c.args.kernel.now.threads.saved) ts u longest in
     let woke = with_woken u ts in
     let ready : state_of u woke ≡ Some Ready = state_now u Ready (Waiting waiting.0) ts waiting.1 in (
       record { 0 = 0 },

@@ -25,4 +25,5 @@ returns c =
       areas = rw (← c.self.view_is) (tables.areas ∙ ap (λ (k : Kernel). k.areas) read);
       registered = rw (← c.self.view_is) (tables.barriers ∙ ap (λ (k : Kernel). k.barriers) read);
       console = rw (← c.self.view_is) (console_read m c.self.invariant);
+      random = rw (← c.self.view_is) (tables.random ∙ ap (λ (k : Kernel). k.random) read);
     }

@@ -36,6 +36,7 @@ returns-then-is_some-clause-searching c =
       visited = searching.visited;
       started = searching.started;
       code = searching.code;
+      standing = searching.standing;
       graph = end_added (setting_for c.args.task.now) (ways_of c.args.task.now) logs x.graph c.add_end.new.self c.args.place c.in_ok-add_end.ensures.edges c.in_ok-add_end.ensures.ok
           (ended_at c.args.task.now x c.in_ok-from.from c.args.place c.in_ok-from.ensures.reached c.in_ok-from.ensures.place c.if-is_some.ensures) searching.graph;
       few = searching.few;
@@ -67,7 +68,7 @@ returns-then-len-task-clause-searching c =
     let x = c.reach.new.self in
     let searching = c.in_ok-from.ensures.searching in
     let at = at_limit_of c.args.task.now x c.in_ok-from.from searching c.in_ok-from.ensures.reached (c.if-is_some.ensures) (omega arith) in
-    record { visited = deep_has (setting_for c.args.task.now) c.args.task.now.signals x.made.start x.visited c.in_ok-from.from.log.items searching.visited at.0 at.1; started = searching.started; code = searching.code; graph = searching.graph; few = searching.few; single = searching.single; paid = searching.paid }
+    record { visited = deep_has (setting_for c.args.task.now) c.args.task.now.signals x.made.start x.visited c.in_ok-from.from.log.items searching.visited at.0 at.1; started = searching.started; code = searching.code; standing = searching.standing; graph = searching.graph; few = searching.few; single = searching.single; paid = searching.paid }
 
 pub returns-then-len-task-clause-more : goal.returns-then-len-task-clause-more
 returns-then-len-task-clause-more c = deep_more c.args.self.now.visited c.reach.new.self.visited (equal_more c.args.self.now.visited c.reach.new.self.visited c.in_ok-from.ensures.visited)

@@ -18,16 +18,16 @@ pub returns-in_err-stand_after-clause-searching : goal.returns-in_err-stand_afte
 returns-in_err-stand_after-clause-searching c =
     let x = c.args.self.now in
     let kept = c.in_err-stand_after.ensures in
-    searching_on c.args.task.now x (record { visited = x.visited; graph = x.graph; made = c.stand_after.new.self; moved = true }) c.requires.searching refl refl kept.start kept.code
+    searching_on c.args.task.now x (record { visited = x.visited; graph = x.graph; made = c.stand_after.new.self; moved = true; checkpoints = c.stand_after.new.checkpoints }) c.requires.searching refl refl kept.start kept.code kept.standing
 
 pub returns-in_err-sights-clause-searching : goal.returns-in_err-sights-clause-searching
 returns-in_err-sights-clause-searching c =
     let x = c.args.self.now in
     let kept = c.in_ok-stand_after.ensures in
-    searching_on c.args.task.now x (record { visited = x.visited; graph = x.graph; made = c.stand_after.new.self; moved = false }) c.requires.searching refl refl kept.start kept.code
+    searching_on c.args.task.now x (record { visited = x.visited; graph = x.graph; made = c.stand_after.new.self; moved = false; checkpoints = c.stand_after.new.checkpoints }) c.requires.searching refl refl kept.start kept.code kept.standing
 
 pub returns-clause-searching : goal.returns-clause-searching
 returns-clause-searching c =
     let x = c.args.self.now in
     let kept = c.in_ok-stand_after.ensures in
-    searching_on c.args.task.now x (record { visited = x.visited; graph = x.graph; made = c.stand_after.new.self; moved = false }) c.requires.searching refl refl kept.start kept.code
+    searching_on c.args.task.now x (record { visited = x.visited; graph = x.graph; made = c.stand_after.new.self; moved = false; checkpoints = c.stand_after.new.checkpoints }) c.requires.searching refl refl kept.start kept.code kept.standing

@@ -27,6 +27,7 @@ returns-clause-searching c =
           c.in_ok-note.ensures.ok c.deref.result.now c.put.new.self (c.deref.ensures.value ∙ c.in_ok-key.ensures) c.in_ok-put.ensures.ok;
       started = started;
       code = c.in_ok-stand_after.ensures.code ∙ c.in_ok-made.ensures.code;
+      standing = c.in_ok-stand_after.ensures.standing;
       graph = no_edges s (ways_of c.args.task.now) (logs_of c.note.new.self.rows.items) c.new.result c.new.ensures.edges c.new.ensures.ended;
       few = few_rows c.note.new.self.rows.items c.args.task.now.most (c.in_ok-note.ensures.ok.rows ∙ c.first-visited.ensures.rows) c.requires.some;
       single = λ off. subst (λ (rows : List Row). AreSingle rows) (sym (c.in_ok-note.ensures.ok.rows ∙ c.first-visited.ensures.rows)) (All-nil (λ (row : Row). length row.entries.items ≡ 1));

@@ -2,6 +2,10 @@ use Rattle.process.proofs.Common.{rules, ◌≡◌, Some, sym, ap, ◌∙◌, su
 use Rattle.rv_inst.specs.declared.effects.Effect.TheVariants as effect
 use Rattle.process.proofs.parts.Parts.execute.Goals as goal
 
+pub fault-requires : goal.fault-requires
+fault-requires c =
+    subst (λ (n : Next). HasPlan c.args.self.now c.args.hart.0 n) (ap (λ o. record { effect = c.args.next.effect; fault = o }) c.in-Some-default.is-0) c.requires
+
 pub call-requires : goal.call-requires
 call-requires c =
     let is : c.args.next.effect ≡ Some effect.Call = search rules in
@@ -19,7 +23,7 @@ plain-requires c = record {
 
 pub returns-in-Some-default : goal.returns-in-Some-default
 returns-in-Some-default c =
-    subst (λ (n : Next). IsExecuted c.args.self.now c.args.hart.0 n c.fault.new.self) (ap (λ o. record { effect = c.args.next.effect; fault = o }) (sym c.in-Some-default.is-0)) (c.fault.ensures c.args.next.effect)
+    subst (λ (n : Next). IsExecuted c.args.self.now c.args.hart.0 n c.fault.new.self) (ap (λ o. record { effect = c.args.next.effect; fault = o }) (sym c.in-Some-default.is-0)) c.fault.ensures
 
 pub returns-in-None-Some-Call : goal.returns-in-None-Some-Call
 returns-in-None-Some-Call c =

@@ -24,7 +24,7 @@ returns-in-Nothing c =
     let goes : is_fatal o ≡ false = search rules in
     record {
       delivered = λ h found.
-          let half : IsHalfway h c.args.tid.0 c.args.hart.0 c.args.signal o x x1 c.area_of-area.result m m1 = record {
+          let half : IsHalfway h c.args.tid.0 c.args.hart.0 c.args.signal o x x1 c.area_of-area.result c.fault_of-fault.result m m1 = record {
             found = found;
             area = c.area_of-area.ensures;
             comes = sym c.interrupted-outcome.ensures.outcome;
@@ -32,8 +32,9 @@ returns-in-Nothing c =
             pages = c.interrupted-outcome.ensures.pages;
             harts = c.interrupted-outcome.ensures.harts;
             signals = ap (λ (k : Kernel). k.signals) c.interrupted-outcome.ensures.kernel ∙ c.take_pending.ensures;
+            told = c.fault_of-fault.ensures;
           } in
-          delivered_by h c.args.tid.0 c.args.hart.0 c.args.signal o x x1 c.enter_unless_killed.new.saved c.area_of-area.result m m1 c.enter_unless_killed.new.self half
+          delivered_by h c.args.tid.0 c.args.hart.0 c.args.signal o x x1 c.enter_unless_killed.new.saved c.area_of-area.result c.fault_of-fault.result m m1 c.enter_unless_killed.new.self half
           c.enter_unless_killed.result goes c.enter_unless_killed.ensures.killer (fun_ext c.interrupted-outcome.ensures.writable) c.enter_unless_killed.ensures.entered;
       others = c.enter_unless_killed.ensures.others
           ∙ ap (λ (k : Kernel). record k { signals = c.enter_unless_killed.new.self.kernel.signals }) c.interrupted-outcome.ensures.kernel;

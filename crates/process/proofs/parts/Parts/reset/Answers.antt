@@ -14,4 +14,4 @@ returns-clause-tied c =
     ap length c.rest_all.ensures ∙ length-map c.args.self.now.harts.items (λ (_ : HartState). idle_hart) ∙ c.requires.harts in
     tied-start c.args.image.now c.args.limits _ c.requires.image.permissions c.reset.ensures.permissions c.reset.ensures.held
     (c.reset.ensures.free ∙ c.requires.frames) c.reset.ensures.break_at c.reset.ensures.break_start count (returns-clause-idle c) first
-    tables.signals tables.scheduling tables.registered tables.console (ap areas_by_number tables.areas) tables.table refl
+    tables.signals tables.scheduling tables.registered tables.console tables.random (ap areas_by_number tables.areas) tables.table refl

@@ -1,0 +1,1 @@
+"""What examples/check.py checks, a module for each subject."""
